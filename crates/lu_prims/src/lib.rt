@@ -4,8 +4,10 @@
 mod base36;
 mod memory;
 mod quoting;
+mod utf16;
 
 pub use base36::{base36_tells_apart, base36_text, base36_value};
 pub use lu_grammar::Bad;
 pub use memory::OutOfMemory;
 pub use quoting::quoted;
+pub use utf16::{utf16_cmp, utf16_order};

@@ -2,11 +2,13 @@
 #![tactic(auto)]
 
 mod base36;
+mod counter;
 mod memory;
 mod quoting;
 mod utf16;
 
 pub use base36::{base36_tells_apart, base36_text, base36_value};
+pub use counter::Steps;
 pub use lu_grammar::Bad;
 pub use memory::OutOfMemory;
 pub use quoting::quoted;

@@ -1,7 +1,15 @@
 //! Numbers, texts, order and checksum: the parts that files are made of.
 #![tactic(auto)]
 
+mod base36;
+mod counter;
 mod memory;
+mod quoting;
+mod utf16;
 
+pub use base36::{base36_tells_apart, base36_text, base36_value};
+pub use counter::Steps;
 pub use lu_grammar::Bad;
 pub use memory::OutOfMemory;
+pub use quoting::quoted;
+pub use utf16::{utf16_cmp, utf16_order};

@@ -1,0 +1,3 @@
+pub mod Base36Lemmas
+pub mod OrderLemmas
+pub mod Units

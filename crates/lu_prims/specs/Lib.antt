@@ -1,0 +1,3 @@
+pub mod Base36
+pub mod Quoted
+pub mod Order

@@ -1,0 +1,42 @@
+ghost use Rattle.std.specs.Prelude.{◌≡◌, ◌<◌, List, ℕ};
+ghost use Rattle.std.specs.Cmp.{IsTotalOrder};
+ghost use Rattle.std.specs.Str.{IsUtf8};
+ghost use Rattle.lu_prims.specs.Order.{byte_rank, text_cmp, units};
+
+use std::cmp::Ordering;
+
+/// Compares two texts by their UTF-16 units, unit by unit, a prefix first (format page, "Numbers and texts").
+///
+/// It walks the bytes and makes no units: the first bytes that differ decide, by their rank. It takes no memory.
+pub fn utf16_cmp(a: &str, b: &str) -> Ordering
+    ensures { result ≡ text_cmp a.now b.now }
+{
+    let left = a.as_bytes();
+    let right = b.as_bytes();
+    let shared = left.len().min(right.len());
+    for place in 0..shared {
+        if left[place] != right[place] {
+            return byte_rank(left[place]).cmp(&byte_rank(right[place]));
+        }
+    }
+    left.len().cmp(&right.len())
+}
+
+/// `utf16_cmp` is a total order of texts: texts that it calls equal are the same.
+pub fn utf16_order()
+    ensures total { IsTotalOrder text_cmp }
+    ensures apart { (s t : List ℕ) → IsUtf8 s → IsUtf8 t → units s ≡ units t → s ≡ t }
+{
+}
+
+// The rank of a byte of UTF-8 in the order of UTF-16 units: the lead bytes EE and EF, of U+E000 to U+FFFF, come after all others.
+#[tactic(auto, unfolding(crate::specs::Order::byte_rank))]
+fn byte_rank(byte: u8) -> u8
+    ensures { result ≡ byte_rank byte }
+{
+    match byte {
+        0xEE | 0xEF => byte + 0x10,
+        0xF0.. => byte - 2,
+        _ => byte,
+    }
+}

@@ -1,3 +1,5 @@
 pub mod Base36Lemmas
 pub mod OrderLemmas
 pub mod Units
+pub mod Division
+pub mod Remainders

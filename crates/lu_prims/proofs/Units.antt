@@ -1,8 +1,7 @@
 -- The order of UTF-16 units is the order of the bytes of UTF-8 by their rank.
-use Rattle.std.proofs.Common.{◌≡◌, ◌≢◌, ◌⊎◌, ℕ, zero, suc, ◌+◌, ◌-◌, ◌*◌, ◌/◌, ◌%◌, ◌<◌, ◌≤◌, nat_lt, ◌&&◌, Bool, true, false, cond, List, [], ◌∷◌, ◌++◌, refl, sym, ap, subst, ◌∙◌, ⊎_elim, inl, inr, arith}
-use Rattle.std.specs.declared.cmp.Ordering.{Ordering}
+use Rattle.std.proofs.Common.{◌≡◌, ◌≢◌, ℕ, ◌+◌, ◌-◌, ◌/◌, ◌%◌, ◌<◌, ◌≤◌, nat_lt, ◌&&◌, Bool, true, false, cond, List, [], ◌∷◌, ◌++◌, refl, sym, ap, ◌∙◌, ⊎_elim, arith}
 use Rattle.std.specs.declared.cmp.Ordering.TheVariants.{Less, Equal, Greater}
-use Rattle.std.specs.Ordering.{nat_cmp, ordering_reverse}
+use Rattle.std.specs.Ordering.{ordering_reverse}
 use Rattle.std.specs.Char.Escape.{encode_utf16}
 use Rattle.std.specs.Str.{IsUtf8, chars}
 use Rattle.std.specs.List.{flat_map}
@@ -84,12 +83,13 @@ rank_lead : (c : ℕ) → c < 0x11_0000
     × (0x1_0000 ≤ c → byte_rank (lead c) ≡ 0xEE + c / 262144)
 rank_lead c h =
     let l = lead_is c in
-    let r = rank_is (lead c) in
-    (λ a. let e = l.0 a in omega (arith, e, r.0),
-        λ a b. let e = l.1 a b in omega (arith, e, r.0),
-        λ a b. let e = l.2 a (omega arith) in omega (arith, e, r.0),
-        λ a b. let e = l.2 (omega arith) b in omega (arith, e, r.1),
-        λ a. let e = l.3 a in omega (arith, e, r.2))
+    let r = rank_is (lead c) in (
+      λ a. let e = l.0 a in omega (arith, e, r.0),
+      λ a b. let e = l.1 a b in omega (arith, e, r.0),
+      λ a b. let e = l.2 a (omega arith) in omega (arith, e, r.0),
+      λ a b. let e = l.2 (omega arith) b in omega (arith, e, r.1),
+      λ a. let e = l.3 a in omega (arith, e, r.2),
+    )
 
 lead_order : (c d : ℕ) → c < 0x11_0000 → d < 0x11_0000 → key c < key d → byte_rank (lead d) ≤ byte_rank (lead c) → (c < d) × (byte_rank (lead c) ≡ byte_rank (lead d))
 lead_order c d hc hd h g =
@@ -106,12 +106,12 @@ after_lead c =
     ⊎_elim
     (λ (a : c < 0x80). ([], encode_one c a ∙ ap (λ (x : ℕ). x ∷ []) (sym (l.0 a))))
     (λ (a : 0x80 ≤ c). ⊎_elim
-        (λ (b : c < 0x800). (next c ∷ [], encode_two c a b ∙ ap (λ (x : ℕ). x ∷ next c ∷ []) (sym (l.1 a b))))
-        (λ (b : 0x800 ≤ c). ⊎_elim
-            (λ (e : c < 0x1_0000). (next (c / 64) ∷ next c ∷ [], encode_three c b e ∙ ap (λ (x : ℕ). x ∷ next (c / 64) ∷ next c ∷ []) (sym (l.2 b e))))
-            (λ (e : 0x1_0000 ≤ c). (next (c / 4096) ∷ next (c / 64) ∷ next c ∷ [], encode_four c e ∙ ap (λ (x : ℕ). x ∷ next (c / 4096) ∷ next (c / 64) ∷ next c ∷ []) (sym (l.3 e))))
-            (cases_lt c 0x1_0000))
-        (cases_lt c 0x800))
+    (λ (b : c < 0x800). (next c ∷ [], encode_two c a b ∙ ap (λ (x : ℕ). x ∷ next c ∷ []) (sym (l.1 a b))))
+    (λ (b : 0x800 ≤ c). ⊎_elim
+    (λ (e : c < 0x1_0000). (next (c / 64) ∷ next c ∷ [], encode_three c b e ∙ ap (λ (x : ℕ). x ∷ next (c / 64) ∷ next c ∷ []) (sym (l.2 b e))))
+    (λ (e : 0x1_0000 ≤ c). (next (c / 4096) ∷ next (c / 64) ∷ next c ∷ [], encode_four c e ∙ ap (λ (x : ℕ). x ∷ next (c / 4096) ∷ next (c / 64) ∷ next c ∷ []) (sym (l.3 e))))
+    (cases_lt c 0x1_0000))
+    (cases_lt c 0x800))
     (cases_lt c 0x80)
 
 lead_less : (c d : ℕ) (r t : List ℕ) → byte_rank (lead c) < byte_rank (lead d) → ranks_cmp byte_rank (encode c ++ r) (encode d ++ t) ≡ Less
@@ -135,16 +135,16 @@ same_lead_less : (c d : ℕ) (r t : List ℕ) → c < 0x11_0000 → d < 0x11_000
 same_lead_less c d r t hc hd h e =
     let s = same_lead c d hc hd e in
     let both : (x y : List ℕ) → encode c ≡ x → encode d ≡ y → ranks_cmp byte_rank (x ++ r) (y ++ t) ≡ Less → ranks_cmp byte_rank (encode c ++ r) (encode d ++ t) ≡ Less =
-        λ x y p q l. ap (λ (z : List ℕ). ranks_cmp byte_rank (z ++ r) (encode d ++ t)) p ∙ ap (λ (z : List ℕ). ranks_cmp byte_rank (x ++ r) (z ++ t)) q ∙ l in
+    λ x y p q l. ap (λ (z : List ℕ). ranks_cmp byte_rank (z ++ r) (encode d ++ t)) p ∙ ap (λ (z : List ℕ). ranks_cmp byte_rank (x ++ r) (z ++ t)) q ∙ l in
     ⊎_elim
     (λ (a : c < 0x80). let same = s.0 a in absurd (omega arith))
     (λ (a : 0x80 ≤ c). ⊎_elim
-        (λ (b : c < 0x800). let k = s.1 a b in both _ _ (encode_two c a b) (encode_two d k.0 k.1) (less_next byte_rank (0xC0 + c / 64) (0xC0 + d / 64) (next c ∷ r) (next d ∷ t) (ap (λ n. 0xC0 + n) k.2) (next_less c d r t k.2 h)))
-        (λ (b : 0x800 ≤ c). ⊎_elim
-            (λ (f : c < 0x1_0000). let k = s.2 b f in both _ _ (encode_three c b f) (encode_three d k.0 k.1) (less_next byte_rank (0xE0 + c / 4096) (0xE0 + d / 4096) (next (c / 64) ∷ next c ∷ r) (next (d / 64) ∷ next d ∷ t) (ap (λ n. 0xE0 + n) k.2) (next_two c d r t k.2 h)))
-            (λ (f : 0x1_0000 ≤ c). let k = s.3 f in both _ _ (encode_four c f) (encode_four d k.0) (less_next byte_rank (0xF0 + c / 262144) (0xF0 + d / 262144) (next (c / 4096) ∷ next (c / 64) ∷ next c ∷ r) (next (d / 4096) ∷ next (d / 64) ∷ next d ∷ t) (ap (λ n. 0xF0 + n) k.1) (next_three c d r t k.1 h)))
-            (cases_lt c 0x1_0000))
-        (cases_lt c 0x800))
+    (λ (b : c < 0x800). let k = s.1 a b in both _ _ (encode_two c a b) (encode_two d k.0 k.1) (less_next byte_rank (0xC0 + c / 64) (0xC0 + d / 64) (next c ∷ r) (next d ∷ t) (ap (λ n. 0xC0 + n) k.2) (next_less c d r t k.2 h)))
+    (λ (b : 0x800 ≤ c). ⊎_elim
+    (λ (f : c < 0x1_0000). let k = s.2 b f in both _ _ (encode_three c b f) (encode_three d k.0 k.1) (less_next byte_rank (0xE0 + c / 4096) (0xE0 + d / 4096) (next (c / 64) ∷ next c ∷ r) (next (d / 64) ∷ next d ∷ t) (ap (λ n. 0xE0 + n) k.2) (next_two c d r t k.2 h)))
+    (λ (f : 0x1_0000 ≤ c). let k = s.3 f in both _ _ (encode_four c f) (encode_four d k.0) (less_next byte_rank (0xF0 + c / 262144) (0xF0 + d / 262144) (next (c / 4096) ∷ next (c / 64) ∷ next c ∷ r) (next (d / 4096) ∷ next (d / 64) ∷ next d ∷ t) (ap (λ n. 0xF0 + n) k.1) (next_three c d r t k.1 h)))
+    (cases_lt c 0x1_0000))
+    (cases_lt c 0x800))
     (cases_lt c 0x80)
 
 -- a lower key makes lower bytes
@@ -170,16 +170,16 @@ units_less c d r t hc hd h =
     let kc = key_is c in
     let kd = key_is d in
     let both : (x y : List ℕ) → encode_utf16 c ≡ x → encode_utf16 d ≡ y → ranks_cmp itself (x ++ r) (y ++ t) ≡ Less → ranks_cmp itself (encode_utf16 c ++ r) (encode_utf16 d ++ t) ≡ Less =
-        λ x y p q l. ap (λ (z : List ℕ). ranks_cmp itself (z ++ r) (encode_utf16 d ++ t)) p ∙ ap (λ (z : List ℕ). ranks_cmp itself (x ++ r) (z ++ t)) q ∙ l in
+    λ x y p q l. ap (λ (z : List ℕ). ranks_cmp itself (z ++ r) (encode_utf16 d ++ t)) p ∙ ap (λ (z : List ℕ). ranks_cmp itself (x ++ r) (z ++ t)) q ∙ l in
     ⊎_elim
     (λ (a : c < 0x1_0000). ⊎_elim
-        (λ (b : d < 0x1_0000). both (c ∷ []) (d ∷ []) (one_unit c a) (one_unit d b) (less_first itself c d r t (one_one c d h a b)))
-        (λ (b : 0x1_0000 ≤ d). both (c ∷ []) _ (one_unit c a) (two_units d b) (less_first itself c (0xD800 + (d - 0x1_0000) / 0x400) r ((0xDC00 + (d - 0x1_0000) % 0x400) ∷ t) (one_two c d hc hd h a b)))
-        (cases_lt d 0x1_0000))
+    (λ (b : d < 0x1_0000). both (c ∷ []) (d ∷ []) (one_unit c a) (one_unit d b) (less_first itself c d r t (one_one c d h a b)))
+    (λ (b : 0x1_0000 ≤ d). both (c ∷ []) _ (one_unit c a) (two_units d b) (less_first itself c (0xD800 + (d - 0x1_0000) / 0x400) r ((0xDC00 + (d - 0x1_0000) % 0x400) ∷ t) (one_two c d hc hd h a b)))
+    (cases_lt d 0x1_0000))
     (λ (a : 0x1_0000 ≤ c). ⊎_elim
-        (λ (b : d < 0x1_0000). both _ (d ∷ []) (two_units c a) (one_unit d b) (less_first itself (0xD800 + (c - 0x1_0000) / 0x400) d ((0xDC00 + (c - 0x1_0000) % 0x400) ∷ r) t (two_one c d hc hd h a b)))
-        (λ (b : 0x1_0000 ≤ d). both _ _ (two_units c a) (two_units d b) (two_two c d r t h a b))
-        (cases_lt d 0x1_0000))
+    (λ (b : d < 0x1_0000). both _ (d ∷ []) (two_units c a) (one_unit d b) (less_first itself (0xD800 + (c - 0x1_0000) / 0x400) d ((0xDC00 + (c - 0x1_0000) % 0x400) ∷ r) t (two_one c d hc hd h a b)))
+    (λ (b : 0x1_0000 ≤ d). both _ _ (two_units c a) (two_units d b) (two_two c d r t h a b))
+    (cases_lt d 0x1_0000))
     (cases_lt c 0x1_0000)
   where
     one_one : (c d : ℕ) → key c < key d → c < 0x1_0000 → d < 0x1_0000 → c < d
@@ -217,9 +217,9 @@ first_chars c d r t v w hc hd e =
     ⊎_elim
     (λ (below : key c < key d). bytes_less c d r t hc hd below ∙ sym (units_less c d v w hc hd below))
     (λ (g : key d ≤ key c). ⊎_elim
-        (λ (above : key d < key c). greater_from_less byte_rank (encode c ++ r) (encode d ++ t) (bytes_less d c t r hd hc above) ∙ sym (greater_from_less itself (encode_utf16 c ++ v) (encode_utf16 d ++ w) (units_less d c w v hd hc above)))
-        (λ (level : key c ≤ key d). level_chars c d r t v w (key_same c d hc hd (omega arith)) e)
-        (cases_lt (key d) (key c)))
+    (λ (above : key d < key c). greater_from_less byte_rank (encode c ++ r) (encode d ++ t) (bytes_less d c t r hd hc above) ∙ sym (greater_from_less itself (encode_utf16 c ++ v) (encode_utf16 d ++ w) (units_less d c w v hd hc above)))
+    (λ (level : key c ≤ key d). level_chars c d r t v w (key_same c d hc hd (omega arith)) e)
+    (cases_lt (key d) (key c)))
     (cases_lt (key c) (key d))
 
 -- each of the characters of a text is one
@@ -280,12 +280,12 @@ chars_same (c ∷ cs) (d ∷ ds) hc hd e =
     let level : ranks_cmp itself (encode_utf16 c ++ r) (encode_utf16 d ++ t) ≡ Equal = ap (ranks_cmp itself (encode_utf16 c ++ r)) (sym e) ∙ level_itself (encode_utf16 c ++ r) in
     let back : ranks_cmp itself (encode_utf16 d ++ t) (encode_utf16 c ++ r) ≡ Equal = ap (λ (x : List ℕ). ranks_cmp itself x (encode_utf16 c ++ r)) (sym e) ∙ level_itself (encode_utf16 c ++ r) in
     let same : c ≡ d = ⊎_elim
-        (λ (below : key c < key d). let less = units_less c d r t (char_is c p.0) (char_is d q.0) below in absurd (cc))
-        (λ (g : key d ≤ key c). ⊎_elim
-            (λ (above : key d < key c). let less = units_less d c t r (char_is d q.0) (char_is c p.0) above in absurd (cc))
-            (λ (l : key c ≤ key d). key_same c d (char_is c p.0) (char_is d q.0) (omega arith))
-            (cases_lt (key d) (key c)))
-        (cases_lt (key c) (key d)) in
+    (λ (below : key c < key d). let less = units_less c d r t (char_is c p.0) (char_is d q.0) below in absurd (cc))
+    (λ (g : key d ≤ key c). ⊎_elim
+    (λ (above : key d < key c). let less = units_less d c t r (char_is d q.0) (char_is c p.0) above in absurd (cc))
+    (λ (l : key c ≤ key d). key_same c d (char_is c p.0) (char_is d q.0) (omega arith))
+    (cases_lt (key d) (key c)))
+    (cases_lt (key c) (key d)) in
     let rest : r ≡ t = append_cancel_left (encode_utf16 c) r t (e ∙ ap (λ (x : ℕ). encode_utf16 x ++ t) (sym same)) in
     ap (λ (x : ℕ). x ∷ cs) same ∙ ap (λ (x : List ℕ). d ∷ x) (chars_same cs ds p.1 q.1 rest)
 

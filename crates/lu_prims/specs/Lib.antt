@@ -1,3 +1,4 @@
 pub mod Base36
 pub mod Quoted
 pub mod Order
+pub mod Checksum

@@ -2,12 +2,14 @@
 #![tactic(auto)]
 
 mod base36;
+mod checksum;
 mod counter;
 mod memory;
 mod quoting;
 mod utf16;
 
 pub use base36::{base36_tells_apart, base36_text, base36_value};
+pub use checksum::crc32;
 pub use counter::Steps;
 pub use lu_grammar::Bad;
 pub use memory::OutOfMemory;

@@ -26,8 +26,7 @@ pub fn utf16_cmp(a: &str, b: &str) -> Ordering
 pub fn utf16_order()
     ensures total { IsTotalOrder text_cmp }
     ensures apart { (s t : List ℕ) → IsUtf8 s → IsUtf8 t → units s ≡ units t → s ≡ t }
-{
-}
+{}
 
 // The rank of a byte of UTF-8 in the order of UTF-16 units: the lead bytes EE and EF, of U+E000 to U+FFFF, come after all others.
 #[tactic(auto, unfolding(crate::specs::Order::byte_rank))]

@@ -280,3 +280,15 @@ static REMAINDERS: [u32; 256] = [
     0x5a05_df1b,
     0x2d02_ef8d,
 ];
+
+#[cfg(test)]
+mod tests {
+    use super::*;
+
+    #[test]
+    fn checks(rt: HostRuntime) {
+        assert_eq!(rt; crc32(b"123456789"), 0xCBF4_3926);
+        assert_eq!(rt; crc32(b""), 0);
+        assert_eq!(rt; crc32(b"a"), 0xE8B7_BE43);
+    }
+}

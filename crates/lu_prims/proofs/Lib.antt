@@ -1,6 +1,8 @@
 pub mod Base36Lemmas
-pub mod OrderLemmas
-pub mod Units
 pub mod CurLemmas
+pub mod Division
 pub mod GroupLemmas
+pub mod OrderLemmas
 pub mod PutLemmas
+pub mod Remainders
+pub mod Units

@@ -80,3 +80,39 @@ fn is_plain(text: &str) -> bool
             .iter()
             .all(|byte| matches!(byte, b'0'..=b'9' | b'a'..=b'z'))
 }
+
+#[cfg(test)]
+mod tests {
+    use super::*;
+    use std::test::Fail;
+
+    #[test]
+    fn spells_and_reads(rt: HostRuntime) -> Result<(), Fail> {
+        let spelled = [
+            (0, "0"),
+            (35, "z"),
+            (36, "10"),
+            (2147483647, "zik0zj"),
+            (9223372036854775807, "1y2p0ij32e8e7"),
+        ];
+        for (value, text) in spelled {
+            assert_eq!(rt; base36_text(rt.alloc(), value)?.as_str(), text);
+            assert_eq!(rt; base36_value(text), Some(value));
+        }
+        for text in [
+            "",
+            "010",
+            "00",
+            "A",
+            "+1",
+            "-1",
+            "1 ",
+            "é",
+            "1y2p0ij32e8e8",
+            "zzzzzzzzzzzzzzzzzzzz",
+        ] {
+            assert_eq!(rt; base36_value(text), None);
+        }
+        Ok(())
+    }
+}

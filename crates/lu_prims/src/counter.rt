@@ -42,3 +42,19 @@ impl<L> Steps<L> {
         self.count = self.count.saturating_add(1);
     }
 }
+
+#[cfg(test)]
+mod tests {
+    use super::*;
+
+    // A label, of which no value is made.
+    struct Compared;
+
+    #[test]
+    fn counts(rt: HostRuntime) {
+        let mut steps: Steps<Compared> = Steps::new();
+        steps.tick();
+        steps.tick();
+        assert_eq!(rt; steps.count(), 2);
+    }
+}

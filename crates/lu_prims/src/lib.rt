@@ -2,6 +2,7 @@
 #![tactic(auto)]
 
 mod base36;
+mod checksum;
 mod counter;
 mod cur;
 mod front;
@@ -11,6 +12,7 @@ mod quoting;
 mod utf16;
 
 pub use base36::{base36_tells_apart, base36_text, base36_value};
+pub use checksum::crc32;
 pub use counter::Steps;
 pub use cur::Cur;
 pub use lu_grammar::Bad;

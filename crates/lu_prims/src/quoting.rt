@@ -78,3 +78,20 @@ fn hex_digit(value: u8) -> u8
         b'a' + (value - 10)
     }
 }
+
+#[cfg(test)]
+mod tests {
+    use super::*;
+    use std::test::Fail;
+
+    #[test]
+    fn quotes(rt: HostRuntime) -> Result<(), Fail> {
+        let mut out = Vec::from_slice(rt.alloc(), b"x ")?;
+        quoted(&mut out, "a\"\\\n\u{1f} é")?;
+        assert_eq!(rt;
+            out.as_slice(),
+            "x \"a\\\"\\\\\\u000a\\u001f é\"".as_bytes()
+        );
+        Ok(())
+    }
+}

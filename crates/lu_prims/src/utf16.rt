@@ -39,3 +39,30 @@ fn byte_rank(byte: u8) -> u8
         _ => byte,
     }
 }
+
+#[cfg(test)]
+mod tests {
+    use super::*;
+
+    #[test]
+    fn orders(rt: HostRuntime) {
+        let texts = [
+            "",
+            "a",
+            "aa",
+            "b",
+            "é",
+            "\u{d7ff}",
+            "\u{10000}",
+            "\u{10ffff}",
+            "\u{e000}",
+            "\u{ff61}",
+            "\u{ffff}",
+        ];
+        for (place, text) in texts.iter().enumerate() {
+            for (other, later) in texts.iter().enumerate() {
+                assert_eq!(rt; utf16_cmp(text, later), place.cmp(&other));
+            }
+        }
+    }
+}

@@ -1,9 +1,16 @@
-//! Field tables, file kinds, rules and faults.
+//! Field tables, file kinds, rules and faults: what every part of the project speaks of.
 #![tactic(auto)]
 
-/// A field: its name and its bits.
-#[derive(Clone, Copy, Debug, PartialEq, Eq)]
-pub struct Field<'a> {
-    pub name: &'a str,
-    pub bits: u8,
-}
+mod fault;
+mod field;
+mod kind;
+pub mod rules;
+mod table;
+
+pub use fault::{CodecFault, Fault, Spot};
+pub use field::{Field, FieldInfo};
+pub use kind::FileKind;
+pub use table::FieldTable;
+
+#[cfg(test)]
+mod tests;

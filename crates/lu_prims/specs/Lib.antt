@@ -1,0 +1,2 @@
+pub mod Base36
+pub mod Quoted

@@ -50,7 +50,7 @@ impl FileKind {
         self < other
     }
 
-    /// The extension of the names of such files, without the dot; of a commit the word before `_` (format page, "Names").
+    /// The extension of the names of such files, without the dot; of a commit the word before `_` (format page, "Names of files").
     pub fn extension(&self, alloc: Global) -> Result<String, OutOfMemory>
         ensures { IfOk result (λ text. string_bytes text ≡ extension self.now) }
     {

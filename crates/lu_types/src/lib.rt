@@ -4,12 +4,14 @@
 mod fault;
 mod field;
 mod kind;
+mod names;
 pub mod rules;
 mod table;
 
 pub use fault::{CodecFault, Fault, Spot};
 pub use field::{Field, FieldInfo};
 pub use kind::FileKind;
+pub use names::{GREATEST_SEGMENT, part_name, segment_name, segment_number};
 pub use table::FieldTable;
 
 #[cfg(test)]

@@ -1,5 +1,7 @@
 use crate::rules::{self, rule_name};
-use crate::{CodecFault, FieldTable, FileKind};
+use crate::{
+    CodecFault, FieldTable, FileKind, GREATEST_SEGMENT, part_name, segment_name, segment_number,
+};
 use lu_prims::OutOfMemory;
 use std::test::Fail;
 
@@ -68,5 +70,30 @@ fn rules_have_names(rt: HostRuntime) -> Result<(), Fail> {
     }
     assert!(rt; rule_name(33).is_none());
     assert!(rt; CodecFault::from(OutOfMemory) == CodecFault::OutOfMemory);
+    Ok(())
+}
+
+#[test]
+fn segments_and_their_files_have_names(rt: HostRuntime) -> Result<(), Fail> {
+    let numbers = [
+        ("_0", Some(0)),
+        ("_z", Some(35)),
+        ("_10", Some(36)),
+        ("_zik0zi", Some(GREATEST_SEGMENT)),
+        ("_zik0zj", None),
+        ("_01", None),
+        ("_", None),
+        ("_A", None),
+        ("0", None),
+        ("", None),
+        ("_0.fnm", None),
+    ];
+    for (text, number) in numbers {
+        assert_eq!(rt; segment_number(text), number);
+    }
+    let segment = segment_name(rt.alloc(), 36)?;
+    assert_eq!(rt; segment.as_str(), "_10");
+    let fields = part_name(rt.alloc(), segment.as_str(), FileKind::Fnm)?;
+    assert_eq!(rt; fields.as_str(), "_10.fnm");
     Ok(())
 }

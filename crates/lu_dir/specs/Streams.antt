@@ -1,0 +1,13 @@
+-- What a source has left, and what a sink has taken.
+use Rattle.std.specs.Prelude.{◌≡◌, ℕ, ◌+◌, ◌<◌, ◌≤◌, List, [], ◌++◌, length, take, drop, Option, Some, None, option_map}
+
+-- the first so many of the bytes left are moved to the front of the buffer
+pub record Moves (count : ℕ) (left buffer_before buffer : List ℕ) : Type 0 where
+  pub within : count ≤ length left
+  pub filled : buffer ≡ take count left ++ drop count buffer_before
+  -- none for a buffer that is not empty only where none are left
+  pub ended : count ≡ 0 → 0 < length buffer_before → left ≡ []
+
+-- what a sink has taken, with these bytes after it
+abbrev pub with_taken : List ℕ → Option (List ℕ) → Option (List ℕ)
+with_taken bytes taken = option_map (λ before. before ++ bytes) taken

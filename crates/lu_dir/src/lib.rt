@@ -4,8 +4,11 @@
 
 mod dir;
 mod fail;
+mod file_map;
+mod mem_dir;
 mod stream;
 
 pub use dir::Dir;
 pub use fail::DirFail;
+pub use mem_dir::MemDir;
 pub use stream::{Sink, Source};

@@ -1,7 +1,7 @@
 //! Files in memory, by name.
-ghost use Rattle.std.specs.Prelude.{◌≡◌, ◌+◌, ◌≤◌, length, is_ok, if◌then◌else◌, IfOk};
+ghost use Rattle.std.specs.Prelude.{◌≡◌, ◌+◌, ◌≤◌, length, is_ok, if◌then◌else◌, IfOk, map, string_bytes};
 ghost use Rattle.std.specs.Option.{option_copied};
-ghost use Rattle.std.specs.FinMap.{empty};
+ghost use Rattle.std.specs.FinMap.{empty, keys};
 ghost use Rattle.lu_dir.specs.Files.{contents, with_file, without_file, with_patch, written_over, HasRange};
 
 use lu_prims::OutOfMemory;
@@ -42,6 +42,17 @@ impl FileMap {
         ensures { IfOk result (λ copy. copy.items ≡ bytes.now) }
     {
         Ok(bytes.to_vec(self.alloc)?)
+    }
+
+    /// The names, in the order of their bytes.
+    pub fn names(&self) -> Result<Vec<String>, OutOfMemory>
+        ensures { IfOk result (λ names. map string_bytes names.items ≡ keys self.now) }
+    {
+        let mut names = Vec::new(self.alloc);
+        for name in self.held.keys() {
+            names.push(name.clone()?)?;
+        }
+        Ok(names)
     }
 
     pub fn get(&self, name: &str) -> Option<&[u8]>

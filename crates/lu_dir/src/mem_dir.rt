@@ -58,3 +58,50 @@ impl MemDir {
         self.files.get(name)
     }
 }
+
+impl Dir for MemDir {
+    ghost files = { λ d. Some d.files };
+
+    ghost asked = { λ d. d.asked };
+
+    ghost faults = { λ _. 0 };
+
+    fn enter(&mut self, alloc: Global, path: &str) -> Result<(), DirFail> {
+        self.path = Some(String::from_str(alloc, path)?);
+        Ok(())
+    }
+
+    fn list(&mut self, _alloc: Global) -> Result<Vec<String>, DirFail> {
+        Ok(self.files.names()?)
+    }
+
+    fn length(&mut self, _alloc: Global, name: &str) -> Result<Option<u64>, DirFail> {
+        Ok(self.files.get(name).map(|bytes| bytes.len() as u64))
+    }
+
+    fn read(&mut self, _alloc: Global, name: &str, at: u64, buf: &mut [u8]) -> Result<(), DirFail> {
+        if let Some(bytes) = self.files.get(name) {
+            let start = at as usize;
+            buf.copy_from_slice(&bytes[start..start + buf.len()]);
+        }
+        Ok(())
+    }
+
+    fn create(&mut self, _alloc: Global, name: &str, bytes: &[u8]) -> Result<(), DirFail> {
+        Ok(self.put(name, bytes)?)
+    }
+
+    fn patch(&mut self, _alloc: Global, name: &str, at: u64, bytes: &[u8]) -> Result<(), DirFail> {
+        self.files.write_over(name, at as usize, bytes);
+        Ok(())
+    }
+
+    fn sync(&mut self, _alloc: Global, _name: &str) -> Result<(), DirFail> {
+        Ok(())
+    }
+
+    fn remove(&mut self, _alloc: Global, name: &str) -> Result<(), DirFail> {
+        self.files.remove(name);
+        Ok(())
+    }
+}

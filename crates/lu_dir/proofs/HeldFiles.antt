@@ -20,8 +20,8 @@ find-named_bytes : (entries : List (String Global × Vec ℕ Global)) (name : Li
 find-named_bytes [] name = refl
 find-named_bytes (entry ∷ entries) name =
     elim (eq_by_cmp (slice_cmp nat_cmp) name (string_bytes entry.0))
-      as (λ same. cond same (Some entry.1.items) (find (slice_cmp nat_cmp) name (named_bytes entries)) ≡ option_map (λ bytes. bytes.items) (cond same (Some entry.1) (lookup (is_at (λ key. slice_cmp nat_cmp name (string_bytes key))) entries)))
-      [ true ↦ refl | false ↦ find-named_bytes entries name ]
+    as (λ same. cond same (Some entry.1.items) (find (slice_cmp nat_cmp) name (named_bytes entries)) ≡ option_map (λ bytes. bytes.items) (cond same (Some entry.1) (lookup (is_at (λ key. slice_cmp nat_cmp name (string_bytes key))) entries)))
+    [ true ↦ refl | false ↦ find-named_bytes entries name ]
 
 -- a file that a map holds is the bytes at its name
 pub contents-files_of : (held : BTreeMap (String Global) (Vec ℕ Global)) (name : List ℕ) → contents (files_of held) name ≡ option_map (λ bytes. bytes.items) (get_by_text held name)
@@ -47,13 +47,13 @@ contents-updates name old new value updates asked =
 pub files_of-put : (name : List ℕ) (old new : BTreeMap (String Global) (Vec ℕ Global)) (bytes : Vec ℕ Global) → UpdatesBy string_cmp (λ key. slice_cmp nat_cmp name (string_bytes key)) old new (Some bytes) → files_of new ≡ with_file name bytes.items (files_of old)
 files_of-put name old new bytes updates =
     same_map nat_list_cmp_total (slice_cmp-IsAntisymmetric nat_cmp-IsAntisymmetric) (files_of new) (with_file name bytes.items (files_of old))
-      (λ asked. contents-updates name old new (Some bytes) updates asked ∙ sym (get-insert nat_list_cmp_total (files_of old) name bytes.items asked))
+    (λ asked. contents-updates name old new (Some bytes) updates asked ∙ sym (get-insert nat_list_cmp_total (files_of old) name bytes.items asked))
 
 -- an entry that was taken out is a file that was removed
 pub files_of-removed : (name : List ℕ) (old new : BTreeMap (String Global) (Vec ℕ Global)) → UpdatesBy string_cmp (λ key. slice_cmp nat_cmp name (string_bytes key)) old new None → files_of new ≡ without_file name (files_of old)
 files_of-removed name old new updates =
     same_map nat_list_cmp_total (slice_cmp-IsAntisymmetric nat_cmp-IsAntisymmetric) (files_of new) (without_file name (files_of old))
-      (λ asked. contents-updates name old new None updates asked ∙ sym (get-remove nat_list_cmp_total (files_of old) name asked))
+    (λ asked. contents-updates name old new None updates asked ∙ sym (get-remove nat_list_cmp_total (files_of old) name asked))
 
 -- a range of a file lies within the bytes that the map holds
 pub range_held : (held : BTreeMap (String Global) (Vec ℕ Global)) (files : Files) (name : List ℕ) (at count : ℕ) (bytes : Vec ℕ Global) → files_of held ≡ files → get_by_text held name ≡ Some bytes → HasRange files name at count → at + count ≤ length bytes.items

@@ -38,7 +38,7 @@ pub keys-files_of : (held : BTreeMap (String Global) (Vec ℕ Global)) → IsOrd
 keys-files_of held sorted =
     let rising : T (is_sorted (slice_cmp nat_cmp) (named_bytes held.entries)) = sorted_named held.entries sorted in
     ap keys (same_map nat_list_cmp_total (slice_cmp-IsAntisymmetric nat_cmp-IsAntisymmetric) (files_of held) (from_sorted (named_bytes held.entries))
-      (λ name. get-from_entries nat_list_cmp_total (named_bytes held.entries) name ∙ sym (get-from_sorted (slice_cmp nat_cmp) (named_bytes held.entries) name rising)))
+    (λ name. get-from_entries nat_list_cmp_total (named_bytes held.entries) name ∙ sym (get-from_sorted (slice_cmp nat_cmp) (named_bytes held.entries) name rising)))
     ∙ ap (map (λ file. file.0)) (entries-from_sorted (slice_cmp nat_cmp) (named_bytes held.entries) rising)
     ∙ names_named held.entries
 

@@ -6,9 +6,11 @@ mod dir;
 mod fail;
 mod file_map;
 mod mem_dir;
+mod mem_stream;
 mod stream;
 
 pub use dir::Dir;
 pub use fail::DirFail;
 pub use mem_dir::MemDir;
+pub use mem_stream::{MemSink, MemSource};
 pub use stream::{Sink, Source};

@@ -14,7 +14,7 @@ loop-name-init c =
 pub loop-name-preserved : goal.loop-name-preserved
 loop-name-preserved c =
     names-push c.loop-name.names.items c.push.new.self.items c.in_ok-clone.field-0 c.in-Some.name.now c.loop-name.name-iterator c.next.new.self (keys c.args.self.now)
-      c.in_ok-push.ensures.items c.in-Some.ensures.steps c.in_ok-clone.ensures.cases c.loop-name.invariant
+    c.in_ok-push.ensures.items c.in-Some.ensures.steps c.in_ok-clone.ensures.cases c.loop-name.invariant
 
 pub returns : goal.returns
 returns c =

@@ -1,2 +1,4 @@
+pub mod Causes
 pub mod HeldFiles
 pub mod HeldNames
+pub mod Taken

@@ -8,9 +8,11 @@ mod file_map;
 mod mem_dir;
 mod mem_stream;
 mod stream;
+mod writing;
 
 pub use dir::Dir;
 pub use fail::DirFail;
 pub use mem_dir::MemDir;
 pub use mem_stream::{MemSink, MemSource};
 pub use stream::{Sink, Source};
+pub use writing::write_all;

@@ -2,4 +2,6 @@ pub mod Faults
 pub mod FileMap
 pub mod Files
 pub mod Folder
+pub mod LoadFaults
+pub mod Loading
 pub mod Streams

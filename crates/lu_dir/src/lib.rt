@@ -5,6 +5,7 @@
 mod dir;
 mod fail;
 mod file_map;
+mod loading;
 mod mem_dir;
 mod mem_stream;
 mod stream;
@@ -12,6 +13,7 @@ mod writing;
 
 pub use dir::Dir;
 pub use fail::DirFail;
+pub use loading::{LoadFault, Loaded};
 pub use mem_dir::MemDir;
 pub use mem_stream::{MemSink, MemSource};
 pub use stream::{Sink, Source};

@@ -1,0 +1,106 @@
+//! Files of a folder, loaded by their names.
+ghost use Rattle.std.specs.Prelude.{◌≡◌, ℕ, ◌<◌, ◌≤◌, ◌^◌, length, option_map, Some, None, IfOk, OnOk, IfSome, IsErrOf};
+ghost use Rattle.std.specs.Option.{ForSome, option_copied};
+ghost use Rattle.lu_dir.specs.Faults.{IsCaused};
+ghost use Rattle.lu_dir.specs.Files.{contents, range_of, HasRange};
+ghost use Rattle.lu_dir.specs.Loading.{AreLoaded, AreOnly, AreWithin, is_over, first_over, texts};
+
+use crate::dir::Dir;
+use crate::fail::DirFail;
+use crate::file_map::FileMap;
+use lu_prims::OutOfMemory;
+use std::alloc::{AllocError, Global};
+use std::marker::Model;
+
+/// How many bytes are asked of a folder at once.
+const PIECE: usize = 1 << 20;
+
+/// Why a file or an input was not loaded.
+#[derive(Clone, Copy, Debug, PartialEq, Eq)]
+pub enum LoadFault {
+    /// The device failed.
+    Failed,
+    /// The file at this place among the names is longer than the limit.
+    TooLarge(u32),
+    /// There was no memory for the bytes.
+    OutOfMemory,
+}
+
+impl From<DirFail> for LoadFault {
+    ghost use Rattle.lu_dir.specs.LoadFaults.{load_fault};
+
+    ghost from_gives = { λ fail fault. fault ≡ load_fault fail };
+
+    fn from(fail: DirFail) -> LoadFault {
+        match fail {
+            DirFail::Failed => LoadFault::Failed,
+            DirFail::OutOfMemory => LoadFault::OutOfMemory,
+        }
+    }
+}
+
+impl From<AllocError> for LoadFault {
+    ghost use Rattle.lu_dir.specs.LoadFaults.{no_memory};
+
+    ghost from_gives = { λ _ fault. fault ≡ no_memory };
+
+    fn from(_error: AllocError) -> LoadFault {
+        LoadFault::OutOfMemory
+    }
+}
+
+impl From<OutOfMemory> for LoadFault {
+    ghost use Rattle.lu_dir.specs.LoadFaults.{no_memory};
+
+    ghost from_gives = { λ _ fault. fault ≡ no_memory };
+
+    fn from(_error: OutOfMemory) -> LoadFault {
+        LoadFault::OutOfMemory
+    }
+}
+
+/// The files that were loaded, seen as their bytes by name.
+#[derive(Drop)]
+pub struct Loaded {
+    files: FileMap,
+}
+
+impl Model for Loaded {
+    ghost use Rattle.lu_dir.specs.Files.{Files};
+    ghost use Rattle.lu_dir.specs.FileMap.{files_code};
+
+    ghost Value = { Files };
+
+    ghost coded = { files_code };
+
+    ghost view = { λ a. a.files };
+}
+
+impl Loaded {
+    /// The bytes of a file, or `None` where there was no such file among the names.
+    pub fn get(&self, name: &str) -> Option<&[u8]>
+        ensures { option_copied result ≡ contents self.now name.now }
+    {
+        self.files.get(name)
+    }
+}
+
+/// Fills the bytes with the first ones of a file.
+fn fill<D: Dir>(alloc: Global, dir: &mut D, name: &str, bytes: &mut [u8]) -> Result<(), DirFail>
+    requires { ForSome (D.files dir.old) (λ told. HasRange told name.now 0 (length bytes.old)) }
+    ensures filled { OnOk result (ForSome (D.files dir.old) (λ told.
+        bytes.new ≡ range_of told name.now 0 (length bytes.old))) }
+    ensures files { D.files dir.new ≡ D.files dir.old }
+    ensures asked { D.asked dir.new ≡ D.asked dir.old }
+    ensures cause { IsCaused (D.faults dir.old) (D.faults dir.new) (IsErrOf result DirFail.Failed) }
+{
+    let mut at = 0;
+    while at < bytes.len() {
+        let end = at + PIECE.min(bytes.len() - at);
+        match dir.read(alloc, name, at as u64, &mut bytes[at..end]) {
+            Ok(()) => at = end,
+            Err(fail) => return Err(fail),
+        }
+    }
+    Ok(())
+}

@@ -1,6 +1,7 @@
 -- Files that were loaded by their names.
 use Rattle.std.specs.Prelude.{◌≡◌, ℕ, ◌≤◌, Bool, false, List, length, Option, Some, None, if◌then◌else◌, nat_lt, position, IfSome, map, string_bytes}
 use Rattle.std.specs.declared.string.String.{String}
+use Rattle.std.specs.declared.vec.Vec.{Vec}
 use Rattle.std.specs.declared.alloc.Global.{Global}
 use Rattle.std.specs.List.{list_any}
 use Rattle.std.specs.Str.{bytes_eq}
@@ -38,3 +39,7 @@ first_over told limit names = position (λ name. is_over limit (contents told na
 -- the bytes of some texts
 abbrev pub texts : List (String Global) → List (List ℕ)
 texts names = map string_bytes names
+
+-- the elements of a vector of bytes
+abbrev pub items_of : Vec ℕ Global → List ℕ
+items_of bytes = bytes.items

@@ -1,9 +1,9 @@
 //! Files of a folder, loaded by their names.
-ghost use Rattle.std.specs.Prelude.{◌≡◌, ℕ, ◌<◌, ◌≤◌, ◌^◌, length, option_map, Some, None, IfOk, OnOk, IfSome, IsErrOf};
+ghost use Rattle.std.specs.Prelude.{◌≡◌, ℕ, ◌<◌, ◌≤◌, ◌^◌, length, option_map, Some, None, IfOk, OnOk, IfSome, IsErrOf, true, false};
 ghost use Rattle.std.specs.Option.{ForSome, option_copied};
 ghost use Rattle.lu_dir.specs.Faults.{IsCaused};
 ghost use Rattle.lu_dir.specs.Files.{contents, range_of, HasRange};
-ghost use Rattle.lu_dir.specs.Loading.{AreLoaded, AreOnly, AreWithin, is_over, first_over, texts};
+ghost use Rattle.lu_dir.specs.Loading.{AreLoaded, AreOnly, AreWithin, is_over, first_over, texts, items_of};
 
 use crate::dir::Dir;
 use crate::fail::DirFail;
@@ -103,4 +103,35 @@ fn fill<D: Dir>(alloc: Global, dir: &mut D, name: &str, bytes: &mut [u8]) -> Res
         }
     }
     Ok(())
+}
+
+/// The bytes of a file, where there is one. The place is that of its name among the names.
+fn read_file<D: Dir>(
+    alloc: Global,
+    dir: &mut D,
+    name: &str,
+    place: u32,
+    limit: u64,
+) -> Result<Option<Vec<u8>>, LoadFault>
+    requires { limit < 2 ^ 31 }
+    ensures found { IfOk result (λ found. ForSome (D.files dir.old) (λ told.
+        option_map items_of found ≡ contents told name.now)) }
+    ensures fits { IfOk result (λ _. ForSome (D.files dir.old) (λ told.
+        is_over limit (contents told name.now) ≡ false)) }
+    ensures within { IfOk result (λ found. IfSome found (λ bytes. length bytes.items ≤ limit)) }
+    ensures over { (at : ℕ) → IsErrOf result (LoadFault.TooLarge at) → (at ≡ place)
+        × ForSome (D.files dir.old) (λ told. is_over limit (contents told name.now) ≡ true) }
+    ensures files { D.files dir.new ≡ D.files dir.old }
+    ensures asked { D.asked dir.new ≡ D.asked dir.old }
+    ensures cause { IsCaused (D.faults dir.old) (D.faults dir.new) (IsErrOf result LoadFault.Failed) }
+{
+    let Some(length) = dir.length(alloc, name)? else {
+        return Ok(None);
+    };
+    if length > limit {
+        return Err(LoadFault::TooLarge(place));
+    }
+    let mut bytes = vec![in alloc; 0; length as usize]?;
+    fill(alloc, dir, name, &mut bytes)?;
+    Ok(Some(bytes))
 }

@@ -1,6 +1,6 @@
 -- Counts of faults over several calls.
-use Rattle.std.proofs.Common.{◌≡◌, ℕ, ◌≤◌, ◌<◌, ◌⊎◌, inl, inr, arith}
-use Rattle.lu_dir.specs.Faults.{Rose, IsCaused, last_count}
+use Rattle.std.proofs.Common.{ℕ, ◌≤◌, inl, inr, arith}
+use Rattle.lu_dir.specs.Faults.{Rose, IsCaused}
 
 -- a count that rose since a later moment rose since an earlier one
 pub Rose-earlier : (before between after : ℕ) → before ≤ between → Rose between after → Rose before after

@@ -1,5 +1,5 @@
 -- Ranges of a file that are read one after another.
-use Rattle.std.proofs.Common.{◌≡◌, ℕ, ◌+◌, ◌≤◌, List, [], ◌++◌, take, drop, length, length-take, length-drop, min, ◌-◌, Option, Some, None, refl, sym, ap, ◌∙◌, arith, unwrap_or, IsSomeAnd}
+use Rattle.std.proofs.Common.{◌≡◌, ℕ, ◌+◌, ◌≤◌, List, [], ◌++◌, take, drop, length, length-take, length-drop, ◌-◌, Some, None, sym, ap, ◌∙◌, arith, unwrap_or, IsSomeAnd}
 use Rattle.std.proofs.Math.Seq.{take-add}
 use Rattle.std.proofs.lemmas.Slice.{take-put_mid}
 use borrow.Rule.Slice.PartMut.{put_mid}
@@ -13,7 +13,7 @@ range_of-add told name at count = sym (take-add at count (unwrap_or (contents to
 pub HasRange-part : (told : Files) (name : List ℕ) (at count whole : ℕ) → at + count ≤ whole → HasRange told name 0 whole → HasRange told name at count
 HasRange-part told name at count whole within =
     elim (contents told name) as (λ there. IsSomeAnd there (λ bytes. 0 + whole ≤ length bytes) → IsSomeAnd there (λ bytes. at + count ≤ length bytes))
-      [ None ↦ λ range. range | Some bytes ↦ λ range. omega arith ]
+    [ None ↦ λ range. range | Some bytes ↦ λ range. omega arith ]
 
 -- the first bytes of a file stand in a buffer, and the next piece was read behind them
 pub range_of-read : (told : Files) (name : List ℕ) (at count : ℕ) (bytes piece : List ℕ) → at + count ≤ length bytes → length piece ≡ length (take (at + count - at) (drop at bytes)) → take at bytes ≡ range_of told name 0 at

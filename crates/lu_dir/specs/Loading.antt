@@ -1,7 +1,6 @@
 -- Files that were loaded by their names.
-use Rattle.std.specs.Prelude.{◌≡◌, ℕ, ◌≤◌, Bool, false, List, length, Option, Some, None, if◌then◌else◌, nat_lt, position, IfSome, map, string_bytes}
+use Rattle.std.specs.Prelude.{◌≡◌, ℕ, ◌+◌, ◌≤◌, Bool, false, List, [], ◌∷◌, length, Option, Some, None, if◌then◌else◌, nat_lt, option_map, IfSome, map, string_bytes}
 use Rattle.std.specs.declared.string.String.{String}
-use Rattle.std.specs.declared.vec.Vec.{Vec}
 use Rattle.std.specs.declared.alloc.Global.{Global}
 use Rattle.std.specs.List.{list_any}
 use Rattle.std.specs.Str.{bytes_eq}
@@ -34,12 +33,9 @@ is_over limit (Some bytes) = nat_lt limit (length bytes)
 
 -- the place of the first of these names whose file has more bytes than the limit
 abbrev pub first_over : Files → ℕ → List (List ℕ) → Option ℕ
-first_over told limit names = position (λ name. is_over limit (contents told name)) names
+first_over told limit [] = None
+first_over told limit (name ∷ names) = (if is_over limit (contents told name) then Some 0 else option_map (λ place. place + 1) (first_over told limit names))
 
 -- the bytes of some texts
 abbrev pub texts : List (String Global) → List (List ℕ)
 texts names = map string_bytes names
-
--- the elements of a vector of bytes
-abbrev pub items_of : Vec ℕ Global → List ℕ
-items_of bytes = bytes.items

@@ -1,8 +1,9 @@
 //! Files in memory, by name.
-ghost use Rattle.std.specs.Prelude.{◌≡◌, ◌+◌, ◌≤◌, length, is_ok, if◌then◌else◌, IfOk, map, string_bytes};
+ghost use Rattle.std.specs.Prelude.{◌≡◌, ◌+◌, ◌≤◌, length, is_ok, if◌then◌else◌, IfOk, map, string_bytes, option_map};
 ghost use Rattle.std.specs.Option.{option_copied};
 ghost use Rattle.std.specs.FinMap.{empty, keys};
 ghost use Rattle.lu_dir.specs.Files.{contents, with_file, without_file, with_patch, written_over, HasRange};
+ghost use Rattle.lu_dir.specs.FileMap.{items_of, with_found};
 
 use lu_prims::OutOfMemory;
 use std::alloc::Global;
@@ -70,6 +71,16 @@ impl FileMap {
         let name = String::from_str(self.alloc, name)?;
         self.held.insert(name, bytes)?;
         Ok(())
+    }
+
+    /// Makes or replaces a file, where its bytes were found.
+    pub fn put_found(&mut self, name: &str, found: Option<Vec<u8>>) -> Result<(), OutOfMemory>
+        ensures { self.new ≡ (if is_ok result then with_found name.now (option_map items_of found) self.old else self.old) }
+    {
+        match found {
+            Some(bytes) => self.put(name, bytes),
+            None => Ok(()),
+        }
     }
 
     pub fn remove(&mut self, name: &str)

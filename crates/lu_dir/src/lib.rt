@@ -13,7 +13,7 @@ mod writing;
 
 pub use dir::Dir;
 pub use fail::DirFail;
-pub use loading::{LoadFault, Loaded};
+pub use loading::{LoadFault, Loaded, load};
 pub use mem_dir::MemDir;
 pub use mem_stream::{MemSink, MemSource};
 pub use stream::{Sink, Source};

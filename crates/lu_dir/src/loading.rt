@@ -3,7 +3,8 @@ ghost use Rattle.std.specs.Prelude.{◌≡◌, ℕ, ◌<◌, ◌≤◌, ◌^◌,
 ghost use Rattle.std.specs.Option.{ForSome, option_copied};
 ghost use Rattle.lu_dir.specs.Faults.{IsCaused};
 ghost use Rattle.lu_dir.specs.Files.{contents, range_of, HasRange};
-ghost use Rattle.lu_dir.specs.Loading.{AreLoaded, AreOnly, AreWithin, is_over, first_over, texts, items_of};
+ghost use Rattle.lu_dir.specs.Loading.{AreLoaded, AreOnly, AreWithin, is_over, first_over, texts};
+ghost use Rattle.lu_dir.specs.FileMap.{items_of};
 
 use crate::dir::Dir;
 use crate::fail::DirFail;
@@ -134,4 +135,37 @@ fn read_file<D: Dir>(
     let mut bytes = vec![in alloc; 0; length as usize]?;
     fill(alloc, dir, name, &mut bytes)?;
     Ok(Some(bytes))
+}
+
+/// Loads the named files, in the order of the names; a file that is not there is no fault. `TooLarge` has the place of
+/// the first name whose file is longer than `limit`. No more memory is taken for a file than the length that the folder
+/// told of it, within the limit. On an `Err` nothing changes but the count of faults.
+pub fn load<D: Dir>(
+    alloc: Global,
+    dir: &mut D,
+    names: &[String],
+    limit: u64,
+) -> Result<Loaded, LoadFault>
+    requires limit { limit < 2 ^ 31 }
+    requires count { length names.now < 2 ^ 32 }
+    ensures loaded { IfOk result (λ loaded. ForSome (D.files dir.old) (λ told.
+        AreLoaded told (texts names.now) loaded)) }
+    ensures only { IfOk result (λ loaded. AreOnly (texts names.now) loaded) }
+    ensures within { IfOk result (λ loaded. AreWithin limit loaded) }
+    ensures fits { IfOk result (λ _. ForSome (D.files dir.old) (λ told.
+        first_over told limit (texts names.now) ≡ None)) }
+    ensures over { (place : ℕ) → IsErrOf result (LoadFault.TooLarge place) → (place < length names.now)
+        × ForSome (D.files dir.old) (λ told. first_over told limit (texts names.now) ≡ Some place) }
+    ensures files { D.files dir.new ≡ D.files dir.old }
+    ensures asked { D.asked dir.new ≡ D.asked dir.old }
+    ensures cause { IsCaused (D.faults dir.old) (D.faults dir.new) (IsErrOf result LoadFault.Failed) }
+{
+    let mut files = FileMap::new(alloc);
+    for (place, name) in names.iter().enumerate() {
+        match read_file(alloc, dir, name.as_str(), place as u32, limit) {
+            Ok(found) => files.put_found(name.as_str(), found)?,
+            Err(fault) => return Err(fault),
+        }
+    }
+    Ok(Loaded { files })
 }

@@ -9,7 +9,7 @@ invariant-loop-at g l = record {
   filled : ForSome (g.D.Dir.files l.initial.dir) (λ told. take l.at l.bytes ≡ range_of told l.name 0 l.at);
   files : g.D.Dir.files l.dir ≡ g.D.Dir.files l.initial.dir;
   asked : g.D.Dir.asked l.dir ≡ g.D.Dir.asked l.initial.dir;
-  later : g.D.Dir.faults l.initial.dir ≤ g.D.Dir.faults l.dir
+  later : g.D.Dir.faults l.initial.dir ≤ g.D.Dir.faults l.dir;
 }
 
 abbrev pub decreases-loop-at : goal.decreases-loop-at

@@ -1,4 +1,4 @@
-use Rattle.std.proofs.Common.{◌≤◌, length, take, arith, length-drop, ap, ◌∙◌}
+use Rattle.std.proofs.Common.{take, arith, length-drop, ap, ◌∙◌}
 use Rattle.std.proofs.lemmas.List.{take_rest}
 use Rattle.lu_dir.specs.Streams.{with_taken}
 use Rattle.lu_dir.proofs.Taken.{with_taken-take}

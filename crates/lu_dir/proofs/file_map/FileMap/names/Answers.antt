@@ -1,6 +1,5 @@
-use Rattle.std.proofs.Common.{rules, ◌≡◌, ◌++◌, map, string_bytes, sym, ap, ◌∙◌, append-nil, [], arith}
+use Rattle.std.proofs.Common.{◌++◌, map, string_bytes, sym, ap, ◌∙◌, append-nil}
 use Rattle.std.specs.FinMap.{keys}
-use Rattle.std.proofs.lemmas.Grind.{common_steps}
 use Rattle.lu_dir.proofs.HeldNames.{keys-files_of, names-push}
 use Rattle.lu_dir.proofs.file_map.FileMap.names.Goals as goal
 

@@ -1,4 +1,4 @@
-use Rattle.std.proofs.Common.{◌≡◌, sym, ap, ◌∙◌, string_bytes}
+use Rattle.std.proofs.Common.{ap, ◌∙◌, string_bytes}
 use Rattle.lu_dir.specs.Files.{with_file}
 use Rattle.lu_dir.specs.FileMap.{files_of}
 use Rattle.lu_dir.proofs.HeldFiles.{files_of-put}

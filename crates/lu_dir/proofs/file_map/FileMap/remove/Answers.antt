@@ -1,4 +1,4 @@
-use Rattle.std.proofs.Common.{◌≡◌, sym, ap, ◌∙◌}
+use Rattle.std.proofs.Common.{ap, ◌∙◌}
 use Rattle.lu_dir.specs.Files.{without_file}
 use Rattle.lu_dir.proofs.HeldFiles.{files_of-removed}
 use Rattle.lu_dir.proofs.file_map.FileMap.remove.Goals as goal

@@ -1,4 +1,4 @@
-use Rattle.std.proofs.Common.{◌≡◌, sym, ap, ◌∙◌, length, rules}
+use Rattle.std.proofs.Common.{sym, length, rules}
 use Rattle.lu_dir.proofs.HeldFiles.{range_held, no_range_held, files_of-patched}
 use Rattle.lu_dir.proofs.file_map.FileMap.write_over.Goals as goal
 

@@ -4,4 +4,5 @@ pub mod Files
 pub mod Folder
 pub mod LoadFaults
 pub mod Loading
+pub mod Planned
 pub mod Streams

@@ -8,6 +8,7 @@ mod file_map;
 mod loading;
 mod mem_dir;
 mod mem_stream;
+mod plan;
 mod stream;
 mod writing;
 
@@ -16,5 +17,6 @@ pub use fail::DirFail;
 pub use loading::{LoadFault, Loaded, load};
 pub use mem_dir::MemDir;
 pub use mem_stream::{MemSink, MemSource};
+pub use plan::{Fail, Left};
 pub use stream::{Sink, Source};
 pub use writing::write_all;

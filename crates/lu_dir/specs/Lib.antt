@@ -5,4 +5,5 @@ pub mod Folder
 pub mod LoadFaults
 pub mod Loading
 pub mod Planned
+pub mod PlannedCode
 pub mod Streams

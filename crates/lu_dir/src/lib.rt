@@ -4,6 +4,7 @@
 
 mod dir;
 mod fail;
+mod fault_dir;
 mod file_map;
 mod loading;
 mod mem_dir;
@@ -14,6 +15,7 @@ mod writing;
 
 pub use dir::Dir;
 pub use fail::DirFail;
+pub use fault_dir::FaultDir;
 pub use loading::{LoadFault, Loaded, load};
 pub use mem_dir::MemDir;
 pub use mem_stream::{MemSink, MemSource};

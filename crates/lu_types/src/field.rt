@@ -1,7 +1,9 @@
+use crate::owned::Text;
+
 /// A field as it is written: its name and its bits (format page, "Field tables").
 #[derive(Debug, Drop)]
 pub struct FieldInfo {
-    pub name: String,
+    pub name: Text,
     pub bits: u8,
 }
 

@@ -1,5 +1,5 @@
 -- What reading all of the bytes answers: their value, or the first fault.
-use Rattle.std.proofs.Common.{◌≡◌, ◌≢◌, ℕ, ◌+◌, true, false, eqb, List, [], ◌++◌, length, Result, Ok, Err, refl, sym, ap, subst, ◌∙◌, arith, inl, inr, ◌⊎◌}
+use Rattle.std.proofs.Common.{◌≡◌, ◌≢◌, ℕ, ◌+◌, ◌<◌, true, false, eqb, List, [], ◌++◌, length, Result, Ok, Err, refl, sym, ap, subst, ◌∙◌, arith, inl, inr, ◌⊎◌}
 use Rattle.std.specs.Prelude.{MatchResult}
 use Rattle.std.proofs.lemmas.Bool.{eq-eqb, ne_eqb, cases_eq}
 use Rattle.std.proofs.lemmas.List.{append-nil, nil_from_length}
@@ -85,3 +85,22 @@ read_file-FirstFault {V} {R} plan bytes offset rule fits h =
           let f : eqb (length more) 0 ≡ false = ne_eqb _ _ (λ none. some (nil_from_length more none)) in
           ap (λ (r : Result (V × Cursor) Broken). r >>= ended) e ∙ rw (f, is) refl
     ]
+
+-- ---- what a check that reads the plan shows
+
+-- a fault of the plan is the first one of the file
+pub file-fault : {V R : Type 0} (plan : Plan V R) (bytes : List ℕ) (offset rule : ℕ) → IsBytes bytes → read_plan plan (start_of bytes) ≡ Err (record { offset = offset; rule = rule }) → FirstFault plan bytes offset rule
+file-fault {V} {R} plan bytes offset rule fits e = FirstFault-from plan bytes (record { offset = offset; rule = rule }) fits (ap (λ (r : Result (V × Cursor) Broken). r >>= ended) e)
+
+-- bytes that are left are its first fault
+pub file-left : {V R : Type 0} (plan : Plan V R) (bytes : List ℕ) (v : V) (d : Cursor) → IsBytes bytes → read_plan plan (start_of bytes) ≡ Ok (v, d) → 0 < length d.rest → FirstFault plan bytes d.place TRAILING
+file-left {V} {R} plan bytes v d fits e some =
+    let not_none : eqb (length d.rest) 0 ≡ false = ne_eqb (length d.rest) 0 (λ none. omega arith) in
+    let all : read_file plan bytes ≡ Err (record { offset = d.place; rule = TRAILING }) = ap (λ (r : Result (V × Cursor) Broken). r >>= ended) e ∙ rw not_none refl in
+    FirstFault-from plan bytes (record { offset = d.place; rule = TRAILING }) fits all
+
+-- where none are left the file is read
+pub file-read : {V R : Type 0} (plan : Plan V R) (bytes : List ℕ) (v : V) (d : Cursor) → IsBytes bytes → read_plan plan (start_of bytes) ≡ Ok (v, d) → length d.rest ≡ 0 → Reads plan bytes v
+file-read {V} {R} plan bytes v d fits e none =
+    let nothing : eqb (length d.rest) 0 ≡ true = eq-eqb (length d.rest) 0 none in
+    Reads-from plan bytes v fits (ap (λ (r : Result (V × Cursor) Broken). r >>= ended) e ∙ rw nothing refl)

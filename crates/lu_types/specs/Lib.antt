@@ -1,4 +1,6 @@
+pub mod Bits
 pub mod Fields
+pub mod Judging
 pub mod Kinds
 pub mod Names
 pub mod Rules

@@ -1,6 +1,7 @@
 //! Field tables, file kinds, rules and faults: what every part of the project speaks of.
 #![tactic(auto)]
 
+pub mod bits;
 mod fault;
 mod field;
 mod kind;

@@ -4,8 +4,10 @@
 
 ghost use Rattle.std.specs.Prelude.{◌≡◌};
 ghost use Rattle.std.specs.Option.{option_copied};
+ghost use Rattle.lu_grammar.specs.Records.{rule_of};
 ghost use Rattle.lu_types.specs.Rules.{name_of_rule, general_rules, commit_rules, compound_rules, field_table_rules, stored_rules, term_rules, entry_rules, mark_rules, vector_rules, name_in};
 
+use lu_grammar::Bad;
 pub use lu_grammar::{ENDS, LONG_NUMBER, MISSING, NOT_UTF8, TOO_GREAT, TRAILING};
 
 /// Rule: the format number of a commit is not -9.
@@ -391,5 +393,17 @@ fn vector_name(rule: u16) -> Option<&'static str>
         VECTOR_POSITION => Some("VectorPosition"),
         VECTOR_OFFSET => Some("VectorOffset"),
         _ => None,
+    }
+}
+
+/// The rule that a record breaks whose part does not stand in the bytes.
+pub fn rule_of(bad: Bad) -> u16
+    ensures { result ≡ rule_of bad }
+{
+    match bad {
+        Bad::Ends => ENDS,
+        Bad::LongNumber => LONG_NUMBER,
+        Bad::TooGreat => TOO_GREAT,
+        Bad::NotUtf8 => NOT_UTF8,
     }
 }

@@ -2,6 +2,7 @@ pub mod Causes
 pub mod Contents
 pub mod HeldFiles
 pub mod HeldNames
+pub mod Leavings
 pub mod Loads
 pub mod Ranges
 pub mod Taken

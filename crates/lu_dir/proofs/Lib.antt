@@ -4,5 +4,6 @@ pub mod HeldFiles
 pub mod HeldNames
 pub mod Leavings
 pub mod Loads
+pub mod Moved
 pub mod Ranges
 pub mod Taken

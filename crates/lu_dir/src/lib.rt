@@ -12,6 +12,7 @@ mod loading;
 mod mem_dir;
 mod mem_stream;
 mod plan;
+mod reading;
 mod stream;
 mod writing;
 
@@ -23,5 +24,6 @@ pub use loading::{LoadFault, Loaded, load};
 pub use mem_dir::MemDir;
 pub use mem_stream::{MemSink, MemSource};
 pub use plan::{Fail, Left};
+pub use reading::read_all;
 pub use stream::{Sink, Source};
 pub use writing::write_all;

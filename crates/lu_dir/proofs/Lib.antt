@@ -2,6 +2,8 @@ pub mod Causes
 pub mod Contents
 pub mod HeldFiles
 pub mod HeldNames
+pub mod Leavings
 pub mod Loads
+pub mod Moved
 pub mod Ranges
 pub mod Taken

@@ -1,4 +1,5 @@
 pub mod Faults
+pub mod CallPlan
 pub mod FileMap
 pub mod Files
 pub mod Folder

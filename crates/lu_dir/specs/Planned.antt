@@ -1,5 +1,6 @@
 -- Failures on demand: which call of a folder fails, and what it leaves.
-use Rattle.std.specs.Prelude.{◌≡◌, ℕ, ◌+◌, ◌==◌, nat_le, List, [], ◌∷◌, take, Option, Some, None, Result, Err, IsSome, IsErr, IsErrOf, if◌then◌else◌}
+use Rattle.std.specs.Prelude.{◌≡◌, ℕ, ◌+◌, ◌==◌, nat_le, List, [], ◌∷◌, take, Option, Some, None, Result, Ok, Err, IsSome, IsErr, IsErrOf, if◌then◌else◌}
+use Rattle.std.specs.Option.{option_map_or}
 use Rattle.lu_dir.specs.Faults.{last_count}
 use Rattle.lu_dir.specs.Files.{Files, with_file, without_file, with_patch}
 use Rattle.lu_dir.specs.Folder.{Folder}
@@ -64,3 +65,11 @@ pub record IsPlanned {T : Type 0} (old new : Planned) (result : Result T DirFail
   pub stop : new.stop ≡ old.stop
   pub due : IsSome (next_failure old) → IsErr result
   pub failed : IsErrOf result Failed → IsSome (next_failure old)
+
+-- the answer of a call that takes no memory: the failure where it is to fail, else this value
+abbrev pub planned_answer : {T : Type 0} → Planned → T → Result T DirFail
+planned_answer planned value = option_map_or (λ _. Err Failed) (next_failure planned) (Ok value)
+
+-- the same with these files in the folder
+abbrev pub with_files : Files → Planned → Planned
+with_files files planned = record planned { folder = record { files = files; asked = planned.folder.asked } }

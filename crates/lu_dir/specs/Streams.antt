@@ -1,5 +1,5 @@
 -- What a source has left, and what a sink has taken.
-use Rattle.std.specs.Prelude.{◌≡◌, ℕ, ◌<◌, ◌≤◌, List, [], ◌++◌, length, take, drop, Option, option_map, refl}
+use Rattle.std.specs.Prelude.{◌≡◌, ℕ, ◌<◌, ◌≤◌, List, [], ◌++◌, length, take, drop, Option, option_map, min, refl}
 use Rattle.std.specs.Coded.{Coded, code_by, coded_ℕ, coded_list, coded×}
 
 -- the first so many of the bytes left are moved to the front of the buffer
@@ -21,3 +21,7 @@ pub record Input : Type 0 where
 -- an input is stored as the pair of its bytes and its piece
 abbrev pub input_code : Coded Input
 input_code = code_by (List ℕ × ℕ) (coded× (coded_list coded_ℕ) coded_ℕ) (λ input. (input.left, input.piece)) (λ pair. record { left = pair.0; piece = pair.1 }) (λ _. refl)
+
+-- how many bytes an input in memory moves to a buffer of this length
+abbrev pub moved_count : Input → ℕ → ℕ
+moved_count input room = min (min input.piece room) (length input.left)

@@ -1,14 +1,16 @@
 //! A folder in memory that fails on demand.
-ghost use Rattle.std.specs.Prelude.{◌≡◌, length, map, option_map, string_bytes, Some, None, Ok, Err, IfOk, OnOk, OnErr, IfSome, IsErrOf};
+ghost use Rattle.std.specs.Prelude.{◌≡◌, length, map, take, is_ok, if◌then◌else◌, option_map, string_bytes, Some, None, Ok, Err, IfOk, OnOk, OnErr, IsErrOf};
+ghost use Rattle.std.specs.Option.{ForSome};
 ghost use Rattle.std.specs.FinMap.{keys};
 ghost use Rattle.lu_dir.specs.Faults.{Rose, IsCaused};
 ghost use Rattle.lu_dir.specs.Files.{contents, with_file, without_file, with_patch, range_of, HasRange, asked_after};
-ghost use Rattle.lu_dir.specs.Planned.{next_count, next_failure, left_by_create, left_by_patch, left_by_remove, IsPlanned};
+ghost use Rattle.lu_dir.specs.Planned.{next_count, next_failure, left_by_create, left_by_patch, left_by_remove, with_files, planned_answer, IsPlanned};
 
 use crate::dir::Dir;
 use crate::fail::DirFail;
 use crate::mem_dir::MemDir;
 use crate::plan::{Fail, Left, failure_of_call};
+use lu_prims::OutOfMemory;
 use std::alloc::Global;
 use std::marker::Model;
 
@@ -66,6 +68,33 @@ impl FaultDir {
         failure_of_call(&self.fails, self.stop, self.calls)
     }
 
+    /// Leaves what a failed `create` is to leave.
+    fn leave_created(&mut self, left: Left, name: &str, bytes: &[u8]) -> Result<(), OutOfMemory>
+        ensures { self.new ≡ (if is_ok result
+            then with_files (left_by_create left name.now bytes.now self.old.folder.files) self.old
+            else self.old) }
+    {
+        match left {
+            Left::Before => Ok(()),
+            Left::Absent => {
+                self.dir.discard(name);
+                Ok(())
+            }
+            Left::Prefix(count) => self.dir.put(name, prefix(bytes, count)),
+        }
+    }
+
+    /// Leaves what a failed `patch` is to leave.
+    fn leave_patched(&mut self, left: Left, name: &str, at: u64, bytes: &[u8])
+        requires { HasRange self.old.folder.files name.now at (length bytes.now) }
+        ensures { self.new
+            ≡ with_files (left_by_patch left name.now at bytes.now self.old.folder.files) self.old }
+    {
+        if let Left::Prefix(count) = left {
+            self.dir.write_over(name, at, prefix(bytes, count));
+        }
+    }
+
     /// Counts a failure.
     fn fail(&mut self) -> DirFail
         ensures answer { result ≡ DirFail.Failed }
@@ -75,4 +104,147 @@ impl FaultDir {
         self.faults = self.faults.saturating_add(1);
         DirFail::Failed
     }
+}
+
+impl Dir for FaultDir {
+    ghost files = { λ d. Some d.folder.files };
+
+    ghost asked = { λ d. d.folder.asked };
+
+    ghost faults = { λ d. d.faults };
+
+    fn enter(&mut self, alloc: Global, path: &str) -> Result<(), DirFail>
+        ensures files { self.new.folder.files ≡ self.old.folder.files }
+        ensures asked { self.new.folder.asked ≡ asked_after result path.now self.old.folder.asked }
+        ensures planned { IsPlanned self.old self.new result }
+        ensures cause { IsCaused self.old.faults self.new.faults (IsErrOf result DirFail.Failed) }
+    {
+        let left = self.next_call();
+        self.dir.enter(alloc, path)?;
+        match left {
+            Some(_) => Err(self.fail()),
+            None => Ok(()),
+        }
+    }
+
+    fn list(&mut self, alloc: Global) -> Result<Vec<String>, DirFail>
+        ensures names { IfOk result (λ names. map string_bytes names.items ≡ keys self.old.folder.files) }
+        ensures same { self.new.folder ≡ self.old.folder }
+        ensures planned { IsPlanned self.old self.new result }
+        ensures cause { IsCaused self.old.faults self.new.faults (IsErrOf result DirFail.Failed) }
+    {
+        match self.next_call() {
+            Some(_) => Err(self.fail()),
+            None => self.dir.list(alloc),
+        }
+    }
+
+    fn length(&mut self, alloc: Global, name: &str) -> Result<Option<u64>, DirFail>
+        ensures answer { result
+            ≡ planned_answer self.old (option_map length (contents self.old.folder.files name.now)) }
+        ensures same { self.new.folder ≡ self.old.folder }
+        ensures planned { IsPlanned self.old self.new result }
+        ensures cause { IsCaused self.old.faults self.new.faults (IsErrOf result DirFail.Failed) }
+    {
+        match self.next_call() {
+            Some(_) => Err(self.fail()),
+            None => self.dir.length(alloc, name),
+        }
+    }
+
+    fn read(&mut self, alloc: Global, name: &str, at: u64, buf: &mut [u8]) -> Result<(), DirFail>
+        requires { HasRange self.old.folder.files name.now at (length buf.old) }
+        ensures answer { result ≡ planned_answer self.old tt }
+        ensures bytes { OnOk result (buf.new ≡ range_of self.old.folder.files name.now at (length buf.old)) }
+        ensures buffer { OnErr result (buf.new ≡ buf.old) }
+        ensures same { self.new.folder ≡ self.old.folder }
+        ensures planned { IsPlanned self.old self.new result }
+        ensures cause { IsCaused self.old.faults self.new.faults (IsErrOf result DirFail.Failed) }
+    {
+        match self.next_call() {
+            Some(_) => Err(self.fail()),
+            None => self.dir.read(alloc, name, at, buf),
+        }
+    }
+
+    fn create(&mut self, alloc: Global, name: &str, bytes: &[u8]) -> Result<(), DirFail>
+        ensures made { OnOk result
+            (self.new.folder.files ≡ with_file name.now bytes.now self.old.folder.files) }
+        ensures left { IsErrOf result DirFail.Failed → ForSome (next_failure self.old) (λ left.
+            self.new.folder.files ≡ left_by_create left name.now bytes.now self.old.folder.files) }
+        ensures memory { IsErrOf result DirFail.OutOfMemory
+            → self.new.folder.files ≡ self.old.folder.files }
+        ensures asked { self.new.folder.asked ≡ self.old.folder.asked }
+        ensures planned { IsPlanned self.old self.new result }
+        ensures cause { IsCaused self.old.faults self.new.faults (IsErrOf result DirFail.Failed) }
+    {
+        match self.next_call() {
+            Some(left) => {
+                self.leave_created(left, name, bytes)?;
+                Err(self.fail())
+            }
+            None => self.dir.create(alloc, name, bytes),
+        }
+    }
+
+    fn patch(&mut self, alloc: Global, name: &str, at: u64, bytes: &[u8]) -> Result<(), DirFail>
+        requires { HasRange self.old.folder.files name.now at (length bytes.now) }
+        ensures answer { result ≡ planned_answer self.old tt }
+        ensures written { OnOk result
+            (self.new.folder.files ≡ with_patch name.now at bytes.now self.old.folder.files) }
+        ensures left { ForSome (next_failure self.old) (λ left.
+            self.new.folder.files ≡ left_by_patch left name.now at bytes.now self.old.folder.files) }
+        ensures asked { self.new.folder.asked ≡ self.old.folder.asked }
+        ensures planned { IsPlanned self.old self.new result }
+        ensures cause { IsCaused self.old.faults self.new.faults (IsErrOf result DirFail.Failed) }
+    {
+        match self.next_call() {
+            Some(left) => {
+                self.leave_patched(left, name, at, bytes);
+                Err(self.fail())
+            }
+            None => self.dir.patch(alloc, name, at, bytes),
+        }
+    }
+
+    fn sync(&mut self, alloc: Global, name: &str) -> Result<(), DirFail>
+        ensures answer { result ≡ planned_answer self.old tt }
+        ensures same { self.new.folder ≡ self.old.folder }
+        ensures planned { IsPlanned self.old self.new result }
+        ensures cause { IsCaused self.old.faults self.new.faults (IsErrOf result DirFail.Failed) }
+    {
+        match self.next_call() {
+            Some(_) => Err(self.fail()),
+            None => self.dir.sync(alloc, name),
+        }
+    }
+
+    fn remove(&mut self, alloc: Global, name: &str) -> Result<(), DirFail>
+        ensures answer { result ≡ planned_answer self.old tt }
+        ensures removed { OnOk result
+            (self.new.folder.files ≡ without_file name.now self.old.folder.files) }
+        ensures left { ForSome (next_failure self.old) (λ left.
+            self.new.folder.files ≡ left_by_remove left name.now self.old.folder.files) }
+        ensures asked { self.new.folder.asked ≡ self.old.folder.asked }
+        ensures planned { IsPlanned self.old self.new result }
+        ensures cause { IsCaused self.old.faults self.new.faults (IsErrOf result DirFail.Failed) }
+    {
+        match self.next_call() {
+            Some(left) => {
+                if left == Left::Absent {
+                    self.dir.discard(name);
+                }
+                Err(self.fail())
+            }
+            None => self.dir.remove(alloc, name),
+        }
+    }
+}
+
+/// So many of the bytes, or all of them where there are fewer.
+fn prefix(bytes: &[u8], count: u64) -> &[u8]
+    ensures { result.now ≡ take count bytes.now }
+{
+    let count = (count as usize).min(bytes.len());
+    &bytes[..count]
 }

@@ -2,23 +2,28 @@
 //! each failure leaves, in memory, with failures on demand, and over the real device.
 #![tactic(auto)]
 
+mod call_plan;
 mod dir;
 mod fail;
 mod fault_dir;
+mod fault_stream;
 mod file_map;
 mod loading;
 mod mem_dir;
 mod mem_stream;
 mod plan;
+mod reading;
 mod stream;
 mod writing;
 
 pub use dir::Dir;
 pub use fail::DirFail;
 pub use fault_dir::FaultDir;
+pub use fault_stream::{FaultSink, FaultSource};
 pub use loading::{LoadFault, Loaded, load};
 pub use mem_dir::MemDir;
 pub use mem_stream::{MemSink, MemSource};
 pub use plan::{Fail, Left};
+pub use reading::read_all;
 pub use stream::{Sink, Source};
 pub use writing::write_all;

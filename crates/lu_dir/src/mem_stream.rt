@@ -1,5 +1,6 @@
 //! An input and an output in memory.
-ghost use Rattle.std.specs.Prelude.{◌≡◌, ◌≤◌, [], Some};
+ghost use Rattle.std.specs.Prelude.{◌≡◌, ◌≤◌, ◌++◌, [], length, drop, Some, Ok, IfOk, IsOkUnless, is_ok, if◌then◌else◌};
+ghost use Rattle.lu_dir.specs.Streams.{Moves, moved_count};
 
 use crate::fail::DirFail;
 use crate::stream::{Sink, Source};
@@ -47,7 +48,13 @@ impl Source for MemSource {
 
     ghost faults = { λ _. 0 };
 
-    fn read(&mut self, _alloc: Global, buf: &mut [u8]) -> Result<usize, DirFail> {
+    /// Never fails.
+    fn read(&mut self, _alloc: Global, buf: &mut [u8]) -> Result<usize, DirFail>
+        ensures answer { result ≡ Ok (moved_count self.old (length buf.old)) }
+        ensures moved { Moves (moved_count self.old (length buf.old)) self.old.left buf.old buf.new }
+        ensures left { self.new
+            ≡ record self.old { left = drop (moved_count self.old (length buf.old)) self.old.left } }
+    {
         let left = self.bytes.len() - self.at;
         let count = self.piece.min(buf.len()).min(left);
         let end = self.at + count;
@@ -94,7 +101,12 @@ impl Sink for MemSink {
 
     ghost faults = { λ _. 0 };
 
-    fn write(&mut self, _alloc: Global, bytes: &[u8]) -> Result<usize, DirFail> {
+    /// Takes the whole piece; fails for want of memory alone.
+    fn write(&mut self, _alloc: Global, bytes: &[u8]) -> Result<usize, DirFail>
+        ensures answer { IsOkUnless result DirFail.OutOfMemory }
+        ensures whole { IfOk result (λ count. count ≡ length bytes.now) }
+        ensures taken { self.new ≡ (if is_ok result then self.old ++ bytes.now else self.old) }
+    {
         self.bytes.extend_from_slice(bytes)?;
         Ok(bytes.len())
     }

@@ -1,0 +1,54 @@
+use Rattle.std.proofs.Common.{◌≡◌, ℕ, ◌≤◌, length, take, drop, Some, ◌+◌, ap, sym, ◌∙◌, arith, length-append, length-take-le}
+use Rattle.std.proofs.lemmas.List.{drop-drop}
+use Rattle.lu_dir.proofs.Moved.{Moves-end, Moves-rest, Moves-count, Moves-more}
+use Rattle.lu_dir.proofs.reading.read_all.Goals as goal
+
+pub returns-in-Ok-eq0-clause-all : goal.returns-in-Ok-eq0-clause-all
+returns-in-Ok-eq0-clause-all g c = λ left is.
+    let bytes = c.loop-bytes.bytes.items in
+    let moved = c.in-Ok-eq0.ensures.moved (drop (length bytes) left) (c.loop-bytes.invariant.left left is) in (
+      Moves-end bytes left c.loop-bytes.piece c.read.new.buf c.in-Ok-eq0.field-0 (c.loop-bytes.invariant.read left is) c.loop-bytes.invariant.room c.in-Ok-eq0.field-0-test moved.0,
+      moved.1 ∙ ap Some (Moves-rest bytes left c.loop-bytes.piece c.read.new.buf c.in-Ok-eq0.field-0 c.loop-bytes.invariant.room c.in-Ok-eq0.field-0-test moved.0),
+    )
+
+pub returns-then-len-count-clause-over : goal.returns-then-len-count-clause-over
+returns-then-len-count-clause-over g c = λ place same. (
+  cc,
+  λ left is.
+      let bytes = c.loop-bytes.bytes.items in
+      let moved = c.in-Ok.ensures.moved (drop (length bytes) left) (c.loop-bytes.invariant.left left is) in
+      omega (arith, c.if-len-count.true, c.len.ensures, Moves-count bytes left c.loop-bytes.piece c.read.new.buf c.in-Ok.count (c.loop-bytes.invariant.read left is) moved.0),
+)
+
+pub returns-then-len-count-clause-taken : goal.returns-then-len-count-clause-taken
+returns-then-len-count-clause-taken g c = λ left is.
+    let bytes = c.loop-bytes.bytes.items in
+    let moved = c.in-Ok.ensures.moved (drop (length bytes) left) (c.loop-bytes.invariant.left left is) in
+    (length bytes + c.in-Ok.count, moved.1 ∙ ap Some (drop-drop c.in-Ok.count (length bytes) left))
+
+pub returns-in-Err-extend_from_slice-clause-taken : goal.returns-in-Err-extend_from_slice-clause-taken
+returns-in-Err-extend_from_slice-clause-taken g c = λ left is.
+    let bytes = c.loop-bytes.bytes.items in
+    let moved = c.in-Ok.ensures.moved (drop (length bytes) left) (c.loop-bytes.invariant.left left is) in
+    (length bytes + c.in-Ok.count, moved.1 ∙ ap Some (drop-drop c.in-Ok.count (length bytes) left))
+
+pub loop-bytes-preserved : goal.loop-bytes-preserved
+loop-bytes-preserved g c =
+    let bytes = c.loop-bytes.bytes.items in
+    let count = c.in-Ok.count in
+    let new = c.extend_from_slice.new.self.items in
+    let fits : count ≤ length c.read.new.buf = omega (arith, c.in-Ok.ensures.within, c.read.auto.buf) in
+    let size : length new ≡ length bytes + count = omega (arith, ap length c.in_default.ensures.items, length-append bytes (take count c.read.new.buf), length-take-le count c.read.new.buf fits) in
+    record {
+      left = λ left is.
+          let moved = c.in-Ok.ensures.moved (drop (length bytes) left) (c.loop-bytes.invariant.left left is) in
+          moved.1 ∙ ap Some (drop-drop count (length bytes) left ∙ ap (λ (many : ℕ). drop many left) (sym size));
+      read = λ left is.
+          let moved = c.in-Ok.ensures.moved (drop (length bytes) left) (c.loop-bytes.invariant.left left is) in
+          c.in_default.ensures.items
+          ∙ Moves-more bytes left c.loop-bytes.piece c.read.new.buf count (c.loop-bytes.invariant.read left is) moved.0
+          ∙ ap (λ (many : ℕ). take many left) (sym size);
+      within = omega (arith, size, c.if-len-count.false, c.len.ensures);
+      room = omega (arith, c.read.auto.buf);
+      later = omega (arith, c.in-Ok.ensures.cause.later);
+    }

@@ -3,3 +3,4 @@ pub mod OrderLemmas
 pub mod Units
 pub mod Division
 pub mod Remainders
+pub mod Quotients

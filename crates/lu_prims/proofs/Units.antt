@@ -11,6 +11,9 @@ use Rattle.std.proofs.lemmas.List.{append_cancel_left}
 use Rattle.std.proofs.lemmas.Cmp.{tied_itself, on_total, nat_list_cmp_total}
 use Rattle.std.proofs.Math.Utf8.{encode, encodes, scalars, scalar, scalar_cases, next}
 use Rattle.std.proofs.lemmas.Bool.Decides.{nat_tests}
+use Rattle.std.specs.Ordering.{is_eq}
+use Rattle.std.proofs.lemmas.Map.Text.{is_eq-slice_cmp}
+use Rattle.std.proofs.lemmas.Slice.Eq.{bytes_eq-Decides}
 use Rattle.std.proofs.lemmas.Bool.{cases_lt}
 use borrow.Author.Tests.{lt-ltb, le-ltb}
 use Rattle.lu_prims.specs.Order.{byte_rank, units, text_cmp}
@@ -292,6 +295,10 @@ chars_same (c ∷ cs) (d ∷ ds) hc hd e =
 -- units tell texts apart
 pub units_same : (s t : List ℕ) → IsUtf8 s → IsUtf8 t → units s ≡ units t → s ≡ t
 units_same s t hs ht e = sym (encodes-chars s hs) ∙ ap encodes (chars_same (chars s) (chars t) (scalars-chars s hs) (scalars-chars t ht) e) ∙ encodes-chars t ht
+
+-- texts that the order calls equal are one
+pub level_same : (s t : List ℕ) → IsUtf8 s → IsUtf8 t → text_cmp s t ≡ Equal → s ≡ t
+level_same s t hs ht e = units_same s t hs ht ((bytes_eq-Decides (units s) (units t)).0 (sym (is_eq-slice_cmp (units s) (units t)) ∙ ap is_eq e))
 
 pub text_order : IsTotalOrder text_cmp
 text_order = on_total units nat_list_cmp_total

@@ -9,7 +9,7 @@ mod quoting;
 mod utf16;
 
 pub use base36::{base36_tells_apart, base36_text, base36_value};
-pub use checksum::crc32;
+pub use checksum::{crc32, crc32_divides};
 pub use counter::Steps;
 pub use lu_grammar::Bad;
 pub use memory::OutOfMemory;

@@ -4,3 +4,4 @@ pub mod Units
 pub mod Division
 pub mod Remainders
 pub mod Quotients
+pub mod QuotedLemmas

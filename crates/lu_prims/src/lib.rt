@@ -13,5 +13,5 @@ pub use checksum::{crc32, crc32_divides};
 pub use counter::Steps;
 pub use lu_grammar::Bad;
 pub use memory::OutOfMemory;
-pub use quoting::quoted;
+pub use quoting::{quoted, quoted_texts};
 pub use utf16::{utf16_cmp, utf16_order};

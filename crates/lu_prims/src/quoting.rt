@@ -1,5 +1,6 @@
-ghost use Rattle.std.specs.Prelude.{◌≡◌, ◌++◌, ◌<◌, take, OnOk, OnErr, vec_len};
+ghost use Rattle.std.specs.Prelude.{◌≡◌, ℕ, List, ◌++◌, ◌<◌, take, OnOk, OnErr, vec_len};
 ghost use Rattle.std.specs.Char.{digit_char};
+ghost use Rattle.std.specs.Str.{IsUtf8};
 ghost use Rattle.lu_prims.specs.Quoted.{escaped, quoted_text};
 
 use crate::memory::OutOfMemory;
@@ -30,6 +31,12 @@ pub fn quoted(out: &mut Vec<u8>, text: &str) -> Result<(), OutOfMemory>
         }
     }
 }
+
+/// A quoted text tells its text, and is UTF-8 where the text is.
+pub fn quoted_texts()
+    ensures apart { (s t : List ℕ) → quoted_text s ≡ quoted_text t → s ≡ t }
+    ensures utf8 { (s : List ℕ) → IsUtf8 s → IsUtf8 (quoted_text s) }
+{}
 
 // Appends the quoted text. After an Err some of it may stand after what was there.
 fn push_quoted(out: &mut Vec<u8>, text: &str) -> Result<(), OutOfMemory>

@@ -17,7 +17,7 @@ const LAST_CONTROL: u8 = 0x1f;
 /// Appends the text between two `"` (format page, "Printed listing"). In it `"` is written `\"`, `\` is written `\\`, and a
 /// character below U+0020 is written `\u` with four lower-case hexadecimal digits; all others stand as they are.
 ///
-/// Answers `OutOfMemory` only where the output could not grow; the output is then as before.
+/// The only error is `OutOfMemory`; the output is then as before.
 pub fn quoted(out: &mut Vec<u8>, text: &str) -> Result<(), OutOfMemory>
     ensures ok { OnOk result (out.new.items ≡ out.old.items ++ quoted_text text.now) }
     ensures err { OnErr result (out.new.items ≡ out.old.items) }

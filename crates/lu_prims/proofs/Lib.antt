@@ -4,5 +4,7 @@ pub mod Division
 pub mod GroupLemmas
 pub mod OrderLemmas
 pub mod PutLemmas
+pub mod QuotedLemmas
+pub mod Quotients
 pub mod Remainders
 pub mod Units

@@ -11,6 +11,9 @@ use Rattle.std.proofs.lemmas.List.{append_cancel_left}
 use Rattle.std.proofs.lemmas.Cmp.{tied_itself, on_total, nat_list_cmp_total}
 use Rattle.std.proofs.Math.Utf8.{encode, encodes, scalars, scalar, scalar_cases, next}
 use Rattle.std.proofs.lemmas.Bool.Decides.{nat_tests}
+use Rattle.std.specs.Ordering.{is_eq}
+use Rattle.std.proofs.lemmas.Map.Text.{is_eq-slice_cmp}
+use Rattle.std.proofs.lemmas.Slice.Eq.{bytes_eq-Decides}
 use Rattle.std.proofs.lemmas.Bool.{cases_lt}
 use borrow.Author.Tests.{lt-ltb, le-ltb}
 use Rattle.lu_prims.specs.Order.{byte_rank, units, text_cmp}
@@ -29,19 +32,19 @@ unfolding byte_rank
 rank_is b = (λ h. grind (arith, nat_tests), λ h g. grind (arith, nat_tests), λ h. grind (arith, nat_tests))
 
 -- UTF-8 of one to four bytes
-encode_one : (c : ℕ) → c < 0x80 → encode c ≡ c ∷ []
+pub encode_one : (c : ℕ) → c < 0x80 → encode c ≡ c ∷ []
 unfolding encode
 encode_one c h = grind (arith, nat_tests)
 
-encode_two : (c : ℕ) → 0x80 ≤ c → c < 0x800 → encode c ≡ (0xC0 + c / 64) ∷ next c ∷ []
+pub encode_two : (c : ℕ) → 0x80 ≤ c → c < 0x800 → encode c ≡ (0xC0 + c / 64) ∷ next c ∷ []
 unfolding encode
 encode_two c h g = rw (le-ltb c 0x80 h, lt-ltb c 0x800 g)
 
-encode_three : (c : ℕ) → 0x800 ≤ c → c < 0x1_0000 → encode c ≡ (0xE0 + c / 4096) ∷ next (c / 64) ∷ next c ∷ []
+pub encode_three : (c : ℕ) → 0x800 ≤ c → c < 0x1_0000 → encode c ≡ (0xE0 + c / 4096) ∷ next (c / 64) ∷ next c ∷ []
 unfolding encode
 encode_three c h g = let low : 0x80 ≤ c = omega arith in rw (le-ltb c 0x80 low, le-ltb c 0x800 h, lt-ltb c 0x1_0000 g)
 
-encode_four : (c : ℕ) → 0x1_0000 ≤ c → encode c ≡ (0xF0 + c / 262144) ∷ next (c / 4096) ∷ next (c / 64) ∷ next c ∷ []
+pub encode_four : (c : ℕ) → 0x1_0000 ≤ c → encode c ≡ (0xF0 + c / 262144) ∷ next (c / 4096) ∷ next (c / 64) ∷ next c ∷ []
 unfolding encode
 encode_four c h = let low : 0x80 ≤ c = omega arith in let two : 0x800 ≤ c = omega arith in rw (le-ltb c 0x80 low, le-ltb c 0x800 two, le-ltb c 0x1_0000 h)
 
@@ -64,7 +67,7 @@ next_three c d r t e h =
     (cases_lt (c / 4096) (d / 4096))
 
 -- a character's number: no surrogate, and in range
-abbrev IsChar : ℕ → Type 0
+abbrev pub IsChar : ℕ → Type 0
 IsChar c = (c < 0x11_0000) × (0xD800 ≤ c → 0xE000 ≤ c)
 
 -- the first byte of a character, and what its rank is
@@ -223,10 +226,10 @@ first_chars c d r t v w hc hd e =
     (cases_lt (key c) (key d))
 
 -- each of the characters of a text is one
-char_is : (c : ℕ) → scalar c ≡ true → IsChar c
+pub char_is : (c : ℕ) → scalar c ≡ true → IsChar c
 char_is c e = ⊎_elim (λ (h : c < 55296). (omega arith, λ g. absurd (omega arith))) (λ (h : (57344 ≤ c) × (c < 1114112)). (h.1, λ g. h.0)) (scalar_cases c e)
 
-scalars_first : (c : ℕ) (cs : List ℕ) → scalars (c ∷ cs) ≡ true → (scalar c ≡ true) × (scalars cs ≡ true)
+pub scalars_first : (c : ℕ) (cs : List ℕ) → scalars (c ∷ cs) ≡ true → (scalar c ≡ true) × (scalars cs ≡ true)
 scalars_first c cs e = both (scalar c) (scalars cs) e
   where
     both : (x y : Bool) → (x && y) ≡ true → (x ≡ true) × (y ≡ true)
@@ -292,6 +295,10 @@ chars_same (c ∷ cs) (d ∷ ds) hc hd e =
 -- units tell texts apart
 pub units_same : (s t : List ℕ) → IsUtf8 s → IsUtf8 t → units s ≡ units t → s ≡ t
 units_same s t hs ht e = sym (encodes-chars s hs) ∙ ap encodes (chars_same (chars s) (chars t) (scalars-chars s hs) (scalars-chars t ht) e) ∙ encodes-chars t ht
+
+-- texts that the order calls equal are one
+pub level_same : (s t : List ℕ) → IsUtf8 s → IsUtf8 t → text_cmp s t ≡ Equal → s ≡ t
+level_same s t hs ht e = units_same s t hs ht ((bytes_eq-Decides (units s) (units t)).0 (sym (is_eq-slice_cmp (units s) (units t)) ∙ ap is_eq e))
 
 pub text_order : IsTotalOrder text_cmp
 text_order = on_total units nat_list_cmp_total

@@ -1,5 +1,5 @@
 -- The CRC-32, by long division of polynomials whose coefficients are bits, the highest power first.
-use Rattle.std.specs.Prelude.{ℕ, zero, suc, ◌+◌, ◌*◌, ◌/◌, ◌%◌, Bool, true, false, not, cond, ◌==◌, List, [], ◌∷◌, ◌++◌, length, map, replicate}
+use Rattle.std.specs.Prelude.{◌≡◌, ℕ, zero, suc, ◌+◌, ◌*◌, ◌/◌, ◌%◌, Bool, true, false, not, cond, ◌==◌, List, [], ◌∷◌, ◌++◌, length, map, replicate}
 use Rattle.std.specs.List.{flat_map}
 
 -- so many bits of a number, the lowest first
@@ -36,3 +36,12 @@ message bytes = flat_map (bits_of 8) bytes
 unfoldable pub checksum : List ℕ → ℕ
 checksum bytes =
     number_of (map not (remainder (length (message bytes)) (add_front (replicate 32 true) (message bytes ++ replicate 32 false))))
+
+-- the product of a polynomial and the divisor
+unfoldable pub times_divisor : List Bool → List Bool
+times_divisor [] = replicate 32 false
+times_divisor (q ∷ qs) = add_front (cond q (true ∷ divisor) []) (false ∷ times_divisor qs)
+
+-- a polynomial is a multiple of the divisor and these 32 bits
+abbrev pub IsRemainder : List Bool → List Bool → Type 0
+IsRemainder bs left = (qs : List Bool) × (length left ≡ 32) × (bs ≡ add_front (times_divisor qs) (replicate (length qs) false ++ left))

@@ -14,7 +14,7 @@ const LIMIT: u64 = 1 << 63;
 /// The spelling of a number below 2^63 in base 36: digits `0` to `9` and `a` to `z`, the highest first, without leading zeros
 /// (format page, "Names of files").
 ///
-/// Answers `OutOfMemory` only where there was no memory for the text.
+/// The only error is `OutOfMemory`.
 pub fn base36_text(alloc: Global, value: u64) -> Result<String, OutOfMemory>
     requires { value < 2 ^ 63 }
     ensures { IfOk result (λ text. string_bytes text ≡ base36 value) }

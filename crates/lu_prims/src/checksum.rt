@@ -1,5 +1,5 @@
-ghost use Rattle.std.specs.Prelude.{◌≡◌, slice_index};
-ghost use Rattle.lu_prims.specs.Checksum.{checksum};
+ghost use Rattle.std.specs.Prelude.{◌≡◌, ℕ, ◌+◌, Bool, List, length, slice_index};
+ghost use Rattle.lu_prims.specs.Checksum.{IsRemainder, checksum, remainder};
 
 /// The CRC-32 of the bytes: the checksum with the polynomial whose reflected form is EDB88320, start value and final exclusive or
 /// FFFFFFFF (format page, "Numbers and texts").
@@ -13,6 +13,12 @@ pub fn crc32(bytes: &[u8]) -> u32
     }
     !register
 }
+
+/// The division is that of polynomials: what it leaves is the one remainder of 32 bits.
+pub fn crc32_divides()
+    ensures left { (n : ℕ) (bits : List Bool) → length bits ≡ n + 32 → IsRemainder bits (remainder n bits) }
+    ensures only { (n : ℕ) (bits left : List Bool) → length bits ≡ n + 32 → IsRemainder bits left → left ≡ remainder n bits }
+{}
 
 // What eight steps of the division leave of eight bits.
 fn remainder_of(bits: u8) -> u32

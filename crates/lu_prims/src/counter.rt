@@ -56,5 +56,9 @@ mod tests {
         steps.tick();
         steps.tick();
         assert_eq!(rt; steps.count(), 2);
+
+        steps.count = u64::MAX;
+        steps.tick();
+        assert_eq!(rt; steps.count(), u64::MAX);
     }
 }

@@ -1,5 +1,6 @@
-ghost use Rattle.std.specs.Prelude.{◌≡◌, ◌++◌, ◌<◌, take, OnOk, OnErr, vec_len};
+ghost use Rattle.std.specs.Prelude.{◌≡◌, ℕ, List, ◌++◌, ◌<◌, take, OnOk, OnErr, vec_len};
 ghost use Rattle.std.specs.Char.{digit_char};
+ghost use Rattle.std.specs.Str.{IsUtf8};
 ghost use Rattle.lu_prims.specs.Quoted.{escaped, quoted_text};
 
 use crate::memory::OutOfMemory;
@@ -16,7 +17,7 @@ const LAST_CONTROL: u8 = 0x1f;
 /// Appends the text between two `"` (format page, "Printed listing"). In it `"` is written `\"`, `\` is written `\\`, and a
 /// character below U+0020 is written `\u` with four lower-case hexadecimal digits; all others stand as they are.
 ///
-/// Answers `OutOfMemory` only where the output could not grow; the output is then as before.
+/// The only error is `OutOfMemory`; the output is then as before.
 pub fn quoted(out: &mut Vec<u8>, text: &str) -> Result<(), OutOfMemory>
     ensures ok { OnOk result (out.new.items ≡ out.old.items ++ quoted_text text.now) }
     ensures err { OnErr result (out.new.items ≡ out.old.items) }
@@ -30,6 +31,12 @@ pub fn quoted(out: &mut Vec<u8>, text: &str) -> Result<(), OutOfMemory>
         }
     }
 }
+
+/// A quoted text tells its text, and is UTF-8 where the text is.
+pub fn quoted_texts()
+    ensures apart { (s t : List ℕ) → quoted_text s ≡ quoted_text t → s ≡ t }
+    ensures utf8 { (s : List ℕ) → IsUtf8 s → IsUtf8 (quoted_text s) }
+{}
 
 // Appends the quoted text. After an Err some of it may stand after what was there.
 fn push_quoted(out: &mut Vec<u8>, text: &str) -> Result<(), OutOfMemory>

@@ -22,10 +22,11 @@ pub fn utf16_cmp(a: &str, b: &str) -> Ordering
     left.len().cmp(&right.len())
 }
 
-/// `utf16_cmp` is a total order of texts: texts that it calls equal are the same.
+/// `utf16_cmp` is a total order of texts: texts with the same units, and texts that it calls equal, are the same.
 pub fn utf16_order()
     ensures total { IsTotalOrder text_cmp }
     ensures apart { (s t : List ℕ) → IsUtf8 s → IsUtf8 t → units s ≡ units t → s ≡ t }
+    ensures level { (s t : List ℕ) → IsUtf8 s → IsUtf8 t → text_cmp s t ≡ Ordering.Equal → s ≡ t }
 {}
 
 // The rank of a byte of UTF-8 in the order of UTF-16 units: the lead bytes EE and EF, of U+E000 to U+FFFF, come after all others.

@@ -1,11 +1,24 @@
-//! The folder, the input and the output.
+//! The outside of the library: a folder, an input and an output, as traits that tell what each call does and what
+//! each failure leaves, in memory, with failures on demand, and over the real device.
 #![tactic(auto)]
 
-/// Why a call of a folder, a source or a sink failed.
-#[derive(Clone, Copy, Debug, PartialEq, Eq)]
-pub enum DirFail {
-    /// The device failed.
-    Failed,
-    /// There was no memory for what the call had to keep.
-    OutOfMemory,
-}
+mod dir;
+mod fail;
+mod fault_dir;
+mod file_map;
+mod loading;
+mod mem_dir;
+mod mem_stream;
+mod plan;
+mod stream;
+mod writing;
+
+pub use dir::Dir;
+pub use fail::DirFail;
+pub use fault_dir::FaultDir;
+pub use loading::{LoadFault, Loaded, load};
+pub use mem_dir::MemDir;
+pub use mem_stream::{MemSink, MemSource};
+pub use plan::{Fail, Left};
+pub use stream::{Sink, Source};
+pub use writing::write_all;

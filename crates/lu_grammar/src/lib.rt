@@ -3,6 +3,7 @@
 
 mod bad;
 mod general;
+pub mod laws;
 
 pub use bad::Bad;
 pub use general::{ENDS, LONG_NUMBER, MISSING, NOT_UTF8, TOO_GREAT, TRAILING};

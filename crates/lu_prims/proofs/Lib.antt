@@ -1,7 +1,10 @@
 pub mod Base36Lemmas
-pub mod OrderLemmas
-pub mod Units
+pub mod CurLemmas
 pub mod Division
-pub mod Remainders
-pub mod Quotients
+pub mod GroupLemmas
+pub mod OrderLemmas
+pub mod PutLemmas
 pub mod QuotedLemmas
+pub mod Quotients
+pub mod Remainders
+pub mod Units

@@ -1,4 +1,5 @@
 pub mod Base36
-pub mod Quoted
-pub mod Order
 pub mod Checksum
+pub mod Cur
+pub mod Order
+pub mod Quoted

@@ -1,9 +1,24 @@
-//! Field tables, file kinds, rules and faults.
+//! Field tables, file kinds, rules and faults: what every part of the project speaks of.
 #![tactic(auto)]
 
-/// A field: its name and its bits.
-#[derive(Clone, Copy, Debug, PartialEq, Eq)]
-pub struct Field<'a> {
-    pub name: &'a str,
-    pub bits: u8,
-}
+mod fault;
+mod field;
+mod kind;
+mod names;
+mod owned;
+pub mod rules;
+mod stored;
+mod table;
+mod term;
+
+pub use fault::{CodecFault, Fault, Spot};
+pub use field::{Field, FieldInfo};
+pub use kind::FileKind;
+pub use names::{GREATEST_SEGMENT, part_name, segment_name, segment_number};
+pub use owned::{Bytes, Text};
+pub use stored::{SharedStore, Stored, StoredValue, Window};
+pub use table::FieldTable;
+pub use term::TermInfo;
+
+#[cfg(test)]
+mod tests;

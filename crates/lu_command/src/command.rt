@@ -1,0 +1,37 @@
+ghost use Rattle.std.specs.Prelude.{◌≡◌, ℕ, List, MatchOption};
+ghost use Rattle.lu_command.specs.Words.{texts};
+ghost use Rattle.lu_command.specs.Commands.{Meaning, Means};
+ghost use Rattle.lu_command.specs.Meanings.{meaning_of};
+
+use crate::words::dir_and_segment;
+
+/// What the words of a call ask for.
+#[derive(Clone, Copy, Debug, PartialEq, Eq)]
+pub enum Command<'a> {
+    /// Print the field table of the segment in the folder.
+    Fields { dir: &'a str, segment: &'a str },
+    /// Print the stored documents of the segment in the folder.
+    Docs { dir: &'a str, segment: &'a str },
+}
+
+impl<'a> Command<'a> {
+    /// What the words after the program's name mean; `None` exactly where they have no meaning. Takes no memory.
+    pub fn of(words: &'a [String]) -> Option<Command<'a>>
+        ensures { MatchOption result
+            ((meaning : Meaning) → ¬ Means (texts words.now) meaning)
+            (λ command. Means (texts words.now) (meaning_of command)) }
+    {
+        let (name, rest) = words.split_first()?;
+        let (dir, segment) = dir_and_segment(rest)?;
+        match name.as_str() {
+            "fields" => Some(Command::Fields { dir, segment }),
+            "docs" => Some(Command::Docs { dir, segment }),
+            _ => None,
+        }
+    }
+}
+
+/// Words have one meaning at most.
+pub fn one_meaning()
+    ensures { (words : List (List ℕ)) (one other : Meaning) → Means words one → Means words other → one ≡ other }
+{}

@@ -1,0 +1,48 @@
+use crate::Command;
+use std::alloc::{AllocError, Global};
+use std::test::Fail;
+
+// The words of a line that stand one space apart.
+fn words_of(alloc: Global, line: &str) -> Result<Vec<String>, AllocError> {
+    let mut words = Vec::new(alloc);
+    for word in line.split(' ') {
+        words.push(String::from_str(alloc, word)?)?;
+    }
+    Ok(words)
+}
+
+#[test]
+fn words_have_their_meaning(rt: HostRuntime) -> Result<(), Fail> {
+    let lines = [
+        ("fields d _0", Some("d")),
+        ("fields -- --x _0", Some("--x")),
+        ("fields - _0", Some("-")),
+        ("fields help -- _z", Some("help")),
+        ("fields d -- _0", Some("d")),
+        ("fields d _0 --", Some("d")),
+        ("docs d _zik0zi", Some("d")),
+        ("fields d _01", None),
+        ("fields d", None),
+        ("fields d _0 x", None),
+        ("fields d _0 --x", None),
+        ("fields --help", None),
+        ("fields d _zik0zj", None),
+        ("fields -- d _0 --", None),
+        ("-- fields d _0", None),
+        ("show", None),
+        ("help", None),
+        ("--help", None),
+        ("--version", None),
+        ("", None),
+    ];
+    for (line, dir) in lines {
+        let words = words_of(rt.alloc(), line)?;
+        let found = match Command::of(words.as_slice()) {
+            Some(Command::Fields { dir, .. } | Command::Docs { dir, .. }) => Some(dir),
+            None => None,
+        };
+        assert_eq!(rt; found, dir, "{line}");
+    }
+    assert!(rt; Command::of(&[]).is_none());
+    Ok(())
+}

@@ -1,0 +1,9 @@
+pub mod Numbers
+pub mod Parts
+pub mod Records
+pub mod Plans
+pub mod Files
+pub mod Loops
+pub mod Writers
+pub mod LawLemmas
+pub mod Rows

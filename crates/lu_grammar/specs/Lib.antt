@@ -1,0 +1,6 @@
+pub mod Bytes
+pub mod Parts
+pub mod Reading
+pub mod Records
+pub mod Plans
+pub mod Meaning

@@ -1,0 +1,5 @@
+pub mod Fields
+pub mod Kinds
+pub mod Names
+pub mod Rules
+pub mod Tables

@@ -1,2 +1,5 @@
 pub mod MeaningLemmas
 pub mod WordLemmas
+pub mod TextLemmas
+pub mod AnswerLemmas
+pub mod LoadLemmas

@@ -1,10 +1,19 @@
-//! The commands: what the words of a call mean.
+//! The commands: what the words of a call mean, and the call that answers them.
 #![tactic(auto)]
 
+mod answer;
 mod command;
+mod judging;
+mod limits;
+mod call;
+mod status;
+mod texts;
 mod words;
 
 pub use command::{Command, one_meaning};
+pub use limits::FILE_LIMIT;
+pub use call::run;
+pub use status::{Refusal, Status, Which};
 
 #[cfg(test)]
 mod tests;

@@ -20,7 +20,8 @@ fn words_have_their_meaning(rt: HostRuntime) -> Result<(), Fail> {
         ("fields help -- _z", Some("help")),
         ("fields d -- _0", Some("d")),
         ("fields d _0 --", Some("d")),
-        ("docs d _zik0zi", Some("d")),
+        ("fields d _zik0zi", Some("d")),
+        ("docs d _0", None),
         ("fields d _01", None),
         ("fields d", None),
         ("fields d _0 x", None),
@@ -38,7 +39,7 @@ fn words_have_their_meaning(rt: HostRuntime) -> Result<(), Fail> {
     for (line, dir) in lines {
         let words = words_of(rt.alloc(), line)?;
         let found = match Command::of(words.as_slice()) {
-            Some(Command::Fields { dir, .. } | Command::Docs { dir, .. }) => Some(dir),
+            Some(Command::Fields { dir, .. }) => Some(dir),
             None => None,
         };
         assert_eq!(rt; found, dir, "{line}");

@@ -1,0 +1,83 @@
+-- Which answer is due, and what a call prints.
+use Rattle.std.specs.Prelude.{◌≡◌, ℕ, ◌<◌, ◌≤◌, ◌⊎◌, true, List, length, take, Option, Some, None, IfSome}
+use Rattle.std.specs.Option.{ForSome}
+use Rattle.lu_grammar.specs.declared.general.TheConstants.{MISSING}
+use Rattle.lu_grammar.specs.Meaning.{Reads}
+use Rattle.lu_dir.specs.Files.{Files, contents}
+use Rattle.lu_dir.specs.Loading.{is_over}
+use Rattle.lu_dir.specs.Streams.{with_taken}
+use Rattle.lu_types.specs.Tables.{TableField}
+use Rattle.lu_types.specs.Judging.{IsFirstFault}
+use Rattle.lu_types.specs.Names.{part_name}
+use Rattle.lu_types.specs.declared.kind.FileKind.{FileKind}
+use Rattle.lu_types.specs.declared.kind.FileKind.TheVariants.{Fnm}
+use Rattle.lu_types.specs.declared.fault.Spot.{Spot}
+use Rattle.field_infos.specs.Fnm.{fnm_plan}
+use Rattle.lu_command.specs.declared.limits.TheConstants.{FILE_LIMIT}
+use Rattle.lu_command.specs.declared.status.Status.{Status}
+use Rattle.lu_command.specs.declared.status.Status.TheVariants as statuses
+use Rattle.lu_command.specs.declared.status.Which.TheVariants as things
+use Rattle.lu_command.specs.declared.status.Refusal.TheVariants as refusals
+use Rattle.lu_command.specs.Commands.{Meaning, fields, Means}
+use Rattle.lu_command.specs.Texts.{usage_text, fault_text, too_large_text, field_lines}
+use Rattle.std.specs.Prelude.{true, false}
+
+-- the answer of a command that needs no commit, where a file has this fault
+abbrev pub not_standing : Spot → Status
+not_standing spot = statuses.NotStanding 0 (record { segment = 0; spot = spot })
+
+-- the fault of a file that is not there
+abbrev pub missing : FileKind → Spot
+missing kind = record { kind = kind; offset = 0; rule = MISSING }
+
+-- a folder that tells its files has a file of this name that is too long
+abbrev pub IsTooLong : Option Files → List ℕ → Type 0
+IsTooLong files name = ForSome files (λ told. is_over FILE_LIMIT (contents told name) ≡ true)
+
+-- these bytes, where there are any, are the file of this name, if the folder tells its files; and they are not too many
+abbrev pub IsFile : Option Files → List ℕ → Option (List ℕ) → Type 0
+IsFile files name found = ForSome files (λ told. contents told name ≡ found) × IfSome found (λ bytes. length bytes ≤ FILE_LIMIT)
+
+-- what `fields` says of the bytes of a field table, where there are any: its lines, or its first fault
+abbrev pub FieldsSays : List ℕ → Option (List ℕ) → Status → List ℕ → Type 0
+FieldsSays segment None status text = (status ≡ not_standing (missing Fnm)) × (text ≡ fault_text segment (missing Fnm))
+FieldsSays segment (Some bytes) status text =
+    ((table : List TableField) × Reads (fnm_plan true None) bytes table × (status ≡ statuses.Ok) × (text ≡ field_lines 0 table))
+    ⊎ ((spot : Spot) × IsFirstFault Fnm (fnm_plan true None) bytes spot × (status ≡ not_standing spot) × (text ≡ fault_text segment spot))
+
+-- the answer to `fields` that is due, and its text
+abbrev pub FieldsDue : List ℕ → Option Files → Status → List ℕ → Type 0
+FieldsDue segment files status text =
+    (IsTooLong files (part_name segment Fnm) × (status ≡ statuses.Refused (refusals.FileTooLarge Fnm)) × (text ≡ too_large_text Fnm))
+    ⊎ ((found : Option (List ℕ)) × IsFile files (part_name segment Fnm) found × FieldsSays segment found status text)
+
+-- the answer to a meaning that is due, and its text
+abbrev pub MeaningDue : Meaning → Option Files → Status → List ℕ → Type 0
+MeaningDue (fields dir segment) files status text = FieldsDue segment files status text
+
+-- the answer to words that is due, and its text
+abbrev pub Due : List (List ℕ) → Option Files → Status → List ℕ → Type 0
+Due words files status text = (((meaning : Meaning) → ¬ Means words meaning) × (status ≡ statuses.Usage) × (text ≡ usage_text))
+    ⊎ ((meaning : Meaning) × Means words meaning × MeaningDue meaning files status text)
+
+-- the output took a text whole
+abbrev pub Took : List ℕ → Option (List ℕ) → Option (List ℕ) → Type 0
+Took text before after = after ≡ with_taken text before
+
+-- what was printed with an answer, where `IsDue` says which answer is due with which text: the whole text with an answer that
+-- is due; nothing where the folder failed, a strict prefix of the text due where the output failed, a prefix where memory ended
+abbrev pub Prints : (Status → List ℕ → Type 0) → Option (List ℕ) → Option (List ℕ) → Status → Type 0
+Prints IsDue before after (statuses.Device things.Dir) = after ≡ before
+Prints IsDue before after (statuses.Device things.Source) = ⊥
+Prints IsDue before after (statuses.Device things.Sink) = (status : Status) × (text : List ℕ) × IsDue status text × (count : ℕ) × (count < length text) × Took (take count text) before after
+Prints IsDue before after statuses.NoMemory = (after ≡ before) ⊎ ((status : Status) × (text : List ℕ) × IsDue status text × (count : ℕ) × Took (take count text) before after)
+Prints IsDue before after statuses.Ok = (text : List ℕ) × IsDue statuses.Ok text × Took text before after
+Prints IsDue before after statuses.Usage = (text : List ℕ) × IsDue statuses.Usage text × Took text before after
+Prints IsDue before after (statuses.NotStanding generation fault) = (text : List ℕ) × IsDue (statuses.NotStanding generation fault) text × Took text before after
+Prints IsDue before after (statuses.Refused refusal) = (text : List ℕ) × IsDue (statuses.Refused refusal) text × Took text before after
+
+-- the answer is one that the words and the files determine
+abbrev pub IsAnswer : Status → Type 0
+IsAnswer (statuses.Device which) = ⊥
+IsAnswer statuses.NoMemory = ⊥
+IsAnswer status = Unit {0}

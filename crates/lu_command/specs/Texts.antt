@@ -1,0 +1,45 @@
+-- The texts that answers print.
+use Rattle.std.specs.Prelude.{ℕ, suc, ◌+◌, ◌/◌, ◌%◌, List, [], ◌∷◌, ◌++◌, codes, unwrap_or}
+use Rattle.std.specs.Char.{digit_char}
+use Rattle.std.specs.Fmt.{decimal}
+use Rattle.lu_prims.specs.Quoted.{quoted_text}
+use Rattle.lu_types.specs.Tables.{TableField}
+use Rattle.lu_types.specs.Kinds.{extension}
+use Rattle.lu_types.specs.Names.{part_name}
+use Rattle.lu_types.specs.Rules.{name_of_rule}
+use Rattle.lu_types.specs.declared.kind.FileKind.{FileKind}
+use Rattle.lu_types.specs.declared.fault.Spot.{Spot}
+
+-- a text and the line feed after it
+abbrev pub line : List ℕ → List ℕ
+line text = text ++ 10 ∷ []
+
+-- two texts, one space apart
+infixl 6 ◌▹◌
+abbrev pub ◌▹◌ : List ℕ → List ℕ → List ℕ
+a ▹ b = a ++ 32 ∷ b
+
+-- the two hexadecimal digits of a byte
+abbrev pub hex_byte : ℕ → List ℕ
+hex_byte b = digit_char (b / 16) ∷ digit_char (b % 16) ∷ []
+
+-- the line of words without a meaning
+abbrev pub usage_text : List ℕ
+usage_text = line (codes "usage: lucene3 COMMAND [DIR] [ARGUMENTS]")
+
+-- the line of a fault of a segment's file: its name, the offset, the rule and the rule's name
+abbrev pub fault_text : List ℕ → Spot → List ℕ
+fault_text segment spot = line (codes "fault" ▹ part_name segment spot.kind ▹ decimal spot.offset ▹ decimal spot.rule ▹ unwrap_or (name_of_rule spot.rule) [])
+
+-- the line of a file that is too long
+abbrev pub too_large_text : FileKind → List ℕ
+too_large_text kind = line (codes "refused:" ▹ codes "FileTooLarge" ▹ extension kind)
+
+-- the line of a field: its number, its bits and its name
+abbrev pub field_line : ℕ → TableField → List ℕ
+field_line number field = line (codes "field" ▹ decimal number ▹ hex_byte field.bits ▹ quoted_text field.name)
+
+-- the lines of fields, numbered from here on
+abbrev pub field_lines : ℕ → List TableField → List ℕ
+field_lines number [] = []
+field_lines number (field ∷ fields) = field_line number field ++ field_lines (number + 1) fields

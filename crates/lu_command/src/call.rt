@@ -1,0 +1,137 @@
+//! The call that answers the words of the program.
+ghost use Rattle.std.specs.Prelude.{◌≡◌, ◌≢◌, ℕ, List, Some, MatchOption, string_bytes};
+ghost use Rattle.std.specs.Option.{option_copied};
+ghost use Rattle.lu_types.specs.Names.{part_name as name_of_part};
+ghost use Rattle.lu_dir.specs.Faults.{IsCaused};
+ghost use Rattle.lu_command.specs.Words.{texts};
+ghost use Rattle.lu_command.specs.Commands.{Meaning, Means};
+ghost use Rattle.lu_command.specs.Answers.{Prints, FieldsSays, FieldsDue, MeaningDue, Due};
+ghost use Rattle.lu_command.specs.Texts.{too_large_text as text_of_too_large};
+ghost use Rattle.lu_command.specs.Asking.{AsksFor, Asks, IsTooLarge, folder_of, status_of};
+ghost use Rattle.lu_command.specs.Meanings.{meaning_of};
+
+use crate::answer::tell;
+use crate::command::{Command, dir_and_segment_of};
+use crate::judging::fields_answer;
+use crate::limits::FILE_LIMIT;
+use crate::status::{Refusal, Status, Which};
+use crate::texts::{USAGE, too_large_text};
+use lu_dir::{Dir, DirFail, LoadFault, Sink, Source, load};
+use lu_types::{FileKind, part_name};
+use std::alloc::Global;
+
+/// The answer to a failure of the folder.
+fn stopped(fail: DirFail) -> Status
+    ensures { result ≡ status_of fail }
+{
+    match fail {
+        DirFail::Failed => Status::Device(Which::Dir),
+        DirFail::OutOfMemory => Status::NoMemory,
+    }
+}
+
+/// Prints what `fields` says of the bytes of a field table, where there are any.
+fn say_fields<K: Sink>(alloc: Global, segment: &str, found: Option<&[u8]>, out: &mut K) -> Status
+    ensures printed { Prints (FieldsSays segment.now (option_copied found.entry)) (K.taken out.old) (K.taken out.new) result }
+    ensures cause { IsCaused (K.faults out.old) (K.faults out.new) (result ≡ Status.Device Which.Sink) }
+    ensures folder { result ≢ Status.Device Which.Dir }
+{
+    match fields_answer(alloc, segment, found) {
+        Ok(answer) => tell(alloc, out, answer.status, answer.text.as_slice()),
+        Err(_) => Status::NoMemory,
+    }
+}
+
+/// Prints that the field table of the segment is too long.
+fn say_too_large<K: Sink>(alloc: Global, kind: FileKind, out: &mut K) -> Status
+    ensures printed { Prints (λ s t. (s ≡ Status.Refused (Refusal.FileTooLarge kind)) × (t ≡ text_of_too_large kind)) (K.taken out.old) (K.taken out.new) result }
+    ensures cause { IsCaused (K.faults out.old) (K.faults out.new) (result ≡ Status.Device Which.Sink) }
+    ensures folder { result ≢ Status.Device Which.Dir }
+{
+    match too_large_text(alloc, kind) {
+        Ok(text) => tell(alloc, out, Status::Refused(Refusal::FileTooLarge(kind)), text.as_bytes()),
+        Err(_) => Status::NoMemory,
+    }
+}
+
+/// Answers that the files of a command could not be loaded; `kind` is the one that is too long, where one is.
+fn say_unloaded<K: Sink>(alloc: Global, kind: FileKind, fault: LoadFault, out: &mut K) -> Status
+    ensures printed { Prints (λ s t. IsTooLarge fault × (s ≡ Status.Refused (Refusal.FileTooLarge kind)) × (t ≡ text_of_too_large kind)) (K.taken out.old) (K.taken out.new) result }
+    ensures cause { IsCaused (K.faults out.old) (K.faults out.new) (result ≡ Status.Device Which.Sink) }
+    ensures folder { result ≡ Status.Device Which.Dir → fault ≡ LoadFault.Failed }
+{
+    match fault {
+        LoadFault::TooLarge(_) => say_too_large(alloc, kind, out),
+        LoadFault::Failed => Status::Device(Which::Dir),
+        LoadFault::OutOfMemory => Status::NoMemory,
+    }
+}
+
+/// Answers `fields` in the folder that was entered.
+fn read_fields<D: Dir, K: Sink>(alloc: Global, segment: &str, dir: &mut D, out: &mut K) -> Status
+    ensures printed { Prints (FieldsDue segment.now (D.files dir.old)) (K.taken out.old) (K.taken out.new) result }
+    ensures files { D.files dir.new ≡ D.files dir.old }
+    ensures asked { D.asked dir.new ≡ D.asked dir.old }
+    ensures folder { IsCaused (D.faults dir.old) (D.faults dir.new) (result ≡ Status.Device Which.Dir) }
+    ensures output { IsCaused (K.faults out.old) (K.faults out.new) (result ≡ Status.Device Which.Sink) }
+{
+    let names = match part_name(alloc, segment, FileKind::Fnm) {
+        Ok(name) => [name],
+        Err(_) => return Status::NoMemory,
+    };
+    match load(alloc, dir, &names, FILE_LIMIT) {
+        Ok(loaded) => say_fields(alloc, segment, loaded.get(names[0].as_str()), out),
+        Err(fault) => say_unloaded(alloc, FileKind::Fnm, fault, out),
+    }
+}
+
+/// Answers `fields`.
+fn fields<D: Dir, K: Sink>(alloc: Global, path: &str, segment: &str, dir: &mut D, out: &mut K) -> Status
+    ensures printed { Prints (FieldsDue segment.now (D.files dir.old)) (K.taken out.old) (K.taken out.new) result }
+    ensures files { D.files dir.new ≡ D.files dir.old }
+    ensures asked { AsksFor path.now (D.asked dir.new) result }
+    ensures folder { IsCaused (D.faults dir.old) (D.faults dir.new) (result ≡ Status.Device Which.Dir) }
+    ensures output { IsCaused (K.faults out.old) (K.faults out.new) (result ≡ Status.Device Which.Sink) }
+{
+    match dir.enter(alloc, path) {
+        Ok(()) => read_fields(alloc, segment, dir, out),
+        Err(fail) => stopped(fail),
+    }
+}
+
+/// Answers a command.
+fn obey<D: Dir, K: Sink>(alloc: Global, command: Command<'_>, dir: &mut D, out: &mut K) -> Status
+    ensures printed { Prints (MeaningDue (meaning_of command.entry) (D.files dir.old)) (K.taken out.old) (K.taken out.new) result }
+    ensures files { D.files dir.new ≡ D.files dir.old }
+    ensures asked { AsksFor (folder_of (meaning_of command.entry)) (D.asked dir.new) result }
+    ensures folder { IsCaused (D.faults dir.old) (D.faults dir.new) (result ≡ Status.Device Which.Dir) }
+    ensures output { IsCaused (K.faults out.old) (K.faults out.new) (result ≡ Status.Device Which.Sink) }
+{
+    let (path, segment) = dir_and_segment_of(command);
+    fields(alloc, path, segment, dir, out)
+}
+
+/// Does what the words after the program's name ask for, over this folder, input and output, and answers how it went.
+///
+/// An answer comes only where it is due by the words and the files, and then its text is printed whole; `Device` comes
+/// only where a fault of that thing was counted in the call, and `NoMemory` may come at any time. With neither, the
+/// answer that is due comes.
+pub fn run<D: Dir, S: Source, K: Sink>(
+    alloc: Global,
+    words: &[String],
+    dir: &mut D,
+    src: &mut S,
+    out: &mut K,
+) -> Status
+    ensures printed { Prints (Due (texts words.now) (D.files dir.old)) (K.taken out.old) (K.taken out.new) result }
+    ensures files { D.files dir.new ≡ D.files dir.old }
+    ensures asked { Asks (texts words.now) (D.asked dir.old) (D.asked dir.new) result }
+    ensures folder { IsCaused (D.faults dir.old) (D.faults dir.new) (result ≡ Status.Device Which.Dir) }
+    ensures output { IsCaused (K.faults out.old) (K.faults out.new) (result ≡ Status.Device Which.Sink) }
+    ensures input { src.new ≡ src.old }
+{
+    match Command::of(words) {
+        Some(command) => obey(alloc, command, dir, out),
+        None => tell(alloc, out, Status::Usage, USAGE.as_bytes()),
+    }
+}

@@ -1,0 +1,57 @@
+//! The answers of a call, and their exit numbers.
+ghost use Rattle.std.specs.Prelude.{◌≡◌};
+ghost use Rattle.lu_command.specs.Codes.{code_of};
+
+use lu_types::{Fault, FileKind};
+
+/// A thing of the outside that failed.
+#[derive(Clone, Copy, Debug, PartialEq, Eq)]
+pub enum Which {
+    /// The folder.
+    Dir,
+    /// The input.
+    Source,
+    /// The output.
+    Sink,
+}
+
+/// Why a call whose words have a meaning was refused.
+#[derive(Clone, Copy, Debug, PartialEq, Eq)]
+pub enum Refusal {
+    /// This is the first file that the command came to read and that has over 2^31 - 1 bytes.
+    FileTooLarge(FileKind),
+}
+
+/// What a call answers.
+#[derive(Clone, Copy, Debug, PartialEq, Eq)]
+pub enum Status {
+    /// The command was done, and its text was written whole.
+    Ok,
+    /// A needed file is absent or not good: the generation of the commit, 0 for a command that needs none, and the first
+    /// fault.
+    NotStanding(u64, Fault),
+    /// The words have no meaning.
+    Usage,
+    /// The call was refused.
+    Refused(Refusal),
+    /// The device failed: a fault of this thing of the outside was counted in the call.
+    Device(Which),
+    /// There was no memory.
+    NoMemory,
+}
+
+impl Status {
+    /// The exit number of the program.
+    pub fn code(&self) -> u8
+        ensures { result ≡ code_of self.now }
+    {
+        match self {
+            Status::Ok => 0,
+            Status::NotStanding(..) => 1,
+            Status::Usage => 2,
+            Status::Refused(_) => 3,
+            Status::Device(_) => 4,
+            Status::NoMemory => 5,
+        }
+    }
+}

@@ -5,6 +5,7 @@
 mod call_plan;
 mod dir;
 mod fail;
+mod fault_count;
 mod fault_dir;
 mod fault_stream;
 mod file_map;

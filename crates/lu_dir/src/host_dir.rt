@@ -1,5 +1,5 @@
 //! The real folder.
-ghost use Rattle.std.specs.Prelude.{◌≡◌, None, option_map, string_bytes, IsErrOf};
+ghost use Rattle.std.specs.Prelude.{◌≡◌, None, IsErrOf};
 ghost use Rattle.lu_dir.specs.Faults.{IsCaused};
 
 use crate::dir::Dir;
@@ -8,6 +8,7 @@ use crate::fault_count::FaultCount;
 use std::alloc::{AllocError, Global};
 use std::fs::{self, DirEntry, OpenFile, OpenOptions};
 use std::io::{self, Read, Seek, SeekFrom, Write};
+use std::marker::Model;
 use std::rt::Runtime;
 
 /// The folder at a path of the system; before `enter`, the current folder. It does not tell its files. Each file is
@@ -19,10 +20,20 @@ pub struct HostDir<'r, R: Runtime + AllocGlobal> {
     faults: FaultCount,
 }
 
+impl<'r, R: Runtime + AllocGlobal> Model for HostDir<'r, R> {
+    ghost use Rattle.std.specs.Prelude.{option_map, string_bytes};
+    ghost use Rattle.lu_dir.specs.Host.{Host};
+
+    ghost Value = { Host };
+
+    ghost view = { λ a. record { asked = option_map string_bytes a.path; faults = a.faults } };
+}
+
 impl<'r, R: Runtime + AllocGlobal> HostDir<'r, R> {
     /// The folders of the system.
     pub fn new(rt: &'r R) -> HostDir<'r, R>
-        ensures { result.faults ≡ 0 }
+        ensures asked { result.asked ≡ None }
+        ensures faults { result.faults ≡ 0 }
     {
         HostDir {
             rt,
@@ -33,7 +44,7 @@ impl<'r, R: Runtime + AllocGlobal> HostDir<'r, R> {
 
     /// The answer of a call of the system, whose failure is counted.
     fn answer<T>(&mut self, outcome: io::Result<T>) -> Result<T, DirFail>
-        ensures path { self.new.path ≡ self.old.path }
+        ensures asked { self.new.asked ≡ self.old.asked }
         ensures cause { IsCaused self.old.faults self.new.faults (IsErrOf result DirFail.Failed) }
     {
         match outcome {
@@ -44,7 +55,7 @@ impl<'r, R: Runtime + AllocGlobal> HostDir<'r, R> {
 
     /// The answer of a call of the system that may have changed a file: it failed whatever the reason.
     fn answer_changed<T>(&mut self, outcome: io::Result<T>) -> Result<T, DirFail>
-        ensures path { self.new.path ≡ self.old.path }
+        ensures asked { self.new.asked ≡ self.old.asked }
         ensures cause { IsCaused self.old.faults self.new.faults (IsErrOf result DirFail.Failed) }
     {
         match outcome {
@@ -138,7 +149,7 @@ fn remove_at<R: Runtime + AllocGlobal>(rt: &R, path: &str) -> io::Result<()> {
 impl<R: Runtime + AllocGlobal> Dir for HostDir<'_, R> {
     ghost files = { λ _. None };
 
-    ghost asked = { λ d. option_map string_bytes d.path };
+    ghost asked = { λ d. d.asked };
 
     ghost faults = { λ d. d.faults };
 

@@ -1,4 +1,4 @@
-use Rattle.std.proofs.Common.{◌≡◌, ℕ, ◌≤◌, length, take, drop, Some, ◌+◌, ap, sym, ◌∙◌, arith, length-append, length-take-le}
+use Rattle.std.proofs.Common.{◌≡◌, ◌≤◌, length, take, drop, Some, ◌+◌, ap, ◌∙◌, arith, length-append, length-take-le}
 use Rattle.std.proofs.lemmas.List.{drop-drop}
 use Rattle.lu_dir.proofs.Moved.{Moves-end, Moves-rest, Moves-count, left-more, read-more}
 use Rattle.lu_dir.proofs.reading.read_all.Goals as goal

@@ -1,5 +1,5 @@
 -- Bytes that are moved out of an input one piece after another.
-use Rattle.std.proofs.Common.{◌≡◌, ℕ, ◌+◌, ◌≤◌, ◌<◌, List, [], ◌++◌, take, drop, length, Option, Some, drop-drop, sym, ap, ◌∙◌, arith, length-take, length-drop, append-nil}
+use Rattle.std.proofs.Common.{◌≡◌, ℕ, ◌+◌, ◌≤◌, ◌<◌, List, [], ◌++◌, take, drop, length, Option, Some, drop-drop, sym, ap, ◌∙◌, arith, length-take, length-drop, length-append, append-nil}
 use Rattle.std.proofs.Math.Seq.{take-add}
 use Rattle.std.proofs.lemmas.List.{take-append-drop, take_at, length-take-le}
 use Rattle.lu_dir.specs.Streams.{Moves}
@@ -35,3 +35,7 @@ left-more bytes new left count now size is = is ∙ ap Some (drop-drop count (le
 -- what was read after one piece more
 pub read-more : (bytes new left before after : List ℕ) (count : ℕ) → length new ≡ length bytes + count → new ≡ bytes ++ take count after → bytes ≡ take (length bytes) left → Moves count (drop (length bytes) left) before after → new ≡ take (length new) left
 read-more bytes new left before after count size is read moves = is ∙ Moves-more bytes left before after count read moves ∙ ap (λ (many : ℕ). take many left) (sym size)
+
+-- how many bytes there are after one piece more
+pub size-more : (bytes new after : List ℕ) (count : ℕ) → new ≡ bytes ++ take count after → count ≤ length after → length new ≡ length bytes + count
+size-more bytes new after count is fits = ap length is ∙ length-append bytes (take count after) ∙ ap (λ (many : ℕ). length bytes + many) (length-take-le count after fits)

@@ -3,6 +3,7 @@ pub mod CallPlan
 pub mod FileMap
 pub mod Files
 pub mod Folder
+pub mod Host
 pub mod LoadFaults
 pub mod Loading
 pub mod Planned

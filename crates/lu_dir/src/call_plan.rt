@@ -5,6 +5,7 @@ ghost use Rattle.lu_dir.specs.Planned.{next_count};
 ghost use Rattle.lu_dir.specs.CallPlan.{is_due};
 
 use crate::fail::DirFail;
+use crate::fault_count::FaultCount;
 use std::marker::Model;
 
 /// The calls that are to fail, counted from 1, how many were made, and how many failed.
@@ -12,7 +13,7 @@ use std::marker::Model;
 pub struct Plan {
     fails: Vec<u64>,
     calls: u64,
-    faults: u64,
+    faults: FaultCount,
 }
 
 impl Model for Plan {
@@ -33,7 +34,7 @@ impl Plan {
         Plan {
             fails,
             calls: 0,
-            faults: 0,
+            faults: FaultCount::new(),
         }
     }
 
@@ -53,7 +54,6 @@ impl Plan {
         ensures counted { self.new ≡ record self.old { faults = next_count self.old.faults } }
         ensures rose { Rose self.old.faults self.new.faults }
     {
-        self.faults = self.faults.saturating_add(1);
-        DirFail::Failed
+        self.faults.rise()
     }
 }

@@ -8,6 +8,7 @@ ghost use Rattle.lu_dir.specs.Planned.{next_count, next_failure, left_by_create,
 
 use crate::dir::Dir;
 use crate::fail::DirFail;
+use crate::fault_count::FaultCount;
 use crate::mem_dir::MemDir;
 use crate::plan::{Fail, Left, failure_of_call};
 use lu_prims::OutOfMemory;
@@ -24,7 +25,7 @@ pub struct FaultDir {
     fails: Vec<Fail>,
     stop: Option<u64>,
     calls: u64,
-    faults: u64,
+    faults: FaultCount,
 }
 
 impl Model for FaultDir {
@@ -48,7 +49,7 @@ impl FaultDir {
             fails,
             stop,
             calls: 0,
-            faults: 0,
+            faults: FaultCount::new(),
         }
     }
 
@@ -101,8 +102,7 @@ impl FaultDir {
         ensures counted { self.new ≡ record self.old { faults = next_count self.old.faults } }
         ensures rose { Rose self.old.faults self.new.faults }
     {
-        self.faults = self.faults.saturating_add(1);
-        DirFail::Failed
+        self.faults.rise()
     }
 }
 

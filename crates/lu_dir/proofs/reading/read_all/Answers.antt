@@ -1,6 +1,6 @@
-use Rattle.std.proofs.Common.{◌≡◌, ℕ, ◌≤◌, length, take, drop, Some, ◌+◌, ap, sym, ◌∙◌, arith, length-append, length-take-le}
+use Rattle.std.proofs.Common.{◌≤◌, length, drop, Some, ◌+◌, ap, ◌∙◌, arith}
 use Rattle.std.proofs.lemmas.List.{drop-drop}
-use Rattle.lu_dir.proofs.Moved.{Moves-end, Moves-rest, Moves-count, Moves-more}
+use Rattle.lu_dir.proofs.Moved.{Moves-end, Moves-rest, Moves-count, left-more, read-more, size-more}
 use Rattle.lu_dir.proofs.reading.read_all.Goals as goal
 
 pub returns-in-Ok-eq0-clause-all : goal.returns-in-Ok-eq0-clause-all
@@ -38,16 +38,13 @@ loop-bytes-preserved g c =
     let count = c.in-Ok.count in
     let new = c.extend_from_slice.new.self.items in
     let fits : count ≤ length c.read.new.buf = omega (arith, c.in-Ok.ensures.within, c.read.auto.buf) in
-    let size : length new ≡ length bytes + count = omega (arith, ap length c.in_default.ensures.items, length-append bytes (take count c.read.new.buf), length-take-le count c.read.new.buf fits) in
+    let size = size-more bytes new c.read.new.buf count c.in_default.ensures.items fits in
     record {
       left = λ left is.
-          let moved = c.in-Ok.ensures.moved (drop (length bytes) left) (c.loop-bytes.invariant.left left is) in
-          moved.1 ∙ ap Some (drop-drop count (length bytes) left ∙ ap (λ (many : ℕ). drop many left) (sym size));
+          left-more bytes new left count _ size (c.in-Ok.ensures.moved (drop (length bytes) left) (c.loop-bytes.invariant.left left is)).1;
       read = λ left is.
-          let moved = c.in-Ok.ensures.moved (drop (length bytes) left) (c.loop-bytes.invariant.left left is) in
-          c.in_default.ensures.items
-          ∙ Moves-more bytes left c.loop-bytes.piece c.read.new.buf count (c.loop-bytes.invariant.read left is) moved.0
-          ∙ ap (λ (many : ℕ). take many left) (sym size);
+          read-more bytes new left c.loop-bytes.piece c.read.new.buf count size c.in_default.ensures.items (c.loop-bytes.invariant.read left is)
+          (c.in-Ok.ensures.moved (drop (length bytes) left) (c.loop-bytes.invariant.left left is)).0;
       within = omega (arith, size, c.if-len-count.false, c.len.ensures);
       room = omega (arith, c.read.auto.buf);
       later = omega (arith, c.in-Ok.ensures.cause.later);

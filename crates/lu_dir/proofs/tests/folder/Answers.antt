@@ -7,4 +7,4 @@ use Rattle.lu_dir.proofs.tests.folder.Goals as goal
 pub returns : goal.returns
 returns c =
     subst (λ (there : Option (List ℕ)). IsSomeAnd there (λ bytes. 1 + 4 ≤ length bytes))
-      (sym (ap (λ files. contents files (102 ∷ [])) c.in_ok-put.ensures.files ∙ contents-with_file-same (102 ∷ []) _ _)) (lit≤ tt)
+    (sym (ap (λ files. contents files (102 ∷ [])) c.in_ok-put.ensures.files ∙ contents-with_file-same (102 ∷ []) _ _)) (lit≤ tt)

@@ -5,5 +5,6 @@ pub mod HeldNames
 pub mod Leavings
 pub mod Loads
 pub mod Moved
+pub mod Named
 pub mod Ranges
 pub mod Taken

@@ -40,7 +40,9 @@ impl FaultCount {
 
     /// What an error of the system is to its caller: want of memory, or else a failure, which is counted.
     pub fn answer(&mut self, error: &io::Error) -> DirFail
-        ensures { IsCaused self.old self.new (result ≡ DirFail.Failed) }
+        ensures failed { result ≡ DirFail.Failed → self.new ≡ next_count self.old }
+        ensures memory { result ≡ DirFail.OutOfMemory → self.new ≡ self.old }
+        ensures cause { IsCaused self.old self.new (result ≡ DirFail.Failed) }
     {
         if error.kind() == io::ErrorKind::OutOfMemory {
             DirFail::OutOfMemory

@@ -32,3 +32,6 @@ pub use plan::{Fail, Left};
 pub use reading::read_all;
 pub use stream::{Sink, Source};
 pub use writing::write_all;
+
+#[cfg(test)]
+mod tests;

@@ -1,1 +1,4 @@
+mod Rows
 pub mod Records
+pub mod SpelledBytes
+pub mod Spellings

@@ -1,5 +1,5 @@
 -- The spelling of a table is read as the table.
-use Rattle.std.proofs.Common.{◌≡◌, ◌≢◌, ℕ, zero, suc, ◌+◌, ◌<◌, ◌≤◌, ◌^◌, Bool, true, false, leb, List, [], ◌∷◌, ◌++◌, length, take, get_or, map, flat_map, All, position, bytes_eq, Option, None, Result, Ok, refl, sym, ap, subst, ◌∙◌, arith, inl, inr, append_assoc}
+use Rattle.std.proofs.Common.{◌≡◌, ◌≢◌, ℕ, zero, suc, ◌+◌, ◌<◌, ◌≤◌, ◌^◌, Bool, false, leb, List, [], ◌∷◌, ◌++◌, length, take, get_or, map, flat_map, All, bytes_eq, Option, None, Ok, refl, sym, ap, subst, ◌∙◌, arith, inl, inr}
 use Rattle.std.specs.List.{position_or_len}
 use Rattle.std.specs.Cmp.Lexicographic.{bytes_decides}
 use Rattle.std.proofs.Math.Seq.{take-suc}
@@ -15,7 +15,7 @@ use Rattle.lu_grammar.specs.Meaning.{Reads}
 use Rattle.lu_grammar.proofs.Files.{Reads-from}
 use Rattle.lu_grammar.proofs.Writers.{Writes, Writes-due, Writes-none, Writes-record, read_file-Writes}
 use Rattle.lu_types.specs.Tables.{TableField, number_of, IsTable}
-use Rattle.field_infos.specs.Fnm.{FnmRecord, header, field, header_shape, header_conditions, field_shape, field_conditions, format_number, is_other_count, lacks_prox, one_field, after_header, fnm_plan}
+use Rattle.field_infos.specs.Fnm.{header, field, header_shape, header_conditions, field_shape, field_conditions, format_number, is_other_count, lacks_prox, one_field, after_header, fnm_plan}
 use Rattle.field_infos.proofs.SpelledBytes.{IsBytes-nil, IsBytes-cons, IsBytes-append, IsBytes-flat_map, IsBytes-groups, IsBytes-text}
 use Rattle.lu_types.specs.declared.field.FieldInfo.{FieldInfo}
 use Rattle.field_infos.specs.Spelling.{field_of_info, AreNamed, field_spelling, header_spelling, fnm_spelling}

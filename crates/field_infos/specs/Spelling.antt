@@ -1,5 +1,5 @@
 -- The bytes of a field table.
-use Rattle.std.specs.Prelude.{ℕ, ◌<◌, ◌^◌, List, ◌++◌, length, All}
+use Rattle.std.specs.Prelude.{ℕ, List, ◌++◌, length, All}
 use Rattle.std.specs.List.{flat_map}
 use Rattle.lu_grammar.specs.Parts.{byte, vint, num, text, spelling, IsValue}
 use Rattle.lu_types.specs.Tables.{TableField}

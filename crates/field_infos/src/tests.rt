@@ -1,10 +1,14 @@
 //! Field tables, read and written: bytes that come from the format, and not from this crate.
+ghost use Rattle.std.specs.Prelude.{◌≡◌, IfOk};
+
 use crate::{FieldInfo, check, write};
+use lu_prims::OutOfMemory;
 use lu_types::rules::{
     ENDS, FIELD_BITS, FIELD_TWICE, FNM_FORMAT, LONG_NUMBER, NORM_COUNT, NOT_UTF8, PROX_FIELD,
     TRAILING,
 };
 use lu_types::{CodecFault, FileKind, Spot, Text};
+use std::alloc::Global;
 use std::test::Fail;
 
 /// The fields `title`, of bits 10, and `body`, of bits 0F.
@@ -87,7 +91,7 @@ fn a_faulty_table_has_its_first_fault(rt: HostRuntime) {
 }
 
 #[test]
-fn a_table_is_read_and_written(rt: HostRuntime) -> Result<(), Fail> {
+fn a_table_is_read(rt: HostRuntime) -> Result<(), Fail> {
     let table = check(rt.alloc(), TITLE_AND_BODY, true, Some(2))?;
     assert_eq!(rt; table.count(), 2);
     assert_eq!(rt; table.find("title"), Some(0));
@@ -97,18 +101,29 @@ fn a_table_is_read_and_written(rt: HostRuntime) -> Result<(), Fail> {
     assert_eq!(rt; body.name, "body");
     assert_eq!(rt; body.bits, 0x0f);
     assert!(rt; table.field(2).is_none());
+    Ok(())
+}
 
+/// A field of this name, with these bits.
+fn info(alloc: Global, name: &str, bits: u8) -> Result<FieldInfo, OutOfMemory>
+    ensures { IfOk result (λ info. (info.name ≡ name.now) × (info.bits ≡ bits)) }
+{
+    let text = String::from_str(alloc, name)?;
+    Ok(FieldInfo {
+        name: Text::new(text),
+        bits,
+    })
+}
+
+#[test]
+fn a_table_is_written(rt: HostRuntime) -> Result<(), Fail> {
     let fields = [
-        FieldInfo {
-            name: Text::new(String::from(rt.alloc(), "title")?),
-            bits: 0x10,
-        },
-        FieldInfo {
-            name: Text::new(String::from(rt.alloc(), "body")?),
-            bits: 0x0f,
-        },
+        info(rt.alloc(), "title", 0x10)?,
+        info(rt.alloc(), "body", 0x0f)?,
     ];
     let written = write(rt.alloc(), &fields)?;
     assert_eq!(rt; written.as_slice(), TITLE_AND_BODY);
+    let none = write(rt.alloc(), &[])?;
+    assert_eq!(rt; none.as_slice(), b"\xfe\xff\xff\xff\x0f\x00".as_slice());
     Ok(())
 }

@@ -37,10 +37,12 @@ fn put_field(out: &mut Vec<u8>, info: &FieldInfo) -> Result<(), OutOfMemory>
     Ok(())
 }
 
-/// What is written reads as the table: with positions or without, where no field lacks them, and for the number of
-/// fields that the commit counts norms for, where it counts any.
+/// What is written reads as the table, with positions or without, where no field lacks them, and for the number of
+/// fields that the commit counts norms for, where it counts any; and no other bytes read so.
 pub fn written_reads()
-    ensures { (has_prox : Bool) (norm_fields : Option ℕ) (fields : List TableField) → IsTable fields → AreNamed fields
+    ensures reads { (has_prox : Bool) (norm_fields : Option ℕ) (fields : List TableField) → IsTable fields → AreNamed fields
         → All (λ field. lacks_prox has_prox field.bits ≡ false) fields → is_other_count norm_fields (length fields) ≡ false
         → Reads (fnm_plan has_prox norm_fields) (fnm_spelling fields) fields }
+    ensures only { (has_prox : Bool) (norm_fields : Option ℕ) (bytes : List ℕ) (fields : List TableField)
+        → Reads (fnm_plan has_prox norm_fields) bytes fields → bytes ≡ fnm_spelling fields }
 {}

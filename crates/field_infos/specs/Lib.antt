@@ -1,1 +1,2 @@
 pub mod Fnm
+pub mod Spelling

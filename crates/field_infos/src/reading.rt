@@ -10,6 +10,7 @@ ghost use Rattle.lu_types.specs.Fields.{table_field};
 ghost use Rattle.lu_types.specs.Judging.{IsFault, GivesPlan};
 ghost use Rattle.field_infos.specs.Fnm.{format_number, lacks_prox as has_no_prox, header as header_of, field as field_of, header_shape, field_shape, header_conditions, field_conditions, one_field, fnm_plan};
 
+use crate::FORMAT;
 use lu_prims::{Bad, Cur};
 use lu_types::bits::{INDEXED, OMIT_TF, has_bit};
 use lu_types::rules::{
@@ -17,9 +18,6 @@ use lu_types::rules::{
 };
 use lu_types::{CodecFault, Field, FieldTable, FileKind, Spot};
 use std::alloc::Global;
-
-/// The format number -2, as the VInt that spells it.
-const FORMAT: u32 = 0xFFFF_FFFE;
 
 /// The first bit that no field has.
 const UNUSED_BIT: u8 = 0x80;

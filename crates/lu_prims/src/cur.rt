@@ -1,4 +1,4 @@
-//! A place in some bytes, and the parts that are read there (format page, "Numbers and texts").
+//! A place in some bytes, and the parts that are read there.
 ghost use Rattle.std.specs.Prelude.{◌≡◌, ℕ, ◌+◌, ◌-◌, ◌^◌, ◌<◌, ◌≤◌, true, length, drop, IfOk, OnOk, MatchResult, Result, Ok, Err};
 ghost use Rattle.lu_grammar.specs.Bytes.{Cursor, moved};
 ghost use Rattle.lu_grammar.specs.Parts.{byte, int32, int64, vint, num, vlong, text, bytes as so_many};
@@ -9,8 +9,8 @@ use crate::Bad;
 use crate::front::{byte_at, bytes_at, int32_at, int64_at, num_at, text_at, vint_at, vlong_at};
 use std::marker::Model;
 
-/// A place in borrowed bytes. Each reading call takes one part and moves behind it; after an `Err` the place is as before.
-/// No call takes memory.
+/// A place in borrowed bytes. Each reading call takes one part (format page, "Numbers and texts") and moves behind it; after
+/// an `Err` the place is as before. No call takes memory.
 #[derive(Drop)]
 pub struct Cur<'a> {
     bytes: &'a [u8],

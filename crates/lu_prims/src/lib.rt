@@ -20,3 +20,6 @@ pub use memory::OutOfMemory;
 pub use put::{put_i32, put_i64, put_text, put_vint, put_vlong};
 pub use quoting::{quoted, quoted_texts};
 pub use utf16::{utf16_cmp, utf16_order};
+
+#[cfg(test)]
+mod tests;

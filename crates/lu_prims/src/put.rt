@@ -1,4 +1,4 @@
-//! The spellings of numbers and texts, appended to a list of bytes (format page, "Numbers and texts").
+//! The spellings of numbers and texts, appended to a list of bytes.
 ghost use Rattle.std.specs.Prelude.{◌≡◌, ℕ, ◌+◌, ◌++◌, ◌^◌, ◌<◌, ◌≤◌, length, OnOk, OnErr};
 ghost use Rattle.lu_grammar.specs.Parts.{groups, spelling, int32, int64, vint, vlong, text as a_text};
 
@@ -11,7 +11,7 @@ const MOST_GROUPS: usize = 9;
 /// What is added to a group that others follow, and what each group is worth more than the one before it.
 const HIGH_BIT: u64 = 128;
 
-/// Appends an Int32: four bytes, high-order first. On `Err` the list is as before.
+/// Appends an Int32: four bytes, high-order first (format page, "Numbers and texts"). On `Err` the list is as before.
 pub fn put_i32(out: &mut Vec<u8>, value: i32) -> Result<(), OutOfMemory>
     ensures ok { OnOk result (out.new.items ≡ out.old.items ++ spelling int32 value) }
     ensures err { OnErr result (out.new.items ≡ out.old.items) }
@@ -22,7 +22,7 @@ pub fn put_i32(out: &mut Vec<u8>, value: i32) -> Result<(), OutOfMemory>
     Ok(())
 }
 
-/// Appends an Int64: eight bytes, high-order first. On `Err` the list is as before.
+/// Appends an Int64: eight bytes, high-order first (format page, "Numbers and texts"). On `Err` the list is as before.
 pub fn put_i64(out: &mut Vec<u8>, value: i64) -> Result<(), OutOfMemory>
     ensures ok { OnOk result (out.new.items ≡ out.old.items ++ spelling int64 value) }
     ensures err { OnErr result (out.new.items ≡ out.old.items) }
@@ -52,7 +52,7 @@ fn put_groups(out: &mut Vec<u8>, value: u64) -> Result<(), OutOfMemory>
     Ok(())
 }
 
-/// Appends a VInt, in its shortest form. On `Err` the list is as before.
+/// Appends a VInt, in its shortest form (format page, "Numbers and texts"). On `Err` the list is as before.
 pub fn put_vint(out: &mut Vec<u8>, value: u32) -> Result<(), OutOfMemory>
     ensures ok { OnOk result (out.new.items ≡ out.old.items ++ spelling vint value) }
     ensures err { OnErr result (out.new.items ≡ out.old.items) }
@@ -60,7 +60,7 @@ pub fn put_vint(out: &mut Vec<u8>, value: u32) -> Result<(), OutOfMemory>
     put_groups(out, u64::from(value))
 }
 
-/// Appends a VLong, in its shortest form. On `Err` the list is as before.
+/// Appends a VLong, in its shortest form (format page, "Numbers and texts"). On `Err` the list is as before.
 pub fn put_vlong(out: &mut Vec<u8>, value: u64) -> Result<(), OutOfMemory>
     requires { value < 2 ^ 63 }
     ensures ok { OnOk result (out.new.items ≡ out.old.items ++ spelling vlong value) }
@@ -69,7 +69,7 @@ pub fn put_vlong(out: &mut Vec<u8>, value: u64) -> Result<(), OutOfMemory>
     put_groups(out, value)
 }
 
-/// Appends a String: its length in bytes, and then its UTF-8. On `Err` the list is as before.
+/// Appends a String: its length in bytes, and then its UTF-8 (format page, "Numbers and texts"). On `Err` the list is as before.
 pub fn put_text(out: &mut Vec<u8>, text: &str) -> Result<(), OutOfMemory>
     requires { length text.now < 2 ^ 31 }
     ensures ok { OnOk result (out.new.items ≡ out.old.items ++ spelling a_text text.now) }

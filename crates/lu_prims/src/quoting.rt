@@ -14,7 +14,7 @@ const ESCAPE: u8 = b'\\';
 /// The last of the control characters, which are those below U+0020.
 const LAST_CONTROL: u8 = 0x1f;
 
-/// Appends the text between two `"` (format page, "Printed listing"). In it `"` is written `\"`, `\` is written `\\`, and a
+/// Appends the text between two `"` (format page, "Printed texts"). In it `"` is written `\"`, `\` is written `\\`, and a
 /// character below U+0020 is written `\u` with four lower-case hexadecimal digits; all others stand as they are.
 ///
 /// The only error is `OutOfMemory`; the output is then as before.

@@ -2,6 +2,7 @@
 use Rattle.std.specs.Prelude.{◌≡◌, ℕ, ◌<◌, ◌≤◌, ◌⊎◌, true, List, length, take, Option, Some, None, IfSome}
 use Rattle.std.specs.Option.{ForSome}
 use Rattle.lu_grammar.specs.declared.general.TheConstants.{MISSING}
+use Rattle.lu_grammar.specs.Bytes.{IsBytes}
 use Rattle.lu_grammar.specs.Meaning.{Reads}
 use Rattle.lu_dir.specs.Files.{Files, contents}
 use Rattle.lu_dir.specs.Loading.{is_over}
@@ -20,7 +21,6 @@ use Rattle.lu_command.specs.declared.status.Which.TheVariants as things
 use Rattle.lu_command.specs.declared.status.Refusal.TheVariants as refusals
 use Rattle.lu_command.specs.Commands.{Meaning, fields, Means}
 use Rattle.lu_command.specs.Texts.{usage_text, fault_text, too_large_text, field_lines}
-use Rattle.std.specs.Prelude.{true, false}
 
 -- the answer of a command that needs no commit, where a file has this fault
 abbrev pub not_standing : Spot → Status
@@ -59,6 +59,18 @@ MeaningDue (fields dir segment) files status text = FieldsDue segment files stat
 abbrev pub Due : List (List ℕ) → Option Files → Status → List ℕ → Type 0
 Due words files status text = (((meaning : Meaning) → ¬ Means words meaning) × (status ≡ statuses.Usage) × (text ≡ usage_text))
     ⊎ ((meaning : Meaning) × Means words meaning × MeaningDue meaning files status text)
+
+-- each file of the folder is made of bytes
+abbrev pub HoldsBytes : Files → Type 0
+HoldsBytes files = (name : List ℕ) → ForSome (contents files name) IsBytes
+
+-- the answer says that memory ended, or that the folder or the output failed
+abbrev pub GaveUp : Status → Type 0
+GaveUp status = (status ≡ statuses.NoMemory) ⊎ ((status ≡ statuses.Device things.Dir) ⊎ (status ≡ statuses.Device things.Sink))
+
+-- where the folder tells its files, the answer that is due is given, or the call gave up
+abbrev pub Completes : List (List ℕ) → Option Files → Status → Type 0
+Completes words files result = ForSome files (λ told. HoldsBytes told → (status : Status) (text : List ℕ) → Due words (Some told) status text → (result ≡ status) ⊎ GaveUp result)
 
 -- the output took a text whole
 abbrev pub Took : List ℕ → Option (List ℕ) → Option (List ℕ) → Type 0

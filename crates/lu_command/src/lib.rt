@@ -16,4 +16,6 @@ pub use limits::FILE_LIMIT;
 pub use status::{Refusal, Status, Which};
 
 #[cfg(test)]
+mod run_tests;
+#[cfg(test)]
 mod tests;

@@ -12,13 +12,12 @@ use Rattle.lu_types.specs.declared.kind.FileKind.TheVariants.{Fnm}
 use Rattle.lu_types.specs.declared.fault.Spot.{Spot}
 use Rattle.lu_types.specs.Judging.{IsFirstFault}
 use Rattle.field_infos.specs.Fnm.{fnm_plan}
-use Rattle.lu_command.specs.declared.limits.TheConstants.{FILE_LIMIT}
 use Rattle.lu_command.specs.declared.status.Status.{Status}
 use Rattle.lu_command.specs.declared.status.Status.TheVariants as statuses
 use Rattle.lu_command.specs.declared.status.Which.TheVariants as things
 use Rattle.lu_command.specs.Commands.{Meaning, fields}
 use Rattle.lu_command.specs.Texts.{fault_text, field_lines}
-use Rattle.lu_command.specs.Answers.{not_standing, FieldsSays, FieldsDue, MeaningDue, Due, IsFile, HoldsBytes, GaveUp, Completes, Prints}
+use Rattle.lu_command.specs.Answers.{file_limit, not_standing, FieldsSays, FieldsDue, MeaningDue, Due, IsFile, HoldsBytes, GaveUp, Completes, Prints}
 use Rattle.lu_command.proofs.MeaningLemmas.{only_meaning}
 
 -- the spot of these parts
@@ -48,14 +47,14 @@ says_one segment (Some bytes) s t x y made (inr a) (inr b) =
     (a.2 ∙ ap not_standing spot ∙ sym b.2, a.3 ∙ ap (fault_text segment) spot ∙ sym b.3)
 
 -- a file that is too long is none within the limit
-not_both : (found : Option (List ℕ)) → is_over FILE_LIMIT found ≡ true → IfSome found (λ bytes. length bytes ≤ FILE_LIMIT) → ⊥
+not_both : (found : Option (List ℕ)) → is_over file_limit found ≡ true → IfSome found (λ bytes. length bytes ≤ file_limit) → ⊥
 not_both None over within = cc
 not_both (Some bytes) over within = grind arith
 
 module _ (files : Files) (made : HoldsBytes files) where
   -- a file that is there is not too long
-  not_too_long : (name : List ℕ) (found : Option (List ℕ)) → is_over FILE_LIMIT (contents files name) ≡ true → IsFile (Some files) name found → ⊥
-  not_too_long name found over file = not_both found (ap (is_over FILE_LIMIT) (sym (file.0 files refl)) ∙ over) file.1
+  not_too_long : (name : List ℕ) (found : Option (List ℕ)) → is_over file_limit (contents files name) ≡ true → IsFile (Some files) name found → ⊥
+  not_too_long name found over file = not_both found (ap (is_over file_limit) (sym (file.0 files refl)) ∙ over) file.1
 
   -- the answer to `fields` that is due is one
   fields_one : (segment : List ℕ) (s t : Status) (x y : List ℕ) → FieldsDue segment (Some files) s x → FieldsDue segment (Some files) t y → (s ≡ t) × (x ≡ y)

@@ -1,9 +1,9 @@
 -- What is printed with an answer.
-use Rattle.std.proofs.Common.{◌≡◌, ℕ, ◌<◌, List, length, take, Option, Some, None, refl, sym, subst, ap, ◌∙◌, inl, inr, ◌⊎◌}
+use Rattle.std.proofs.Common.{◌≡◌, ℕ, List, Option, sym, subst, inl, inr}
 use Rattle.lu_command.specs.declared.status.Status.{Status}
 use Rattle.lu_command.specs.declared.status.Status.TheVariants as statuses
 use Rattle.lu_command.specs.declared.status.Which.TheVariants as things
-use Rattle.lu_command.specs.Answers.{Prints, Took}
+use Rattle.lu_command.specs.Answers.{Prints}
 
 module _ (P Q : Status → List ℕ → Type 0) (wider : (s : Status) (t : List ℕ) → P s t → Q s t) where
   -- what is due by one account is due by a wider one

@@ -3,3 +3,4 @@ pub mod WordLemmas
 pub mod TextLemmas
 pub mod AnswerLemmas
 pub mod LoadLemmas
+pub mod DueLemmas

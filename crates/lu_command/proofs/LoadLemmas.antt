@@ -1,33 +1,31 @@
 -- A file that was loaded, and one that is too long.
-use Rattle.std.proofs.Common.{◌≡◌, ℕ, ◌+◌, ◌≤◌, Bool, true, false, cond, List, [], ◌∷◌, length, Option, Some, None, refl, sym, ap, subst, ◌∙◌, arith}
-use Rattle.std.specs.Prelude.{IfSome, ◌||◌}
+use Rattle.std.proofs.Common.{◌≡◌, ℕ, ◌+◌, Bool, true, false, cond, List, [], ◌∷◌, Option, Some, None, refl, sym, ap, ◌∙◌, arith}
 use Rattle.std.specs.Option.{ForSome, option_map}
-use Rattle.std.proofs.lemmas.Bool.{cases_Bool}
-use Rattle.std.specs.Str.{bytes_eq}
 use Rattle.lu_dir.proofs.Contents.{bytes_eq-same}
 use Rattle.lu_dir.specs.Faults.{IsCaused}
 use Rattle.lu_dir.specs.Files.{Files, contents}
 use Rattle.lu_dir.specs.Loading.{AreLoaded, AreWithin, file_if_named, is_named, is_over, first_over}
-use Rattle.lu_command.specs.declared.limits.TheConstants.{FILE_LIMIT}
-use Rattle.lu_command.specs.Answers.{IsFile, IsTooLong}
+use Rattle.lu_command.specs.Answers.{file_limit, IsFile, IsTooLong}
 
 -- a name is among those that it is alone
 alone : (name : List ℕ) → is_named (name ∷ []) name ≡ true
 alone name = rw (bytes_eq-same name) refl
 
 -- the one file that was loaded
-pub IsFile-loaded : (files : Option Files) (loaded : Files) (name : List ℕ) (names : List (List ℕ)) → names ≡ name ∷ [] → ForSome files (λ told. AreLoaded told names loaded) → AreWithin FILE_LIMIT loaded
+pub IsFile-loaded : (files : Option Files) (loaded : Files) (name : List ℕ) (names : List (List ℕ)) → names ≡ name ∷ [] → ForSome files (λ told. AreLoaded told names loaded) → AreWithin file_limit loaded
     → IsFile files name (contents loaded name)
-IsFile-loaded files loaded name names is all within =
-    (λ told tells.
+IsFile-loaded files loaded name names is all within = (
+  λ told tells.
       let found : contents loaded name ≡ contents told name = all told tells name ∙ ap (λ (ns : List (List ℕ)). file_if_named told ns name) is ∙ ap (λ (t : Bool). cond t (contents told name) None) (alone name) in
-      sym found, within name)
+      sym found,
+  within name,
+)
 
 -- the one file that is too long
-pub IsTooLong-first : (files : Option Files) (name : List ℕ) (names : List (List ℕ)) (place : ℕ) → names ≡ name ∷ [] → ForSome files (λ told. first_over told FILE_LIMIT names ≡ Some place) → IsTooLong files name
-IsTooLong-first files name names place is over = λ told tells. first told (is_over FILE_LIMIT (contents told name)) refl (sym (ap (first_over told FILE_LIMIT) is) ∙ over told tells)
+pub IsTooLong-first : (files : Option Files) (name : List ℕ) (names : List (List ℕ)) (place : ℕ) → names ≡ name ∷ [] → ForSome files (λ told. first_over told file_limit names ≡ Some place) → IsTooLong files name
+IsTooLong-first files name names place is over = λ told tells. first told (is_over file_limit (contents told name)) refl (sym (ap (first_over told file_limit) is) ∙ over told tells)
   where
-    first : (told : Files) (t : Bool) → is_over FILE_LIMIT (contents told name) ≡ t → cond t (Some 0) (option_map (λ p. p + 1) (first_over told FILE_LIMIT [])) ≡ Some place → is_over FILE_LIMIT (contents told name) ≡ true
+    first : (told : Files) (t : Bool) → is_over file_limit (contents told name) ≡ t → cond t (Some 0) (option_map (λ p. p + 1) (first_over told file_limit [])) ≡ Some place → is_over file_limit (contents told name) ≡ true
     first told true e h = e
     first told false e h = absurd cc
 

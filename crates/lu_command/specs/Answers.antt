@@ -1,7 +1,8 @@
 -- Which answer is due, and what a call prints.
-use Rattle.std.specs.Prelude.{◌≡◌, ℕ, ◌<◌, ◌≤◌, ◌⊎◌, true, List, length, take, Option, Some, None, IfSome}
+use Rattle.std.specs.Prelude.{◌≡◌, ℕ, ◌-◌, ◌^◌, ◌<◌, ◌≤◌, ◌⊎◌, true, List, length, take, Option, Some, None, IfSome}
 use Rattle.std.specs.Option.{ForSome}
 use Rattle.lu_grammar.specs.declared.general.TheConstants.{MISSING}
+use Rattle.lu_grammar.specs.Bytes.{IsBytes}
 use Rattle.lu_grammar.specs.Meaning.{Reads}
 use Rattle.lu_dir.specs.Files.{Files, contents}
 use Rattle.lu_dir.specs.Loading.{is_over}
@@ -13,14 +14,12 @@ use Rattle.lu_types.specs.declared.kind.FileKind.{FileKind}
 use Rattle.lu_types.specs.declared.kind.FileKind.TheVariants.{Fnm}
 use Rattle.lu_types.specs.declared.fault.Spot.{Spot}
 use Rattle.field_infos.specs.Fnm.{fnm_plan}
-use Rattle.lu_command.specs.declared.limits.TheConstants.{FILE_LIMIT}
 use Rattle.lu_command.specs.declared.status.Status.{Status}
 use Rattle.lu_command.specs.declared.status.Status.TheVariants as statuses
 use Rattle.lu_command.specs.declared.status.Which.TheVariants as things
 use Rattle.lu_command.specs.declared.status.Refusal.TheVariants as refusals
 use Rattle.lu_command.specs.Commands.{Meaning, fields, Means}
 use Rattle.lu_command.specs.Texts.{usage_text, fault_text, too_large_text, field_lines}
-use Rattle.std.specs.Prelude.{true, false}
 
 -- the answer of a command that needs no commit, where a file has this fault
 abbrev pub not_standing : Spot → Status
@@ -30,13 +29,17 @@ not_standing spot = statuses.NotStanding 0 (record { segment = 0; spot = spot })
 abbrev pub missing : FileKind → Spot
 missing kind = record { kind = kind; offset = 0; rule = MISSING }
 
+-- the most bytes of a file that a command reads
+abbrev pub file_limit : ℕ
+file_limit = 2 ^ 31 - 1
+
 -- a folder that tells its files has a file of this name that is too long
 abbrev pub IsTooLong : Option Files → List ℕ → Type 0
-IsTooLong files name = ForSome files (λ told. is_over FILE_LIMIT (contents told name) ≡ true)
+IsTooLong files name = ForSome files (λ told. is_over file_limit (contents told name) ≡ true)
 
 -- these bytes, where there are any, are the file of this name, if the folder tells its files; and they are not too many
 abbrev pub IsFile : Option Files → List ℕ → Option (List ℕ) → Type 0
-IsFile files name found = ForSome files (λ told. contents told name ≡ found) × IfSome found (λ bytes. length bytes ≤ FILE_LIMIT)
+IsFile files name found = ForSome files (λ told. contents told name ≡ found) × IfSome found (λ bytes. length bytes ≤ file_limit)
 
 -- what `fields` says of the bytes of a field table, where there are any: its lines, or its first fault
 abbrev pub FieldsSays : List ℕ → Option (List ℕ) → Status → List ℕ → Type 0
@@ -59,6 +62,18 @@ MeaningDue (fields dir segment) files status text = FieldsDue segment files stat
 abbrev pub Due : List (List ℕ) → Option Files → Status → List ℕ → Type 0
 Due words files status text = (((meaning : Meaning) → ¬ Means words meaning) × (status ≡ statuses.Usage) × (text ≡ usage_text))
     ⊎ ((meaning : Meaning) × Means words meaning × MeaningDue meaning files status text)
+
+-- each file of the folder is made of bytes
+abbrev pub HoldsBytes : Files → Type 0
+HoldsBytes files = (name : List ℕ) → ForSome (contents files name) IsBytes
+
+-- the answer says that memory ended, or that the folder or the output failed
+abbrev pub GaveUp : Status → Type 0
+GaveUp status = (status ≡ statuses.NoMemory) ⊎ ((status ≡ statuses.Device things.Dir) ⊎ (status ≡ statuses.Device things.Sink))
+
+-- where the folder tells its files, the answer that is due is given, or the call gave up
+abbrev pub Completes : List (List ℕ) → Option Files → Status → Type 0
+Completes words files result = ForSome files (λ told. HoldsBytes told → (status : Status) (text : List ℕ) → Due words (Some told) status text → (result ≡ status) ⊎ GaveUp result)
 
 -- the output took a text whole
 abbrev pub Took : List ℕ → Option (List ℕ) → Option (List ℕ) → Type 0

@@ -3,9 +3,10 @@ ghost use Rattle.std.specs.Prelude.{◌≡◌, ◌≢◌, ℕ, List, Some, Match
 ghost use Rattle.std.specs.Option.{option_copied};
 ghost use Rattle.lu_types.specs.Names.{part_name as name_of_part};
 ghost use Rattle.lu_dir.specs.Faults.{IsCaused};
+ghost use Rattle.lu_dir.specs.Files.{Files};
 ghost use Rattle.lu_command.specs.Words.{texts};
 ghost use Rattle.lu_command.specs.Commands.{Meaning, Means};
-ghost use Rattle.lu_command.specs.Answers.{Prints, FieldsSays, FieldsDue, MeaningDue, Due};
+ghost use Rattle.lu_command.specs.Answers.{Prints, FieldsSays, FieldsDue, MeaningDue, Due, HoldsBytes, Completes};
 ghost use Rattle.lu_command.specs.Texts.{too_large_text as text_of_too_large};
 ghost use Rattle.lu_command.specs.Asking.{AsksFor, Asks, IsTooLarge, folder_of, status_of};
 ghost use Rattle.lu_command.specs.Meanings.{meaning_of};
@@ -49,7 +50,12 @@ fn say_too_large<K: Sink>(alloc: Global, kind: FileKind, out: &mut K) -> Status
     ensures folder { result ≢ Status.Device Which.Dir }
 {
     match too_large_text(alloc, kind) {
-        Ok(text) => tell(alloc, out, Status::Refused(Refusal::FileTooLarge(kind)), text.as_bytes()),
+        Ok(text) => tell(
+            alloc,
+            out,
+            Status::Refused(Refusal::FileTooLarge(kind)),
+            text.as_bytes(),
+        ),
         Err(_) => Status::NoMemory,
     }
 }
@@ -86,7 +92,13 @@ fn read_fields<D: Dir, K: Sink>(alloc: Global, segment: &str, dir: &mut D, out: 
 }
 
 /// Answers `fields`.
-fn fields<D: Dir, K: Sink>(alloc: Global, path: &str, segment: &str, dir: &mut D, out: &mut K) -> Status
+fn fields<D: Dir, K: Sink>(
+    alloc: Global,
+    path: &str,
+    segment: &str,
+    dir: &mut D,
+    out: &mut K,
+) -> Status
     ensures printed { Prints (FieldsDue segment.now (D.files dir.old)) (K.taken out.old) (K.taken out.new) result }
     ensures files { D.files dir.new ≡ D.files dir.old }
     ensures asked { AsksFor path.now (D.asked dir.new) result }
@@ -111,6 +123,12 @@ fn obey<D: Dir, K: Sink>(alloc: Global, command: Command<'_>, dir: &mut D, out: 
     fields(alloc, path, segment, dir, out)
 }
 
+/// Words and the files of a folder that tells them determine the answer and its text.
+pub fn one_answer()
+    ensures { (words : List (List ℕ)) (files : Files) (status other : Status) (text other_text : List ℕ) → HoldsBytes files
+        → Due words (Some files) status text → Due words (Some files) other other_text → (status ≡ other) × (text ≡ other_text) }
+{}
+
 /// Does what the words after the program's name ask for, over this folder, input and output, and answers how it went.
 ///
 /// An answer comes only where it is due by the words and the files, and then its text is printed whole; `Device` comes
@@ -129,6 +147,7 @@ pub fn run<D: Dir, S: Source, K: Sink>(
     ensures folder { IsCaused (D.faults dir.old) (D.faults dir.new) (result ≡ Status.Device Which.Dir) }
     ensures output { IsCaused (K.faults out.old) (K.faults out.new) (result ≡ Status.Device Which.Sink) }
     ensures input { src.new ≡ src.old }
+    ensures complete { Completes (texts words.now) (D.files dir.old) result }
 {
     match Command::of(words) {
         Some(command) => obey(alloc, command, dir, out),

@@ -37,7 +37,11 @@ fn table_answer(alloc: Global, table: &FieldTable<'_>) -> Result<Answer, OutOfMe
 }
 
 /// What `fields` says of the bytes of a field table, where there are any.
-pub fn fields_answer(alloc: Global, segment: &str, found: Option<&[u8]>) -> Result<Answer, OutOfMemory>
+pub fn fields_answer(
+    alloc: Global,
+    segment: &str,
+    found: Option<&[u8]>,
+) -> Result<Answer, OutOfMemory>
     ensures says { IfOk result (λ answer. FieldsSays segment.now (option_copied found.entry) answer.status answer.text.items) }
     ensures answer { IfOk result (λ answer. IsAnswer answer.status) }
 {

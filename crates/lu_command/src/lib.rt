@@ -2,18 +2,20 @@
 #![tactic(auto)]
 
 mod answer;
+mod call;
 mod command;
 mod judging;
 mod limits;
-mod call;
 mod status;
 mod texts;
 mod words;
 
+pub use call::{one_answer, run};
 pub use command::{Command, one_meaning};
 pub use limits::FILE_LIMIT;
-pub use call::run;
 pub use status::{Refusal, Status, Which};
 
+#[cfg(test)]
+mod run_tests;
 #[cfg(test)]
 mod tests;

@@ -18,11 +18,20 @@ fn hex_digit(value: u8) -> u8
     requires { value < 16 }
     ensures { result ≡ digit_char value }
 {
-    if value < 10 { b'0' + value } else { b'a' + (value - 10) }
+    if value < 10 {
+        b'0' + value
+    } else {
+        b'a' + (value - 10)
+    }
 }
 
 /// Appends the line of a field. After an `Err` some of it may be there.
-fn put_field_line(alloc: Global, out: &mut Vec<u8>, number: u32, field: Field<'_>) -> Result<(), OutOfMemory>
+fn put_field_line(
+    alloc: Global,
+    out: &mut Vec<u8>,
+    number: u32,
+    field: Field<'_>,
+) -> Result<(), OutOfMemory>
     ensures { OnOk result (out.new.items ≡ out.old.items ++ field_line number (table_field field.entry)) }
 {
     let head = format!(in alloc; "field {number} ")?;
@@ -36,7 +45,12 @@ fn put_field_line(alloc: Global, out: &mut Vec<u8>, number: u32, field: Field<'_
 }
 
 /// Appends the line of the field with this number.
-fn put_numbered(alloc: Global, out: &mut Vec<u8>, table: &FieldTable<'_>, number: u32) -> Result<(), OutOfMemory>
+fn put_numbered(
+    alloc: Global,
+    out: &mut Vec<u8>,
+    table: &FieldTable<'_>,
+    number: u32,
+) -> Result<(), OutOfMemory>
     requires { number < length table.now }
     ensures { (field : TableField) → slice_get table.now number ≡ Some field → OnOk result (out.new.items ≡ out.old.items ++ field_line number field) }
 {
@@ -47,7 +61,11 @@ fn put_numbered(alloc: Global, out: &mut Vec<u8>, table: &FieldTable<'_>, number
 }
 
 /// Appends the lines of a field table. After an `Err` some of them may be there.
-pub fn fields_text(alloc: Global, out: &mut Vec<u8>, table: &FieldTable<'_>) -> Result<(), OutOfMemory>
+pub fn fields_text(
+    alloc: Global,
+    out: &mut Vec<u8>,
+    table: &FieldTable<'_>,
+) -> Result<(), OutOfMemory>
     ensures { OnOk result (out.new.items ≡ out.old.items ++ field_lines 0 table.now) }
 {
     for number in 0..table.count() {

@@ -1,4 +1,3 @@
-use Rattle.std.proofs.Common.{◌≡◌, sym, subst}
 use Rattle.std.specs.Option.{option_copied}
 use Rattle.lu_command.specs.Answers.{FieldsSays}
 use Rattle.lu_command.proofs.AnswerLemmas.{Prints-one}
@@ -7,4 +6,4 @@ use Rattle.lu_command.proofs.call.say_fields.Goals as goal
 pub returns-in-Ok-clause-printed : goal.returns-in-Ok-clause-printed
 returns-in-Ok-clause-printed g c =
     Prints-one (FieldsSays c.args.segment.now (option_copied c.args.found)) c.in-Ok.answer.status c.as_slice.result.now
-      (rw c.as_slice.ensures.value c.in-Ok.ensures.says) (g.K.Sink.taken c.args.out.now) (g.K.Sink.taken c.tell.new.out) c.tell.result c.tell.ensures.printed
+    (rw c.as_slice.ensures.value c.in-Ok.ensures.says) (g.K.Sink.taken c.args.out.now) (g.K.Sink.taken c.tell.new.out) c.tell.result c.tell.ensures.printed

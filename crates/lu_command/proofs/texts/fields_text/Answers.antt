@@ -1,4 +1,4 @@
-use Rattle.std.proofs.Common.{◌≡◌, ◌++◌, ◌<◌, ◌≤◌, length, drop, refl, arith}
+use Rattle.std.proofs.Common.{◌++◌, ◌<◌, length, arith}
 use Rattle.lu_command.specs.Texts.{field_lines}
 use Rattle.lu_command.proofs.TextLemmas.{drop-get, lines-more, lines-all}
 use Rattle.lu_command.proofs.texts.fields_text.Goals as goal

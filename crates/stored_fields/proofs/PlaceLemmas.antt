@@ -1,0 +1,89 @@
+-- The records of `.fdx`, one after another.
+use Rattle.std.proofs.Common.{◌≡◌, ◌≢◌, ℕ, zero, suc, ◌+◌, ◌-◌, ◌*◌, ◌<◌, ◌≤◌, true, false, List, [], ◌∷◌, ◌++◌, length, drop, get_or, Option, Some, None, Result, Ok, Err, refl, sym, ap, subst, ◌∙◌, arith, ℤ, pos, ltb, append_assoc}
+use Rattle.std.specs.List.{last_or}
+use Rattle.lu_types.specs.declared.stored.Window.{Window}
+use Rattle.lu_grammar.specs.Bytes.{Cursor, start_of, moved}
+use Rattle.lu_grammar.specs.Parts.{int32, int64}
+use Rattle.lu_grammar.specs.Reading.{◌>>=◌, read_part}
+use Rattle.lu_grammar.specs.Records.{first_broken, record_at}
+use Rattle.lu_grammar.specs.Plans.{Plan, times, one, each, Broken, read_plan, ended, read_file}
+use Rattle.lu_grammar.proofs.Plans.{read_due, read_due_broken}
+use Rattle.lu_grammar.proofs.Loops.{times-more, times-fault, each-none}
+use Rattle.stored_fields.specs.Places.{format_shape, header_conditions, place_shape, place_conditions, is_misplaced, places_kind, fdx_plan}
+use Rattle.stored_fields.proofs.StepLemmas.{alone_read, alone_breaks, nothing_left, trailing}
+
+-- ---- one record
+
+pub place_given : (before : Option ℤ) (c d : Cursor) (z w : ℤ) → w ≡ z → read_part int64 c ≡ Ok (z, d) → is_misplaced before w ≡ false → record_at place_shape (place_conditions before) c ≡ Ok (w, d)
+place_given before c d z w is e good =
+    let here : is_misplaced before z ≡ false = ap (is_misplaced before) (sym is) ∙ good in
+    alone_read int64 (λ z. z) (place_conditions before) c d z e (rw here refl) ∙ ap (λ (x : ℤ). Ok (x, d)) (sym is)
+
+pub place_broken : (before : Option ℤ) (c d : Cursor) (z w : ℤ) → w ≡ z → read_part int64 c ≡ Ok (z, d) → is_misplaced before w ≡ true → record_at place_shape (place_conditions before) c ≡ Err 41
+place_broken before c d z w is e bad =
+    let here : is_misplaced before z ≡ true = ap (is_misplaced before) (sym is) ∙ bad in
+    alone_breaks int64 (λ z. z) (place_conditions before) c d z 41 e (rw here refl)
+
+pub header_given : (total : ℕ) (window : Window) (c d : Cursor) (z w : ℤ) → w ≡ z → read_part int32 c ≡ Ok (z, d) → None ≡ first_broken (header_conditions total window w) → record_at format_shape (header_conditions total window) c ≡ Ok (w, d)
+header_given total window c d z w is e good =
+    alone_read int32 (λ z. z) (header_conditions total window) c d z e (ap (λ (x : ℤ). first_broken (header_conditions total window x)) (sym is) ∙ sym good) ∙ ap (λ (x : ℤ). Ok (x, d)) (sym is)
+
+pub header_broken_by : (total : ℕ) (window : Window) (c d : Cursor) (z w : ℤ) (rule : ℕ) → w ≡ z → read_part int32 c ≡ Ok (z, d) → Some rule ≡ first_broken (header_conditions total window w)
+    → record_at format_shape (header_conditions total window) c ≡ Err rule
+header_broken_by total window c d z w rule is e broken =
+    alone_breaks int32 (λ z. z) (header_conditions total window) c d z rule e (ap (λ (x : ℤ). first_broken (header_conditions total window x)) (sym is) ∙ sym broken)
+
+-- ---- so many places
+
+last_push : {A : Type 0} (o : Option A) (xs : List A) (x : A) → last_or o (xs ++ x ∷ []) ≡ Some x
+last_push o [] x = refl
+last_push o (y ∷ ys) x = last_push (Some y) ys x
+
+-- from this cursor on so many places are good, the last of them is this one, and the cursor stands behind it
+pub record PassedPlaces (from : Cursor) (number : ℕ) (last : Option ℤ) (here : Cursor) : Type 0 where
+  pub places : List ℤ
+  pub last_is : last_or None places ≡ last
+  pub reads : read_plan (times places_kind number []) from ≡ Ok (places, here)
+
+pub passed_no_place : (from : Cursor) → PassedPlaces from 0 None from
+passed_no_place from = record { places = []; last_is = refl; reads = each-none (one places_kind) [] from }
+
+pub passed_place : (from : Cursor) (number : ℕ) (last : Option ℤ) (here : Cursor) (z : ℤ) (next : Cursor) → PassedPlaces from number last here
+    → record_at place_shape (place_conditions last) here ≡ Ok (z, next) → PassedPlaces from (number + 1) (Some z) next
+passed_place from number last here z next before e = record {
+  places = before.places ++ z ∷ [];
+  last_is = last_push None before.places z;
+  reads = times-more places_kind number [] from before.places here z next before.reads (subst (λ (o : Option ℤ). record_at place_shape (place_conditions o) here ≡ Ok (z, next)) (sym before.last_is) e);
+}
+
+-- ---- the file
+
+-- the header is passed
+abbrev pub IsBehindHeader : ℕ → Window → List ℕ → Cursor → Type 0
+IsBehindHeader total window bytes here = (z : ℤ) × (record_at format_shape (header_conditions total window) (start_of bytes) ≡ Ok (z, here))
+
+fdx_from : (total : ℕ) (window : Window) (bytes : List ℕ) (from : Cursor) → IsBehindHeader total window bytes from → read_plan (fdx_plan total window) (start_of bytes) ≡ read_plan (times places_kind total []) from
+fdx_from total window bytes from (z, e) = read_due format_shape (λ _ z. header_conditions total window z) (λ _ _. times places_kind total []) (start_of bytes) z from e
+
+pub fdx_header_fault : (total : ℕ) (window : Window) (bytes : List ℕ) (rule : ℕ) → record_at format_shape (header_conditions total window) (start_of bytes) ≡ Err rule
+    → read_file (fdx_plan total window) bytes ≡ Err (record { offset = 0; rule = rule })
+fdx_header_fault total window bytes rule e =
+    ap (λ (r : Result (List ℤ × Cursor) Broken). r >>= ended) (read_due_broken format_shape (λ _ z. header_conditions total window z) (λ _ _. times places_kind total []) (start_of bytes) rule e)
+
+pub fdx_place_fault : (total : ℕ) (window : Window) (bytes : List ℕ) (from : Cursor) (number : ℕ) (last : Option ℤ) (here : Cursor) (rule : ℕ) → IsBehindHeader total window bytes from → PassedPlaces from number last here → number < total
+    → record_at place_shape (place_conditions last) here ≡ Err rule → read_file (fdx_plan total window) bytes ≡ Err (record { offset = here.place; rule = rule })
+fdx_place_fault total window bytes from number last here rule header before lt e =
+    ap (λ (r : Result (List ℤ × Cursor) Broken). r >>= ended)
+    (fdx_from total window bytes from header ∙ times-fault places_kind number total [] from before.places here rule lt before.reads (subst (λ (o : Option ℤ). record_at place_shape (place_conditions o) here ≡ Err rule) (sym before.last_is) e))
+
+pub fdx_trailing : (total : ℕ) (window : Window) (bytes : List ℕ) (from : Cursor) (number : ℕ) (last : Option ℤ) (here : Cursor) → IsBehindHeader total window bytes from → PassedPlaces from number last here → number ≡ total → 0 < length here.rest
+    → read_file (fdx_plan total window) bytes ≡ Err (record { offset = here.place; rule = 6 })
+fdx_trailing total window bytes from number last here header before all some = 
+    ap (λ (r : Result (List ℤ × Cursor) Broken). r >>= ended) (fdx_from total window bytes from header ∙ ap (λ (n : ℕ). read_plan (times places_kind n []) from) (sym all) ∙ before.reads)
+    ∙ trailing before.places here some
+
+pub fdx_read : (total : ℕ) (window : Window) (bytes : List ℕ) (from : Cursor) (number : ℕ) (last : Option ℤ) (here : Cursor) → IsBehindHeader total window bytes from → (before : PassedPlaces from number last here) → number ≡ total → length here.rest ≡ 0
+    → read_file (fdx_plan total window) bytes ≡ Ok before.places
+fdx_read total window bytes from number last here header before all none =
+    ap (λ (r : Result (List ℤ × Cursor) Broken). r >>= ended) (fdx_from total window bytes from header ∙ ap (λ (n : ℕ). read_plan (times places_kind n []) from) (sym all) ∙ before.reads)
+    ∙ nothing_left before.places here none

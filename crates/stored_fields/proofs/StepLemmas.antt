@@ -1,0 +1,47 @@
+-- Records of one part, and what a call that reads one shows.
+use Rattle.std.proofs.Common.{◌≡◌, ℕ, ◌<◌, List, [], length, true, false, eqb, Some, None, Result, Ok, Err, ap, refl, ◌∙◌, sym, arith}
+use Rattle.std.proofs.lemmas.Bool.{eq-eqb, ne_eqb}
+use Rattle.lu_grammar.specs.declared.bad.Bad.{Bad}
+use Rattle.lu_grammar.specs.Bytes.{Cursor}
+use Rattle.lu_grammar.specs.Parts.{Part, Value}
+use Rattle.lu_grammar.specs.Reading.{read_part}
+use Rattle.lu_grammar.specs.Records.{Shape, whole, part, Condition, first_broken, rule_of, record_at}
+use Rattle.lu_types.specs.declared.kind.FileKind.{FileKind}
+use Rattle.lu_types.specs.declared.fault.Spot.{Spot}
+use Rattle.lu_grammar.specs.Plans.{Plan, Broken, ended, read_file}
+use Rattle.lu_grammar.proofs.Records.{read_shape-part, read_shape-part_err, record_at-read, record_at-breaks, record_at-unread}
+
+-- a record of one part
+abbrev pub alone : {R : Type 0} (p : Part) → (Value p → R) → Shape R
+alone p f = part p (λ v. whole (f v))
+
+pub alone_read : {R : Type 0} (p : Part) (f : Value p → R) (conditions : R → List Condition) (c d : Cursor) (v : Value p) → read_part p c ≡ Ok (v, d) → first_broken (conditions (f v)) ≡ None
+    → record_at (alone p f) conditions c ≡ Ok (f v, d)
+alone_read p f conditions c d v e good = record_at-read (alone p f) conditions c (f v) d (read_shape-part p (λ w. whole (f w)) c v d e) good
+
+pub alone_breaks : {R : Type 0} (p : Part) (f : Value p → R) (conditions : R → List Condition) (c d : Cursor) (v : Value p) (rule : ℕ) → read_part p c ≡ Ok (v, d) → first_broken (conditions (f v)) ≡ Some rule
+    → record_at (alone p f) conditions c ≡ Err rule
+alone_breaks p f conditions c d v rule e broken = record_at-breaks (alone p f) conditions c (f v) d rule (read_shape-part p (λ w. whole (f w)) c v d e) broken
+
+pub alone_unread : {R : Type 0} (p : Part) (f : Value p → R) (conditions : R → List Condition) (c : Cursor) (bad : Bad) (rule : ℕ) → read_part p c ≡ Err bad → rule ≡ rule_of bad
+    → record_at (alone p f) conditions c ≡ Err rule
+alone_unread p f conditions c bad rule e is = record_at-unread (alone p f) conditions c bad (read_shape-part_err p (λ w. whole (f w)) c bad e) ∙ ap (λ (n : ℕ). Err n) (sym is)
+
+-- ---- the end of a file
+
+pub nothing_left : {V : Type 0} (v : V) (here : Cursor) → length here.rest ≡ 0 → ended (v, here) ≡ Ok v
+nothing_left v here none = let t : eqb (length here.rest) 0 ≡ true = eq-eqb _ _ none in rw t refl
+
+pub trailing : {V : Type 0} (v : V) (here : Cursor) → 0 < length here.rest → ended (v, here) ≡ Err (record { offset = here.place; rule = 6 })
+trailing v here some = let f : eqb (length here.rest) 0 ≡ false = ne_eqb _ _ (omega arith) in rw f refl
+
+abbrev pub spot_of : FileKind → ℕ → ℕ → Spot
+spot_of kind offset rule = record { kind = kind; offset = offset; rule = rule }
+
+-- the first fault, as its spot says it
+pub at_spot : {V R : Type 0} (plan : Plan V R) (bytes : List ℕ) (kind : FileKind) (offset rule : ℕ) (s : Spot) → s ≡ spot_of kind offset rule → read_file plan bytes ≡ Err (record { offset = offset; rule = rule })
+    → (s.kind ≡ kind) × (read_file plan bytes ≡ Err (record { offset = s.offset; rule = s.rule }))
+at_spot {V} plan bytes kind offset rule s is e = (ap (λ (t : Spot). t.kind) is, e ∙ ap (λ (t : Spot). fault_of t.offset t.rule) (sym is))
+  where
+    fault_of : ℕ → ℕ → Result V Broken
+    fault_of o r = Err (record { offset = o; rule = r })

@@ -1,0 +1,5 @@
+pub mod Values
+pub mod Places
+pub mod Documents
+pub mod Stores
+pub mod Steps

@@ -1,0 +1,13 @@
+//! Numbers that both files of a store have in common.
+
+/// The format number of `.fdx` and `.fdt`.
+pub const FORMAT: i32 = 2;
+
+/// The bytes of the header of `.fdx`, and of that of `.fdt`.
+pub const HEADER_BYTES: usize = 4;
+
+/// The bytes of a place in `.fdx`.
+pub const PLACE_BYTES: usize = 8;
+
+/// The greatest place that a document of `.fdt` may have.
+pub const GREATEST_PLACE: i64 = 2147483647;

@@ -1,0 +1,9 @@
+//! Stored documents: `.fdx` and `.fdt`, written, checked through a window, and read as borrowed values.
+#![tactic(auto)]
+
+mod faults;
+mod layout;
+mod places;
+mod value;
+
+pub use value::{StoredRef, ValueRef};

@@ -4,7 +4,7 @@ use Rattle.std.specs.Ordering.{int_eq}
 use Rattle.lu_types.specs.declared.stored.Window.{Window}
 use Rattle.lu_types.specs.declared.rules.TheConstants.{FDT_FORMAT, FDT_PLACE, STORED_FIELD, STORED_BITS}
 use Rattle.lu_grammar.specs.Parts.{int32, num}
-use Rattle.lu_grammar.specs.Records.{Shape, whole, part, Condition}
+use Rattle.lu_grammar.specs.Records.{Shape, whole, part, followed, Condition}
 use Rattle.lu_grammar.specs.Plans.{Plan, done, due, and_then, Kind, times, each}
 use Rattle.stored_fields.specs.declared.value.TheConstants.{TOKENIZED, BINARY}
 use Rattle.stored_fields.specs.Values.{StoredField, Document, Entry, entry_shape, stored}
@@ -39,14 +39,14 @@ has_other_bit bits = nat_lt (TOKENIZED + BINARY) bits
 
 -- a value
 abbrev pub value_shape : Shape Record
-value_shape = entry_shape (λ entry. whole (value entry))
+value_shape = followed entry_shape (λ entry. whole (value entry))
 
 -- the field of a value must be one of so many, where this is asked, and its bits must mean something
-abbrev pub entry_conditions : Bool → ℕ → Entry → List Condition
-entry_conditions asked fields entry = record { rule = STORED_FIELD; broken = asked && nat_le fields entry.field } ∷ record { rule = STORED_BITS; broken = has_other_bit entry.bits } ∷ []
+abbrev pub entry_conditions : Bool → ℕ → ℕ → ℕ → List Condition
+entry_conditions asked fields field bits = record { rule = STORED_FIELD; broken = asked && nat_le fields field } ∷ record { rule = STORED_BITS; broken = has_other_bit bits } ∷ []
 
 abbrev pub value_conditions : Bool → ℕ → Record → List Condition
-value_conditions asked fields (value entry) = entry_conditions asked fields entry
+value_conditions asked fields (value entry) = entry_conditions asked fields entry.field entry.bits
 value_conditions asked fields _ = []
 
 -- the values so far, and one more

@@ -3,3 +3,4 @@ pub mod Places
 pub mod Documents
 pub mod Stores
 pub mod Steps
+pub mod Entries

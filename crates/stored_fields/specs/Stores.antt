@@ -1,8 +1,9 @@
 -- What the two files of a store stand for, and where their first fault stands.
-use Rattle.std.specs.Prelude.{◌≡◌, ℕ, ◌-◌, ◌/◌, List, length, take, drop, ℤ, ◌⊎◌}
+use Rattle.std.specs.Prelude.{◌≡◌, ℕ, ◌-◌, ◌/◌, List, [], length, take, drop, ℤ, ◌⊎◌, Result, Ok, Err}
 use Rattle.lu_types.specs.declared.kind.FileKind.TheVariants.{Fdx, Fdt}
 use Rattle.lu_types.specs.declared.fault.Spot.{Spot}
 use Rattle.lu_types.specs.declared.stored.Window.{Window}
+use Rattle.lu_grammar.specs.Plans.{read_file}
 use Rattle.lu_grammar.specs.Meaning.{Reads, FirstFault}
 use Rattle.stored_fields.specs.declared.layout.TheConstants.{HEADER_BYTES, PLACE_BYTES}
 use Rattle.stored_fields.specs.Values.{Document}
@@ -12,6 +13,15 @@ use Rattle.stored_fields.specs.Documents.{fdt_plan}
 -- how many documents a store has, by the length of its `.fdx`
 abbrev pub total_of : List ℕ → ℕ
 total_of fdx = (length fdx - HEADER_BYTES) / PLACE_BYTES
+
+-- the value, or another where there is none
+abbrev pub value_or : {V E : Type 0} → V → Result V E → V
+value_or other (Ok v) = v
+value_or other (Err e) = other
+
+-- the places that a `.fdx` without a fault holds
+abbrev pub places_in : ℕ → Window → List ℕ → List ℤ
+places_in total window fdx = value_or [] (read_file (fdx_plan total window) fdx)
 
 -- all of both files are the records of a store of so many documents, and these are the documents in the window
 pub record IsStore (fdx fdt : List ℕ) (fields total : ℕ) (window : Window) (documents : List Document) : Type 0 where

@@ -3,7 +3,7 @@ use Rattle.std.specs.Prelude.{ℕ, Bool, true, false, not, ◌==◌, List, bit_a
 use Rattle.lu_types.specs.declared.stored.Stored.{Stored}
 use Rattle.lu_types.specs.declared.stored.Stored.TheVariants.{Text, Binary}
 use Rattle.lu_grammar.specs.Parts.{byte, num, bytes, text}
-use Rattle.lu_grammar.specs.Records.{Shape, whole, part}
+use Rattle.lu_grammar.specs.Records.{Shape, whole, part, followed}
 use Rattle.stored_fields.specs.declared.value.TheConstants.{TOKENIZED, BINARY}
 
 -- a value that a document stores: the number of its field, whether it was tokenized, and what it is
@@ -27,13 +27,13 @@ abbrev pub has_bit : ℕ → ℕ → Bool
 has_bit bit bits = not (bit_and bits bit == 0)
 
 -- so many bytes where the value is binary, and a text where it is not
-abbrev pub content : {R : Type 0} → Bool → (Stored → Shape R) → Shape R
-content true next = part num (λ n. part (bytes n) (λ front. next (Binary front)))
-content false next = part text (λ t. next (Text t))
+abbrev pub content : Bool → Shape Stored
+content true = part num (λ n. part (bytes n) (λ front. whole (Binary front)))
+content false = part text (λ t. whole (Text t))
 
 -- the number of the field, the bits, and what the value is
-abbrev pub entry_shape : {R : Type 0} → (Entry → Shape R) → Shape R
-entry_shape next = part num (λ field. part byte (λ bits. content (has_bit BINARY bits) (λ value. next (record { field = field; bits = bits; value = value }))))
+abbrev pub entry_shape : Shape Entry
+entry_shape = part num (λ field. part byte (λ bits. followed (content (has_bit BINARY bits)) (λ value. whole (record { field = field; bits = bits; value = value }))))
 
 -- what an entry stores
 abbrev pub stored : Entry → StoredField

@@ -1,6 +1,7 @@
 //! Stored documents: `.fdx` and `.fdt`, written, checked through a window, and read as borrowed values.
 #![tactic(auto)]
 
+mod entry;
 mod faults;
 mod layout;
 mod places;

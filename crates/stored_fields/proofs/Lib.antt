@@ -1,3 +1,5 @@
 pub mod Rows
 pub mod StepLemmas
 pub mod PlaceLemmas
+pub mod DocumentLemmas
+pub mod FixedLemmas

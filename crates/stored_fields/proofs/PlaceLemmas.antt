@@ -9,7 +9,8 @@ use Rattle.lu_grammar.specs.Records.{first_broken, record_at}
 use Rattle.lu_grammar.specs.Plans.{Plan, times, one, each, Broken, read_plan, ended, read_file}
 use Rattle.lu_grammar.proofs.Plans.{read_due, read_due_broken}
 use Rattle.lu_grammar.proofs.Loops.{times-more, times-fault, each-none}
-use Rattle.stored_fields.specs.Places.{format_shape, header_conditions, place_shape, place_conditions, is_misplaced, places_kind, fdx_plan}
+use Rattle.stored_fields.specs.Format.{format_shape}
+use Rattle.stored_fields.specs.Places.{header_conditions, place_shape, place_conditions, is_misplaced, places_kind, fdx_plan}
 use Rattle.stored_fields.proofs.StepLemmas.{alone_read, alone_breaks, nothing_left, trailing}
 
 -- ---- one record

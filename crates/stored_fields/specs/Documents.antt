@@ -3,12 +3,12 @@ use Rattle.std.specs.Prelude.{ℕ, ◌+◌, Bool, not, ◌&&◌, List, [], ◌�
 use Rattle.std.specs.Ordering.{int_eq}
 use Rattle.lu_types.specs.declared.stored.Window.{Window}
 use Rattle.lu_types.specs.declared.rules.TheConstants.{FDT_FORMAT, FDT_PLACE, STORED_FIELD, STORED_BITS}
-use Rattle.lu_grammar.specs.Parts.{int32, num}
+use Rattle.lu_grammar.specs.Parts.{num}
 use Rattle.lu_grammar.specs.Records.{Shape, whole, part, followed, Condition}
 use Rattle.lu_grammar.specs.Plans.{Plan, done, due, and_then, Kind, times, each}
 use Rattle.stored_fields.specs.declared.value.TheConstants.{TOKENIZED, BINARY}
 use Rattle.stored_fields.specs.Values.{StoredField, Document, Entry, entry_shape, stored}
-use Rattle.stored_fields.specs.Places.{is_other_format}
+use Rattle.stored_fields.specs.Format.{format_shape, is_other_format}
 
 -- a record of `.fdt`: the format number, how many values a document has, or one of them
 pub data Record : Type 0 where
@@ -18,7 +18,7 @@ pub data Record : Type 0 where
 
 -- a format number
 abbrev pub header_shape : Shape Record
-header_shape = part int32 (λ z. whole (format z))
+header_shape = followed format_shape (λ z. whole (format z))
 
 -- the format number must be the right one
 abbrev pub format_conditions : Record → List Condition
@@ -29,9 +29,13 @@ format_conditions _ = []
 abbrev pub count_shape : Shape Record
 count_shape = part num (λ n. whole (count n))
 
+-- the place is not the one that is wanted
+abbrev pub is_elsewhere : ℕ → ℤ → Bool
+is_elsewhere place wanted = not (int_eq (pos place) wanted)
+
 -- a document must start at its place
 abbrev pub start_conditions : ℤ → ℕ → List Condition
-start_conditions wanted place = record { rule = FDT_PLACE; broken = not (int_eq (pos place) wanted) } ∷ []
+start_conditions wanted place = record { rule = FDT_PLACE; broken = is_elsewhere place wanted } ∷ []
 
 -- a value has a bit that means nothing
 abbrev pub has_other_bit : ℕ → Bool

@@ -1,3 +1,4 @@
+pub mod Format
 pub mod Values
 pub mod Places
 pub mod Documents

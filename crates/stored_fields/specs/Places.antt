@@ -4,18 +4,11 @@ use Rattle.std.specs.List.{last_or}
 use Rattle.std.specs.Ordering.{int_eq}
 use Rattle.lu_types.specs.declared.stored.Window.{Window}
 use Rattle.lu_types.specs.declared.rules.TheConstants.{FDX_FORMAT, FDX_PLACE, STORE_RANGE}
-use Rattle.lu_grammar.specs.Parts.{int32, int64}
+use Rattle.lu_grammar.specs.Parts.{int64}
 use Rattle.lu_grammar.specs.Records.{Shape, whole, part, Condition}
 use Rattle.lu_grammar.specs.Plans.{Plan, due, Kind, times}
-use Rattle.stored_fields.specs.declared.layout.TheConstants.{FORMAT, HEADER_BYTES, GREATEST_PLACE}
-
--- a format number
-abbrev pub format_shape : Shape ℤ
-format_shape = part int32 (λ z. whole z)
-
--- the number is not that of the format
-abbrev pub is_other_format : ℤ → Bool
-is_other_format z = not (int_eq z FORMAT)
+use Rattle.stored_fields.specs.declared.layout.TheConstants.{HEADER_BYTES, GREATEST_PLACE}
+use Rattle.stored_fields.specs.Format.{format_shape, is_other_format}
 
 -- the window reaches past the documents of the store
 abbrev pub is_past : ℕ → Window → Bool

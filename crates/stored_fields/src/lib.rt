@@ -1,6 +1,7 @@
 //! Stored documents: `.fdx` and `.fdt`, written, checked through a window, and read as borrowed values.
 #![tactic(auto)]
 
+mod documents;
 mod entry;
 mod faults;
 mod layout;

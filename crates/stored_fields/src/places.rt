@@ -1,12 +1,13 @@
 //! The check of `.fdx` (format page, "Stored documents").
 ghost use Rattle.std.specs.Prelude.{◌≡◌, ℕ, ◌+◌, ◌^◌, ◌<◌, ◌≤◌, length, Some, None};
 ghost use Rattle.lu_grammar.specs.Records.{first_broken};
-ghost use Rattle.stored_fields.specs.Places.{format_shape, is_other_format, header_conditions, place_shape, place_conditions, is_misplaced, fdx_plan};
+ghost use Rattle.stored_fields.specs.Format.{format_shape};
+ghost use Rattle.stored_fields.specs.Places.{header_conditions, place_shape, place_conditions, is_misplaced, fdx_plan};
 ghost use Rattle.lu_types.specs.declared.kind.FileKind.TheVariants.{Fdx};
 ghost use Rattle.stored_fields.specs.Steps.{Gives, Passes, Judges};
 
 use crate::faults::{rule_of, spot};
-use crate::layout::{FORMAT, GREATEST_PLACE, HEADER_BYTES};
+use crate::layout::{GREATEST_PLACE, HEADER_BYTES, is_other_format};
 use lu_prims::Cur;
 use lu_types::rules::{FDX_FORMAT, FDX_PLACE, STORE_RANGE, TRAILING};
 use lu_types::{FileKind, Spot, Window};
@@ -16,7 +17,7 @@ fn header_broken(total: u32, window: Window, format: i32) -> Option<u16>
     requires { window.offset + window.count < 2 ^ 32 }
     ensures { result ≡ first_broken (header_conditions total window format) }
 {
-    if format != FORMAT {
+    if is_other_format(format) {
         return Some(FDX_FORMAT);
     }
     if window.offset + window.count > total {

@@ -1,0 +1,107 @@
+-- The records of `.fdt`, one after another.
+use Rattle.std.proofs.Common.{◌≡◌, ℕ, zero, suc, ◌+◌, ◌-◌, ◌*◌, ◌<◌, ◌≤◌, Bool, true, false, List, [], ◌∷◌, ◌++◌, length, drop, get_or, Option, Some, None, Result, Ok, Err, refl, sym, ap, subst, ◌∙◌, arith, ℤ, pos, append_assoc}
+use Rattle.lu_types.specs.declared.stored.Window.{Window}
+use Rattle.lu_grammar.specs.declared.bad.Bad.{Bad}
+use Rattle.lu_grammar.specs.Bytes.{Cursor, start_of, moved}
+use Rattle.lu_grammar.specs.Parts.{int32, num}
+use Rattle.lu_grammar.specs.Reading.{◌>>=◌, read_part}
+use Rattle.lu_grammar.specs.Records.{whole, first_broken, rule_of, read_shape, record_at}
+use Rattle.lu_types.specs.declared.kind.FileKind.TheVariants.{Fdt}
+use Rattle.lu_types.specs.declared.fault.Spot.{Spot}
+use Rattle.lu_grammar.specs.Plans.{Plan, done, and_then, times, one, each, Broken, read_plan, ended, read_file}
+use Rattle.lu_grammar.proofs.Records.{record_at-read, record_at-breaks, record_at-unread}
+use Rattle.lu_grammar.proofs.Plans.{read_due, read_due_broken}
+use Rattle.lu_grammar.proofs.Loops.{read_shape-followed, read_plan-and_then, times-more, times-fault, each-none}
+use Rattle.stored_fields.specs.Format.{is_other_format}
+use Rattle.stored_fields.specs.Values.{Document, Entry, entry_shape}
+use Rattle.stored_fields.specs.Documents.{Record, format, count, value, header_shape, format_conditions, count_shape, is_elsewhere, start_conditions, value_shape, entry_conditions, value_conditions, with_value, values_kind, count_of, document_at}
+use Rattle.stored_fields.proofs.StepLemmas.{alone_read, alone_breaks, spot_of}
+
+-- ---- one record
+
+pub format_given : (c d : Cursor) (z : ℤ) (w : ℤ) → w ≡ z → read_part int32 c ≡ Ok (z, d) → is_other_format w ≡ false → (r : Record) × (record_at header_shape format_conditions c ≡ Ok (r, d))
+format_given c d z w is e good =
+    let here : is_other_format z ≡ false = ap is_other_format (sym is) ∙ good in
+    (format z, alone_read int32 (λ z. format z) format_conditions c d z e (rw here refl))
+
+pub format_broken : (c d : Cursor) (z : ℤ) (w : ℤ) → w ≡ z → read_part int32 c ≡ Ok (z, d) → is_other_format w ≡ true → record_at header_shape format_conditions c ≡ Err 43
+format_broken c d z w is e bad =
+    let here : is_other_format z ≡ true = ap is_other_format (sym is) ∙ bad in
+    alone_breaks int32 (λ z. format z) format_conditions c d z 43 e (rw here refl)
+
+pub count_given : (wanted : ℤ) (c d : Cursor) (n : ℕ) → read_part num c ≡ Ok (n, d) → is_elsewhere c.place wanted ≡ false → record_at count_shape (λ _. start_conditions wanted c.place) c ≡ Ok (count n, d)
+count_given wanted c d n e good = alone_read num (λ n. count n) (λ _. start_conditions wanted c.place) c d n e (rw good refl)
+
+pub count_broken : (wanted : ℤ) (c d : Cursor) (n : ℕ) → read_part num c ≡ Ok (n, d) → is_elsewhere c.place wanted ≡ true → record_at count_shape (λ _. start_conditions wanted c.place) c ≡ Err 44
+count_broken wanted c d n e bad = alone_breaks num (λ n. count n) (λ _. start_conditions wanted c.place) c d n 44 e (rw bad refl)
+
+-- a value that was read
+value_read : (c d : Cursor) (entry : Entry) → read_shape entry_shape c ≡ Ok (entry, d) → read_shape value_shape c ≡ Ok (value entry, d)
+value_read c d entry e =
+    read_shape-followed entry_shape (λ x. whole (value x)) c ∙ ap (λ (r : Result (Entry × Cursor) Bad). r >>= λ x. read_shape (whole (value x.0)) x.1) e
+
+pub value_given : (asked : Bool) (fields : ℕ) (c d : Cursor) (entry : Entry) → read_shape entry_shape c ≡ Ok (entry, d) → None ≡ first_broken (entry_conditions asked fields entry.field entry.bits)
+    → (r : Record) × (record_at value_shape (value_conditions asked fields) c ≡ Ok (r, d))
+value_given asked fields c d entry e good = (value entry, record_at-read value_shape (value_conditions asked fields) c (value entry) d (value_read c d entry e) (sym good))
+
+pub value_broken : (asked : Bool) (fields : ℕ) (c d : Cursor) (entry : Entry) (rule : ℕ) → read_shape entry_shape c ≡ Ok (entry, d) → Some rule ≡ first_broken (entry_conditions asked fields entry.field entry.bits)
+    → record_at value_shape (value_conditions asked fields) c ≡ Err rule
+value_broken asked fields c d entry rule e broken = record_at-breaks value_shape (value_conditions asked fields) c (value entry) d rule (value_read c d entry e) (sym broken)
+
+pub value_unread : (asked : Bool) (fields : ℕ) (c : Cursor) (bad : Bad) (rule : ℕ) → read_shape entry_shape c ≡ Err bad → rule ≡ rule_of bad → record_at value_shape (value_conditions asked fields) c ≡ Err rule
+value_unread asked fields c bad rule e is =
+    record_at-unread value_shape (value_conditions asked fields) c bad
+    (read_shape-followed entry_shape (λ x. whole (value x)) c ∙ ap (λ (r : Result (Entry × Cursor) Bad). r >>= λ x. read_shape (whole (value x.0)) x.1) e)
+    ∙ ap (λ (n : ℕ). Err n) (sym is)
+
+-- ---- one document
+
+-- from this cursor on so many values are good, and the cursor stands behind them
+pub record PassedValues (asked : Bool) (fields : ℕ) (from : Cursor) (number : ℕ) (here : Cursor) : Type 0 where
+  pub values : Document
+  pub reads : read_plan (times (values_kind asked fields) number []) from ≡ Ok (values, here)
+
+pub passed_no_value : (asked : Bool) (fields : ℕ) (from : Cursor) → PassedValues asked fields from 0 from
+passed_no_value asked fields from = record { values = []; reads = each-none (one (values_kind asked fields)) [] from }
+
+pub passed_value : (asked : Bool) (fields : ℕ) (from : Cursor) (number : ℕ) (here next : Cursor) → PassedValues asked fields from number here
+    → (r : Record) × (record_at value_shape (value_conditions asked fields) here ≡ Ok (r, next)) → PassedValues asked fields from (number + 1) next
+passed_value asked fields from number here next before (r, e) = record {
+  values = with_value before.values r;
+  reads = times-more (values_kind asked fields) number [] from before.values here r next before.reads e;
+}
+
+-- a document whose number of values was read
+document_from : (asked : Bool) (fields : ℕ) (wanted : ℤ) (documents : List Document) (c from : Cursor) (n : ℕ) → record_at count_shape (λ _. start_conditions wanted c.place) c ≡ Ok (count n, from)
+    → read_plan (document_at asked fields wanted documents) c ≡ read_plan (times (values_kind asked fields) n []) from >>= (λ x. read_plan {R = Record} (done (documents ++ x.0 ∷ [])) x.1)
+document_from asked fields wanted documents c from n e =
+    read_due count_shape (λ place _. start_conditions wanted place) (λ _ r. and_then (times (values_kind asked fields) (count_of r) []) (λ values. done (documents ++ values ∷ []))) c (count n) from e
+    ∙ read_plan-and_then (times (values_kind asked fields) n []) (λ values. done (documents ++ values ∷ [])) from
+
+pub document_read : (asked : Bool) (fields : ℕ) (wanted : ℤ) (documents : List Document) (c from : Cursor) (n number : ℕ) (here : Cursor) → record_at count_shape (λ _. start_conditions wanted c.place) c ≡ Ok (count n, from)
+    → (passed : PassedValues asked fields from number here) → number ≡ n → read_plan (document_at asked fields wanted documents) c ≡ Ok (documents ++ passed.values ∷ [], here)
+unfolding read_plan
+document_read asked fields wanted documents c from n number here e passed all =
+    document_from asked fields wanted documents c from n e
+    ∙ ap (λ (r : Result (Document × Cursor) Broken). r >>= λ x. read_plan {R = Record} (done (documents ++ x.0 ∷ [])) x.1) (ap (λ (k : ℕ). read_plan (times (values_kind asked fields) k []) from) (sym all) ∙ passed.reads)
+
+pub document_count_fault : (asked : Bool) (fields : ℕ) (wanted : ℤ) (documents : List Document) (c : Cursor) (rule : ℕ) → record_at count_shape (λ _. start_conditions wanted c.place) c ≡ Err rule
+    → read_plan (document_at asked fields wanted documents) c ≡ Err (record { offset = c.place; rule = rule })
+document_count_fault asked fields wanted documents c rule e =
+    read_due_broken count_shape (λ place _. start_conditions wanted place) (λ _ r. and_then (times (values_kind asked fields) (count_of r) []) (λ values. done (documents ++ values ∷ []))) c rule e
+
+pub document_value_fault : (asked : Bool) (fields : ℕ) (wanted : ℤ) (documents : List Document) (c from : Cursor) (n number : ℕ) (here : Cursor) (rule : ℕ) → record_at count_shape (λ _. start_conditions wanted c.place) c ≡ Ok (count n, from)
+    → PassedValues asked fields from number here → number < n → record_at value_shape (value_conditions asked fields) here ≡ Err rule
+    → read_plan (document_at asked fields wanted documents) c ≡ Err (record { offset = here.place; rule = rule })
+document_value_fault asked fields wanted documents c from n number here rule e passed lt broken =
+    document_from asked fields wanted documents c from n e
+    ∙ ap (λ (r : Result (Document × Cursor) Broken). r >>= λ x. read_plan {R = Record} (done (documents ++ x.0 ∷ [])) x.1) (times-fault (values_kind asked fields) number n [] from passed.values here rule lt passed.reads broken)
+
+-- a fault of a document, as its spot says it
+pub document_spot : (asked : Bool) (fields : ℕ) (wanted : ℤ) (c : Cursor) (offset rule : ℕ) (s : Spot) → s ≡ spot_of Fdt offset rule
+    → ((documents : List Document) → read_plan (document_at asked fields wanted documents) c ≡ Err (record { offset = offset; rule = rule }))
+    → (s.kind ≡ Fdt) × ((documents : List Document) → read_plan (document_at asked fields wanted documents) c ≡ Err (record { offset = s.offset; rule = s.rule }))
+document_spot asked fields wanted c offset rule s is e = (ap (λ (t : Spot). t.kind) is, λ documents. e documents ∙ ap (λ (t : Spot). fault_of t.offset t.rule) (sym is))
+  where
+    fault_of : ℕ → ℕ → Result (List Document × Cursor) Broken
+    fault_of o r = Err (record { offset = o; rule = r })

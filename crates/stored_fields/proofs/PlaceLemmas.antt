@@ -4,14 +4,17 @@ use Rattle.std.specs.List.{last_or}
 use Rattle.lu_types.specs.declared.stored.Window.{Window}
 use Rattle.lu_grammar.specs.Bytes.{Cursor, start_of, moved}
 use Rattle.lu_grammar.specs.Parts.{int32, int64}
-use Rattle.lu_grammar.specs.Reading.{◌>>=◌, read_part}
+use Rattle.std.proofs.lemmas.List.{drop-drop, append-nil, length-drop}
+use Rattle.lu_grammar.specs.Reading.{◌>>=◌, read, read_part}
 use Rattle.lu_grammar.specs.Records.{first_broken, record_at}
 use Rattle.lu_grammar.specs.Plans.{Plan, times, one, each, Broken, read_plan, ended, read_file}
 use Rattle.lu_grammar.proofs.Plans.{read_due, read_due_broken}
-use Rattle.lu_grammar.proofs.Loops.{times-more, times-fault, each-none}
+use Rattle.lu_grammar.proofs.Records.{ok_pair, same_pair}
+use Rattle.lu_grammar.proofs.Loops.{read_plan-and_then, then_ok, one-was, times-more, times-fault, each-none}
 use Rattle.stored_fields.specs.Format.{format_shape}
 use Rattle.stored_fields.specs.Places.{header_conditions, place_shape, place_conditions, is_misplaced, places_kind, fdx_plan}
-use Rattle.stored_fields.proofs.StepLemmas.{alone_read, alone_breaks, nothing_left, trailing}
+use Rattle.stored_fields.proofs.StepLemmas.{alone_read, alone_breaks, alone_was, record_at-was, nothing_left, trailing}
+use Rattle.stored_fields.proofs.FixedLemmas.{int64_read}
 
 -- ---- one record
 
@@ -88,3 +91,61 @@ pub fdx_read : (total : ℕ) (window : Window) (bytes : List ℕ) (from : Cursor
 fdx_read total window bytes from number last here header before all none =
     ap (λ (r : Result (List ℤ × Cursor) Broken). r >>= ended) (fdx_from total window bytes from header ∙ ap (λ (n : ℕ). read_plan (times places_kind n []) from) (sym all) ∙ before.reads)
     ∙ nothing_left before.places here none
+
+-- ---- what a file without a fault holds
+
+-- from this cursor on so many places are read: they come after those in front, each takes eight bytes
+record Walked (number : ℕ) (front : List ℤ) (c d : Cursor) (places : List ℤ) : Type 0 where
+  more : List ℤ
+  all : places ≡ front ++ more
+  many : length more ≡ number
+  long : 8 * number ≤ length c.rest
+  behind : d ≡ moved (8 * number) c
+  at : (i : ℕ) → i < number → read int64 (drop (8 * i) c.rest) ≡ Ok (get_or more i (pos 0), 8)
+
+moved_none : (c : Cursor) → moved 0 c ≡ c
+moved_none c = ap (λ (n : ℕ). cursor n c.rest) (let e : c.place + 0 ≡ c.place = omega arith in e)
+  where
+    cursor : ℕ → List ℕ → Cursor
+    cursor n rest = record { place = n; rest = rest }
+
+moved_again : (m n : ℕ) (c : Cursor) → moved n (moved m c) ≡ moved (m + n) c
+moved_again m n c = ap (λ (k : ℕ). cursor k (drop n (drop m c.rest))) (let e : c.place + m + n ≡ c.place + (m + n) = omega arith in e) ∙ ap (λ (t : List ℕ). cursor (c.place + (m + n)) t) (drop-drop n m c.rest)
+  where
+    cursor : ℕ → List ℕ → Cursor
+    cursor k rest = record { place = k; rest = rest }
+
+walked : (number : ℕ) (front : List ℤ) (c d : Cursor) (places : List ℤ) → read_plan (times places_kind number front) c ≡ ok_pair places d → Walked number front c d places
+unfolding each read_plan
+walked zero front c d places e =
+    let p = same_pair front places c d e in
+    record { more = []; all = sym p.0 ∙ sym (append-nil front); many = refl; long = omega arith; behind = sym p.1 ∙ sym (moved_none c); at = λ i lt. absurd (omega arith) }
+walked (suc n) front c d places e =
+    let first = then_ok (read_plan (one places_kind front) c) (λ x. read_plan (times places_kind n x.0) x.1) (places, d) (sym (read_plan-and_then (one places_kind front) (times places_kind n) c) ∙ e) in
+    let was = one-was places_kind front c first.0 first.1 in
+    let part = alone_was int64 (λ z. z) c was.0 first.0.1 (record_at-was place_shape (place_conditions (last_or None front)) c was.0 first.0.1 was.1).0 in
+    let here = int64_read c first.0.1 part.0 part.1 in
+    let rest = walked n first.0.0 first.0.1 d places first.2 in
+    let behind_first : first.0.1.rest ≡ drop 8 c.rest = ap (λ (x : Cursor). x.rest) here.2 in
+    record {
+      more = part.0 ∷ rest.more;
+      all = rest.all ∙ ap (λ (t : List ℤ). t ++ rest.more) (sym was.2) ∙ ap (λ (z : ℤ). (front ++ z ∷ []) ++ rest.more) (sym part.2) ∙ append_assoc front (part.0 ∷ []) rest.more;
+      many = ap suc rest.many;
+      long = omega (arith, rest.long, here.0, ap length behind_first, length-drop 8 c.rest);
+      behind = rest.behind ∙ ap (moved (8 * n)) here.2 ∙ moved_again 8 (8 * n) c ∙ ap (λ (k : ℕ). moved k c) (let k : 8 + 8 * n ≡ 8 * suc n = omega arith in k);
+      at = at_each n part.0 rest.more c first.0.1 here.1 behind_first rest.at;
+    }
+  where
+    at_each : (n : ℕ) (z : ℤ) (more : List ℤ) (c x : Cursor) → read int64 c.rest ≡ Ok (z, 8) → x.rest ≡ drop 8 c.rest → ((i : ℕ) → i < n → read int64 (drop (8 * i) x.rest) ≡ Ok (get_or more i (pos 0), 8))
+        → (i : ℕ) → i < suc n → read int64 (drop (8 * i) c.rest) ≡ Ok (get_or (z ∷ more) i (pos 0), 8)
+    at_each n z more c x first behind later zero lt = first
+    at_each n z more c x first behind later (suc i) lt =
+        ap (λ (t : List ℕ). read int64 t) (ap (λ (k : ℕ). drop k c.rest) (let k : 8 * suc i ≡ 8 + 8 * i = omega arith in k) ∙ sym (drop-drop (8 * i) 8 c.rest) ∙ ap (drop (8 * i)) (sym behind))
+        ∙ later i (omega arith)
+
+-- `.fdx` of a store of so many documents holds these places
+pub record HasPlaces (fdx : List ℕ) (total : ℕ) (window : Window) (places : List ℤ) : Type 0 where
+  pub long : length fdx ≡ 4 + 8 * total
+  pub many : length places ≡ total
+  pub at : (i : ℕ) → i < total → read int64 (drop (4 + 8 * i) fdx) ≡ Ok (get_or places i (pos 0), 8)
+  pub within : window.offset + window.count ≤ total

@@ -1,15 +1,16 @@
 -- Records of one part, and what a call that reads one shows.
-use Rattle.std.proofs.Common.{◌≡◌, ℕ, ◌<◌, List, [], length, true, false, eqb, Some, None, Result, Ok, Err, ap, refl, ◌∙◌, sym, arith}
+use Rattle.std.proofs.Common.{◌≡◌, ℕ, ◌<◌, List, [], length, true, false, eqb, Option, Some, None, Result, Ok, Err, ap, refl, ◌∙◌, sym, arith}
 use Rattle.std.proofs.lemmas.Bool.{eq-eqb, ne_eqb}
 use Rattle.lu_grammar.specs.declared.bad.Bad.{Bad}
 use Rattle.lu_grammar.specs.Bytes.{Cursor}
 use Rattle.lu_grammar.specs.Parts.{Part, Value}
-use Rattle.lu_grammar.specs.Reading.{read_part}
-use Rattle.lu_grammar.specs.Records.{Shape, whole, part, Condition, first_broken, rule_of, record_at}
+use Rattle.lu_grammar.specs.Reading.{◌>>=◌, read_part}
+use Rattle.lu_grammar.specs.Records.{Shape, whole, part, Condition, first_broken, rule_of, read_shape, unless_broken, judged, record_at}
 use Rattle.lu_types.specs.declared.kind.FileKind.{FileKind}
 use Rattle.lu_types.specs.declared.fault.Spot.{Spot}
 use Rattle.lu_grammar.specs.Plans.{Plan, Broken, ended, read_file}
-use Rattle.lu_grammar.proofs.Records.{read_shape-part, read_shape-part_err, record_at-read, record_at-breaks, record_at-unread}
+use Rattle.lu_grammar.proofs.Records.{read_shape-part, read_shape-part_err, record_at-read, record_at-breaks, record_at-unread, ok_pair, same_pair}
+use Rattle.lu_grammar.proofs.Plans.{err_is_not_ok}
 
 -- a record of one part
 abbrev pub alone : {R : Type 0} (p : Part) → (Value p → R) → Shape R
@@ -45,3 +46,29 @@ at_spot {V} plan bytes kind offset rule s is e = (ap (λ (t : Spot). t.kind) is,
   where
     fault_of : ℕ → ℕ → Result V Broken
     fault_of o r = Err (record { offset = o; rule = r })
+
+-- ---- what was read
+
+-- a record that was read had the shape, and broke no condition
+pub record_at-was : {R : Type 0} (shape : Shape R) (conditions : R → List Condition) (c : Cursor) (r : R) (d : Cursor) → record_at shape conditions c ≡ ok_pair r d
+    → (read_shape shape c ≡ ok_pair r d) × (first_broken (conditions r) ≡ None)
+unfolding record_at
+record_at-was {R} shape conditions c r d e = go (read_shape shape c) refl e
+  where
+    judge : (x : R × Cursor) (o : Option ℕ) → first_broken (conditions x.0) ≡ o → unless_broken x o ≡ ok_pair r d → (x.0 ≡ r) × (x.1 ≡ d) × (first_broken (conditions x.0) ≡ None)
+    judge x None is h = let p = same_pair x.0 r x.1 d h in (p.0, p.1, is)
+    judge x (Some rule) is h = absurd (err_is_not_ok h)
+
+    go : (s : Result (R × Cursor) Bad) → read_shape shape c ≡ s → judged conditions s ≡ ok_pair r d → (read_shape shape c ≡ ok_pair r d) × (first_broken (conditions r) ≡ None)
+    go (Err bad) is h = absurd (err_is_not_ok h)
+    go (Ok x) is h =
+        let j = judge x (first_broken (conditions x.0)) refl h in
+        (is ∙ ap (λ (y : R). ok_pair y x.1) j.0 ∙ ap (λ (y : Cursor). ok_pair r y) j.1, ap (λ (y : R). first_broken (conditions y)) (sym j.0) ∙ j.2)
+
+-- the part that a record of one part was read from
+pub alone_was : {R : Type 0} (p : Part) (f : Value p → R) (c : Cursor) (r : R) (d : Cursor) → read_shape (alone p f) c ≡ ok_pair r d → (v : Value p) × (read_part p c ≡ ok_pair v d) × (f v ≡ r)
+alone_was {R} p f c r d e = go (read_part p c) refl e
+  where
+    go : (s : Result (Value p × Cursor) Bad) → read_part p c ≡ s → (s >>= λ x. ok_pair (f x.0) x.1) ≡ ok_pair r d → (v : Value p) × (read_part p c ≡ ok_pair v d) × (f v ≡ r)
+    go (Err bad) is h = absurd (err_is_not_ok h)
+    go (Ok x) is h = let q = same_pair (f x.0) r x.1 d h in (x.0, is ∙ ap (λ (y : Cursor). ok_pair x.0 y) q.1, q.0)

@@ -2,10 +2,11 @@
 use Rattle.std.proofs.Common.{◌≡◌, ℕ, ◌+◌, ◌-◌, ◌<◌, ◌≤◌, true, false, ltb, List, length, drop, Result, Ok, Err, refl, sym, ap, ◌∙◌, arith, ℤ, inl, inr}
 use Rattle.std.proofs.lemmas.Bool.{cases_lt, lt-ltb, le-ltb}
 use Rattle.lu_grammar.specs.declared.bad.Bad.{Bad}
+use Rattle.lu_grammar.specs.declared.bad.Bad.TheVariants.{Ends}
 use Rattle.lu_grammar.specs.Bytes.{Cursor, moved}
-use Rattle.lu_grammar.specs.Parts.{int64}
+use Rattle.lu_grammar.specs.Parts.{int32, int64}
 use Rattle.lu_grammar.specs.Reading.{◌>>=◌, read, read_part, signed_of}
-use Rattle.std.specs.Int.{w64}
+use Rattle.std.specs.Int.{w32, w64}
 use Rattle.std.proofs.Common.{take}
 use Rattle.lu_grammar.proofs.Records.{ok_pair, same_pair}
 use Rattle.lu_grammar.proofs.Plans.{err_is_not_ok}
@@ -20,7 +21,7 @@ pub int64_short : (bs : List ℕ) → length bs < 8 → (z : ℤ) (n : ℕ) → 
 unfolding read
 int64_short bs lt z n e = 
     let short : ltb (length bs) 8 ≡ true = lt-ltb (length bs) 8 lt in
-    let bad : read int64 bs ≡ Err Rattle.lu_grammar.specs.declared.bad.Bad.TheVariants.Ends = rw short refl in
+    let bad : read int64 bs ≡ Err Ends = rw short refl in
     err_is_not_ok (sym bad ∙ e)
 
 -- what a number of eight bytes that was read says
@@ -49,3 +50,17 @@ int64_not_bad c bad le e =
     let w = signed_of w64 (take 8 c.rest) in
     let ok : read_part int64 c ≡ ok_pair w (moved 8 c) = ap (λ (r : Result (ℤ × ℕ) Bad). r >>= λ x. ok_pair x.0 (moved x.1 c)) there in
     err_is_not_ok (sym e ∙ ok)
+
+-- where four bytes were read as a number they are behind
+pub int32_read : (c d : Cursor) (z : ℤ) → read_part int32 c ≡ ok_pair z d → (4 ≤ length c.rest) × (d ≡ moved 4 c)
+unfolding read
+int32_read c d z e = elim (cases_lt (length c.rest) 4) [
+  | inl lt ↦
+      let short : ltb (length c.rest) 4 ≡ true = lt-ltb (length c.rest) 4 lt in
+      let bad : read_part int32 c ≡ Err Ends = rw short refl in
+      absurd (err_is_not_ok (sym bad ∙ e))
+  | inr le ↦
+      let long : ltb (length c.rest) 4 ≡ false = le-ltb (length c.rest) 4 le in
+      let there : read_part int32 c ≡ ok_pair (signed_of w32 (take 4 c.rest)) (moved 4 c) = rw long refl in
+      (le, sym (same_pair (signed_of w32 (take 4 c.rest)) z (moved 4 c) d (sym there ∙ e)).1)
+]

@@ -1,20 +1,21 @@
 -- The records of `.fdx`, one after another.
-use Rattle.std.proofs.Common.{◌≡◌, ◌≢◌, ℕ, zero, suc, ◌+◌, ◌-◌, ◌*◌, ◌<◌, ◌≤◌, true, false, List, [], ◌∷◌, ◌++◌, length, drop, get_or, Option, Some, None, Result, Ok, Err, refl, sym, ap, subst, ◌∙◌, arith, ℤ, pos, ltb, append_assoc}
+use Rattle.std.proofs.Common.{◌≡◌, ◌≢◌, ℕ, zero, suc, ◌+◌, ◌-◌, ◌*◌, ◌<◌, ◌≤◌, Bool, true, false, List, [], ◌∷◌, ◌++◌, length, drop, get_or, Option, Some, None, Result, Ok, Err, refl, sym, ap, subst, ◌∙◌, arith, ℤ, pos, ltb, append_assoc}
 use Rattle.std.specs.List.{last_or}
 use Rattle.lu_types.specs.declared.stored.Window.{Window}
 use Rattle.lu_grammar.specs.Bytes.{Cursor, start_of, moved}
 use Rattle.lu_grammar.specs.Parts.{int32, int64}
+use borrow.Author.Tests.{ltb-false}
 use Rattle.std.proofs.lemmas.List.{drop-drop, append-nil, length-drop}
 use Rattle.lu_grammar.specs.Reading.{◌>>=◌, read, read_part}
 use Rattle.lu_grammar.specs.Records.{first_broken, record_at}
 use Rattle.lu_grammar.specs.Plans.{Plan, times, one, each, Broken, read_plan, ended, read_file}
-use Rattle.lu_grammar.proofs.Plans.{read_due, read_due_broken}
+use Rattle.lu_grammar.proofs.Plans.{ok_of, read_due, read_due_broken}
 use Rattle.lu_grammar.proofs.Records.{ok_pair, same_pair}
 use Rattle.lu_grammar.proofs.Loops.{read_plan-and_then, then_ok, one-was, times-more, times-fault, each-none}
-use Rattle.stored_fields.specs.Format.{format_shape}
-use Rattle.stored_fields.specs.Places.{header_conditions, place_shape, place_conditions, is_misplaced, places_kind, fdx_plan}
-use Rattle.stored_fields.proofs.StepLemmas.{alone_read, alone_breaks, alone_was, record_at-was, nothing_left, trailing}
-use Rattle.stored_fields.proofs.FixedLemmas.{int64_read}
+use Rattle.stored_fields.specs.Format.{format_shape, is_other_format}
+use Rattle.stored_fields.specs.Places.{is_past, header_conditions, place_shape, place_conditions, is_misplaced, places_kind, fdx_plan}
+use Rattle.stored_fields.proofs.StepLemmas.{alone_read, alone_breaks, alone_was, record_at-was, due_was, file_was, nothing_left, trailing}
+use Rattle.stored_fields.proofs.FixedLemmas.{int32_read, int64_read}
 
 -- ---- one record
 
@@ -149,3 +150,25 @@ pub record HasPlaces (fdx : List ℕ) (total : ℕ) (window : Window) (places : 
   pub many : length places ≡ total
   pub at : (i : ℕ) → i < total → read int64 (drop (4 + 8 * i) fdx) ≡ Ok (get_or places i (pos 0), 8)
   pub within : window.offset + window.count ≤ total
+
+pub has_places : (total : ℕ) (window : Window) (fdx : List ℕ) (places : List ℤ) → read_file (fdx_plan total window) fdx ≡ ok_of places → HasPlaces fdx total window places
+has_places total window fdx places e =
+    let file = file_was (fdx_plan total window) fdx places e in
+    let header = due_was format_shape (λ _ z. header_conditions total window z) (λ _ _. times places_kind total []) (start_of fdx) (places, file.0) file.1 in
+    let judged = record_at-was format_shape (header_conditions total window) (start_of fdx) header.0.0 header.0.1 header.1 in
+    let part = alone_was int32 (λ z. z) (start_of fdx) header.0.0 header.0.1 judged.0 in
+    let four = int32_read (start_of fdx) header.0.1 part.0 part.1 in
+    let walk = walked total [] header.0.1 file.0 places header.2 in
+    let behind : header.0.1.rest ≡ drop 4 fdx = ap (λ (c : Cursor). c.rest) four.1 in
+    let last : file.0.rest ≡ drop (8 * total) header.0.1.rest = ap (λ (c : Cursor). c.rest) walk.behind in
+    record {
+      long = omega (arith, four.0, walk.long, file.2, ap length behind, ap length last, length-drop 4 fdx, length-drop (8 * total) header.0.1.rest);
+      many = ap length walk.all ∙ walk.many;
+      at = λ i lt. ap (λ (t : List ℕ). read int64 t) (sym (drop-drop (8 * i) 4 fdx) ∙ ap (drop (8 * i)) (sym behind)) ∙ walk.at i lt ∙ ap (λ (xs : List ℤ). ok_pair (get_or xs i (pos 0)) 8) (sym walk.all);
+      within = not_past (is_other_format header.0.0) (is_past total window) refl judged.1;
+    }
+  where
+    not_past : (other past : Bool) → is_past total window ≡ past → first_broken (record { rule = 40; broken = other } ∷ record { rule = 42; broken = past } ∷ []) ≡ None → window.offset + window.count ≤ total
+    not_past true past is h = cc
+    not_past false true is h = cc
+    not_past false false is h = ltb-false total (window.offset + window.count) is

@@ -1,16 +1,17 @@
 -- Records of one part, and what a call that reads one shows.
-use Rattle.std.proofs.Common.{◌≡◌, ℕ, ◌<◌, List, [], length, true, false, eqb, Option, Some, None, Result, Ok, Err, ap, refl, ◌∙◌, sym, arith}
-use Rattle.std.proofs.lemmas.Bool.{eq-eqb, ne_eqb}
+use Rattle.std.proofs.Common.{◌≡◌, ℕ, ◌<◌, List, [], length, true, false, eqb, Option, Some, None, Result, Ok, Err, ap, refl, ◌∙◌, sym, arith, inl, inr}
+use Rattle.std.proofs.lemmas.Bool.{eq-eqb, ne_eqb, cases_eq}
 use Rattle.lu_grammar.specs.declared.bad.Bad.{Bad}
-use Rattle.lu_grammar.specs.Bytes.{Cursor}
+use Rattle.lu_grammar.specs.Bytes.{Cursor, start_of}
 use Rattle.lu_grammar.specs.Parts.{Part, Value}
 use Rattle.lu_grammar.specs.Reading.{◌>>=◌, read_part}
 use Rattle.lu_grammar.specs.Records.{Shape, whole, part, Condition, first_broken, rule_of, read_shape, unless_broken, judged, record_at}
 use Rattle.lu_types.specs.declared.kind.FileKind.{FileKind}
 use Rattle.lu_types.specs.declared.fault.Spot.{Spot}
-use Rattle.lu_grammar.specs.Plans.{Plan, Broken, ended, read_file}
+use Rattle.lu_grammar.specs.Plans.{Plan, due, Broken, broken_at, read_plan, ended, read_file}
 use Rattle.lu_grammar.proofs.Records.{read_shape-part, read_shape-part_err, record_at-read, record_at-breaks, record_at-unread, ok_pair, same_pair}
-use Rattle.lu_grammar.proofs.Plans.{err_is_not_ok}
+use Rattle.lu_grammar.proofs.Plans.{ok_of, err_is_not_ok}
+use Rattle.lu_grammar.proofs.Loops.{then_ok}
 
 -- a record of one part
 abbrev pub alone : {R : Type 0} (p : Part) → (Value p → R) → Shape R
@@ -72,3 +73,30 @@ alone_was {R} p f c r d e = go (read_part p c) refl e
     go : (s : Result (Value p × Cursor) Bad) → read_part p c ≡ s → (s >>= λ x. ok_pair (f x.0) x.1) ≡ ok_pair r d → (v : Value p) × (read_part p c ≡ ok_pair v d) × (f v ≡ r)
     go (Err bad) is h = absurd (err_is_not_ok h)
     go (Ok x) is h = let q = same_pair (f x.0) r x.1 d h in (x.0, is ∙ ap (λ (y : Cursor). ok_pair x.0 y) q.1, q.0)
+
+-- a plan that was read began with a good record
+pub due_was : {V R : Type 0} (shape : Shape R) (conditions : ℕ → R → List Condition) (after : ℕ → R → Plan V R) (c : Cursor) (x : V × Cursor) → read_plan (due shape conditions after) c ≡ ok_of x
+    → (y : R × Cursor) × (record_at shape (conditions c.place) c ≡ ok_of y) × (read_plan (after c.place y.0) y.1 ≡ ok_of x)
+unfolding read_plan
+due_was {V} {R} shape conditions after c x e = go (record_at shape (conditions c.place) c) refl e
+  where
+    go : (r : Result (R × Cursor) ℕ) → record_at shape (conditions c.place) c ≡ r → (broken_at c.place r >>= λ y. read_plan (after c.place y.0) y.1) ≡ ok_of x
+        → (y : R × Cursor) × (record_at shape (conditions c.place) c ≡ ok_of y) × (read_plan (after c.place y.0) y.1 ≡ ok_of x)
+    go (Ok y) is h = (y, is, h)
+    go (Err rule) is h = absurd (err_is_not_ok h)
+
+-- a file that was read: its plan was, and nothing is left
+pub file_was : {V R : Type 0} (plan : Plan V R) (bytes : List ℕ) (v : V) → read_file plan bytes ≡ ok_of v → (d : Cursor) × (read_plan plan (start_of bytes) ≡ ok_pair v d) × (length d.rest ≡ 0)
+file_was {V} {R} plan bytes v e =
+    let first = then_ok (read_plan plan (start_of bytes)) ended v e in
+    let end = at_end first.0 first.2 in
+    (first.0.1, first.1 ∙ ap (λ (w : V). ok_pair w first.0.1) end.0, end.1)
+  where
+    at_end : (x : V × Cursor) → ended x ≡ ok_of v → (x.0 ≡ v) × (length x.1.rest ≡ 0)
+    at_end x h = elim (cases_eq (length x.1.rest) 0) [
+      | inl none ↦ (same_ok (sym (nothing_left x.0 x.1 none) ∙ h), none)
+      | inr some ↦ let lt : 0 < length x.1.rest = omega arith in absurd (err_is_not_ok (sym (trailing x.0 x.1 lt) ∙ h))
+    ]
+      where
+        same_ok : {w : V} → ok_of {E = Broken} w ≡ ok_of v → w ≡ v
+        same_ok q = cc

@@ -1,5 +1,6 @@
 -- The records of `.fdt`, one after another.
 use Rattle.std.proofs.Common.{◌≡◌, ℕ, zero, suc, ◌+◌, ◌-◌, ◌*◌, ◌<◌, ◌≤◌, Bool, true, false, List, [], ◌∷◌, ◌++◌, length, drop, get_or, Option, Some, None, Result, Ok, Err, refl, sym, ap, subst, ◌∙◌, arith, ℤ, pos, append_assoc}
+use Rattle.std.proofs.lemmas.List.{length-append}
 use Rattle.lu_types.specs.declared.stored.Window.{Window}
 use Rattle.lu_grammar.specs.declared.bad.Bad.{Bad}
 use Rattle.lu_grammar.specs.Bytes.{Cursor, start_of, moved}
@@ -11,11 +12,11 @@ use Rattle.lu_types.specs.declared.fault.Spot.{Spot}
 use Rattle.lu_grammar.specs.Plans.{Plan, done, and_then, times, one, each, Broken, read_plan, ended, read_file}
 use Rattle.lu_grammar.proofs.Records.{record_at-read, record_at-breaks, record_at-unread}
 use Rattle.lu_grammar.proofs.Plans.{read_due, read_due_broken}
-use Rattle.lu_grammar.proofs.Loops.{read_shape-followed, read_plan-and_then, times-more, times-fault, each-none}
+use Rattle.lu_grammar.proofs.Loops.{read_shape-followed, read_plan-and_then, times-more, times-fault, each-none, each-more, each-fault}
 use Rattle.stored_fields.specs.Format.{is_other_format}
 use Rattle.stored_fields.specs.Values.{Document, Entry, entry_shape}
-use Rattle.stored_fields.specs.Documents.{Record, format, count, value, header_shape, format_conditions, count_shape, is_elsewhere, start_conditions, value_shape, entry_conditions, value_conditions, with_value, values_kind, count_of, document_at}
-use Rattle.stored_fields.proofs.StepLemmas.{alone_read, alone_breaks, spot_of}
+use Rattle.stored_fields.specs.Documents.{Record, format, count, value, header_shape, format_conditions, count_shape, is_elsewhere, start_conditions, value_shape, entry_conditions, value_conditions, with_value, values_kind, count_of, is_within, document_at, next_document, fdt_plan}
+use Rattle.stored_fields.proofs.StepLemmas.{alone_read, alone_breaks, spot_of, nothing_left, trailing}
 
 -- ---- one record
 
@@ -105,3 +106,72 @@ document_spot asked fields wanted c offset rule s is e = (ap (λ (t : Spot). t.k
   where
     fault_of : ℕ → ℕ → Result (List Document × Cursor) Broken
     fault_of o r = Err (record { offset = o; rule = r })
+
+-- ---- the documents
+
+-- from this cursor on so many documents are good, and the cursor stands behind them
+pub record PassedDocuments (window : Window) (fields : ℕ) (places : List ℤ) (from : Cursor) (number : ℕ) (here : Cursor) : Type 0 where
+  pub documents : List Document
+  pub many : length documents ≡ number
+  pub reads : read_plan (each (next_document window fields places) number []) from ≡ Ok (documents, here)
+
+pub passed_no_document : (window : Window) (fields : ℕ) (places : List ℤ) (from : Cursor) → PassedDocuments window fields places from 0 from
+passed_no_document window fields places from = record { documents = []; many = refl; reads = each-none (next_document window fields places) [] from }
+
+-- the plan of the next document, by its number, its place and whether the window has it
+next_is : (window : Window) (fields : ℕ) (places : List ℤ) (documents : List Document) (number : ℕ) (asked : Bool) (wanted : ℤ) → length documents ≡ number → asked ≡ is_within window number → get_or places number (pos 0) ≡ wanted
+    → next_document window fields places documents ≡ document_at asked fields wanted documents
+next_is window fields places documents number asked wanted many within place =
+    ap (λ (n : ℕ). document_at (is_within window n) fields (get_or places n (pos 0)) documents) many
+    ∙ ap (λ (b : Bool). document_at b fields (get_or places number (pos 0)) documents) (sym within) ∙ ap (λ (z : ℤ). document_at asked fields z documents) place
+
+pub passed_document : (window : Window) (fields : ℕ) (places : List ℤ) (from : Cursor) (number : ℕ) (here next : Cursor) (asked : Bool) (wanted : ℤ) → PassedDocuments window fields places from number here
+    → asked ≡ is_within window number → get_or places number (pos 0) ≡ wanted
+    → (values : Document) × ((documents : List Document) → read_plan (document_at asked fields wanted documents) here ≡ Ok (documents ++ values ∷ [], next))
+    → PassedDocuments window fields places from (number + 1) next
+passed_document window fields places from number here next asked wanted before within place (values, reads) = record {
+  documents = before.documents ++ values ∷ [];
+  many = omega (arith, length-append before.documents (values ∷ []), before.many);
+  reads = each-more (next_document window fields places) number [] from before.documents here (before.documents ++ values ∷ []) next before.reads
+      (ap (λ (p : Plan (List Document) Record). read_plan p here) (next_is window fields places before.documents number asked wanted before.many within place) ∙ reads before.documents);
+}
+
+-- ---- the file
+
+-- the header is passed
+abbrev pub IsBehindFormat : List ℕ → Cursor → Type 0
+IsBehindFormat bytes here = (r : Record) × (record_at header_shape format_conditions (start_of bytes) ≡ Ok (r, here))
+
+fdt_from : (window : Window) (fields : ℕ) (places : List ℤ) (bytes : List ℕ) (from : Cursor) → IsBehindFormat bytes from
+    → read_plan (fdt_plan window fields places) (start_of bytes) ≡ read_plan (each (next_document window fields places) (length places) []) from
+fdt_from window fields places bytes from (r, e) = read_due header_shape (λ _ r. format_conditions r) (λ _ _. each (next_document window fields places) (length places) []) (start_of bytes) r from e
+
+pub fdt_header_fault : (window : Window) (fields : ℕ) (places : List ℤ) (bytes : List ℕ) (rule : ℕ) → record_at header_shape format_conditions (start_of bytes) ≡ Err rule
+    → read_file (fdt_plan window fields places) bytes ≡ Err (record { offset = 0; rule = rule })
+fdt_header_fault window fields places bytes rule e =
+    ap (λ (r : Result (List Document × Cursor) Broken). r >>= ended)
+    (read_due_broken header_shape (λ _ r. format_conditions r) (λ _ _. each (next_document window fields places) (length places) []) (start_of bytes) rule e)
+
+pub fdt_document_fault : (window : Window) (fields : ℕ) (places : List ℤ) (bytes : List ℕ) (from : Cursor) (number : ℕ) (here : Cursor) (asked : Bool) (wanted : ℤ) (s : Spot) → IsBehindFormat bytes from
+    → PassedDocuments window fields places from number here → number < length places → asked ≡ is_within window number → get_or places number (pos 0) ≡ wanted
+    → (s.kind ≡ Fdt) × ((documents : List Document) → read_plan (document_at asked fields wanted documents) here ≡ Err (record { offset = s.offset; rule = s.rule }))
+    → (s.kind ≡ Fdt) × (read_file (fdt_plan window fields places) bytes ≡ Err (record { offset = s.offset; rule = s.rule }))
+fdt_document_fault window fields places bytes from number here asked wanted s header before lt within place (kind, broken) = (kind,
+    ap (λ (r : Result (List Document × Cursor) Broken). r >>= ended)
+    (fdt_from window fields places bytes from header
+        ∙ each-fault (next_document window fields places) number (length places) [] from before.documents here (record { offset = s.offset; rule = s.rule }) lt before.reads
+        (ap (λ (p : Plan (List Document) Record). read_plan p here) (next_is window fields places before.documents number asked wanted before.many within place) ∙ broken before.documents)))
+
+pub fdt_trailing : (window : Window) (fields : ℕ) (places : List ℤ) (bytes : List ℕ) (from : Cursor) (number : ℕ) (here : Cursor) → IsBehindFormat bytes from → PassedDocuments window fields places from number here
+    → number ≡ length places → 0 < length here.rest → read_file (fdt_plan window fields places) bytes ≡ Err (record { offset = here.place; rule = 6 })
+fdt_trailing window fields places bytes from number here header before all some =
+    ap (λ (r : Result (List Document × Cursor) Broken). r >>= ended)
+    (fdt_from window fields places bytes from header ∙ ap (λ (n : ℕ). read_plan (each (next_document window fields places) n []) from) (sym all) ∙ before.reads)
+    ∙ trailing before.documents here some
+
+pub fdt_read : (window : Window) (fields : ℕ) (places : List ℤ) (bytes : List ℕ) (from : Cursor) (number : ℕ) (here : Cursor) → IsBehindFormat bytes from → (before : PassedDocuments window fields places from number here)
+    → number ≡ length places → length here.rest ≡ 0 → read_file (fdt_plan window fields places) bytes ≡ Ok before.documents
+fdt_read window fields places bytes from number here header before all none =
+    ap (λ (r : Result (List Document × Cursor) Broken). r >>= ended)
+    (fdt_from window fields places bytes from header ∙ ap (λ (n : ℕ). read_plan (each (next_document window fields places) n []) from) (sym all) ∙ before.reads)
+    ∙ nothing_left before.documents here none

@@ -172,3 +172,9 @@ has_places total window fdx places e =
     not_past true past is h = cc
     not_past false true is h = cc
     not_past false false is h = ltb-false total (window.offset + window.count) is
+
+-- the place that stands in `.fdx` is that of the document
+pub place_is : (total : ℕ) (window : Window) (fdx : List ℕ) (places : List ℤ) → read_file (fdx_plan total window) fdx ≡ ok_of places → (number : ℕ) → number < total → (z : ℤ) → read int64 (drop (4 + 8 * number) fdx) ≡ Ok (z, 8)
+    → get_or places number (pos 0) ≡ z
+place_is total window fdx places e number lt z here =
+    (same_pair (get_or places number (pos 0)) z 8 8 (sym ((has_places total window fdx places e).at number lt) ∙ here)).0

@@ -123,3 +123,33 @@ fn pass_document(here: &mut Cur<'_>, asked: bool, fields: u32, wanted: i64) -> R
     }
     Ok(())
 }
+
+/// Walks `.fdt` of a store of so many documents, whose `.fdx` has no fault and of which a segment with so many fields takes
+/// those in the window; answers its first fault.
+pub fn check_documents(
+    fdx: &[u8],
+    fdt: &[u8],
+    fields: u32,
+    total: u32,
+    window: Window,
+) -> Result<(), Spot>
+    requires room { window.offset + window.count < 2 ^ 32 }
+    requires places { read_file (fdx_plan total window) fdx.now ≡ Ok (places_in total window fdx.now) }
+    ensures { Judges (fdt_plan window fields (places_in total window fdx.now)) fdt.now Fdt result }
+{
+    let mut here = Cur::at(fdt, 0);
+    if let Err(rule) = pass_header(&mut here) {
+        return Err(spot(FileKind::Fdt, 0, rule));
+    }
+    for number in 0..total {
+        let wanted = place_at(fdx, number);
+        let asked = is_within(window, number);
+        if let Err(fault) = pass_document(&mut here, asked, fields, wanted) {
+            return Err(fault);
+        }
+    }
+    if here.left() > 0 {
+        return Err(spot(FileKind::Fdt, here.place(), TRAILING));
+    }
+    Ok(())
+}

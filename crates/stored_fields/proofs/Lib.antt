@@ -3,3 +3,4 @@ pub mod StepLemmas
 pub mod PlaceLemmas
 pub mod DocumentLemmas
 pub mod FixedLemmas
+pub mod ValueLemmas

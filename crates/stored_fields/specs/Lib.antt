@@ -5,3 +5,4 @@ pub mod Documents
 pub mod Stores
 pub mod Steps
 pub mod Entries
+pub mod Remaining

@@ -1,6 +1,7 @@
 //! Stored documents: `.fdx` and `.fdt`, written, checked through a window, and read as borrowed values.
 #![tactic(auto)]
 
+mod document;
 mod documents;
 mod entry;
 mod faults;
@@ -8,4 +9,5 @@ mod layout;
 mod places;
 mod value;
 
+pub use document::StoredDoc;
 pub use value::{StoredRef, ValueRef};

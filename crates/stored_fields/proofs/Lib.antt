@@ -4,3 +4,4 @@ pub mod PlaceLemmas
 pub mod DocumentLemmas
 pub mod FixedLemmas
 pub mod ValueLemmas
+pub mod StandsLemmas

@@ -1,9 +1,9 @@
 -- The records of `.fdt`, one after another.
-use Rattle.std.proofs.Common.{◌≡◌, ℕ, zero, suc, ◌+◌, ◌-◌, ◌*◌, ◌<◌, ◌≤◌, Bool, true, false, List, [], ◌∷◌, ◌++◌, length, drop, get_or, Option, Some, None, Result, Ok, Err, refl, sym, ap, subst, ◌∙◌, arith, ℤ, pos, append_assoc}
+use Rattle.std.proofs.Common.{◌≡◌, ℕ, ◌+◌, ◌<◌, Bool, true, false, List, [], ◌∷◌, ◌++◌, length, get_or, Some, None, Result, Ok, Err, refl, sym, ap, ◌∙◌, arith, ℤ, pos}
 use Rattle.std.proofs.lemmas.List.{length-append}
 use Rattle.lu_types.specs.declared.stored.Window.{Window}
 use Rattle.lu_grammar.specs.declared.bad.Bad.{Bad}
-use Rattle.lu_grammar.specs.Bytes.{Cursor, start_of, moved}
+use Rattle.lu_grammar.specs.Bytes.{Cursor, start_of}
 use Rattle.lu_grammar.specs.Parts.{int32, num}
 use Rattle.lu_grammar.specs.Reading.{◌>>=◌, read_part}
 use Rattle.lu_grammar.specs.Records.{whole, first_broken, rule_of, read_shape, record_at}
@@ -156,11 +156,13 @@ pub fdt_document_fault : (window : Window) (fields : ℕ) (places : List ℤ) (b
     → PassedDocuments window fields places from number here → number < length places → asked ≡ is_within window number → get_or places number (pos 0) ≡ wanted
     → (s.kind ≡ Fdt) × ((documents : List Document) → read_plan (document_at asked fields wanted documents) here ≡ Err (record { offset = s.offset; rule = s.rule }))
     → (s.kind ≡ Fdt) × (read_file (fdt_plan window fields places) bytes ≡ Err (record { offset = s.offset; rule = s.rule }))
-fdt_document_fault window fields places bytes from number here asked wanted s header before lt within place (kind, broken) = (kind,
-    ap (λ (r : Result (List Document × Cursor) Broken). r >>= ended)
-    (fdt_from window fields places bytes from header
-        ∙ each-fault (next_document window fields places) number (length places) [] from before.documents here (record { offset = s.offset; rule = s.rule }) lt before.reads
-        (ap (λ (p : Plan (List Document) Record). read_plan p here) (next_is window fields places before.documents number asked wanted before.many within place) ∙ broken before.documents)))
+fdt_document_fault window fields places bytes from number here asked wanted s header before lt within place (kind, broken) = (
+  kind,
+  ap (λ (r : Result (List Document × Cursor) Broken). r >>= ended)
+      (fdt_from window fields places bytes from header
+      ∙ each-fault (next_document window fields places) number (length places) [] from before.documents here (record { offset = s.offset; rule = s.rule }) lt before.reads
+      (ap (λ (p : Plan (List Document) Record). read_plan p here) (next_is window fields places before.documents number asked wanted before.many within place) ∙ broken before.documents)),
+)
 
 pub fdt_trailing : (window : Window) (fields : ℕ) (places : List ℤ) (bytes : List ℕ) (from : Cursor) (number : ℕ) (here : Cursor) → IsBehindFormat bytes from → PassedDocuments window fields places from number here
     → number ≡ length places → 0 < length here.rest → read_file (fdt_plan window fields places) bytes ≡ Err (record { offset = here.place; rule = 6 })

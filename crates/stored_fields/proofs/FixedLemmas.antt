@@ -1,5 +1,5 @@
 -- A number of eight bytes.
-use Rattle.std.proofs.Common.{◌≡◌, ℕ, ◌+◌, ◌-◌, ◌<◌, ◌≤◌, true, false, ltb, List, length, drop, Result, Ok, Err, refl, sym, ap, ◌∙◌, arith, ℤ, inl, inr}
+use Rattle.std.proofs.Common.{◌≡◌, ℕ, ◌<◌, ◌≤◌, true, false, ltb, List, length, Result, Ok, Err, refl, sym, ap, ◌∙◌, ℤ, inl, inr}
 use Rattle.std.proofs.lemmas.Bool.{cases_lt, lt-ltb, le-ltb}
 use Rattle.lu_grammar.specs.declared.bad.Bad.{Bad}
 use Rattle.lu_grammar.specs.declared.bad.Bad.TheVariants.{Ends}
@@ -19,7 +19,7 @@ int64_there bs le = let long : ltb (length bs) 8 ≡ false = le-ltb (length bs) 
 -- and where there are fewer they are none
 pub int64_short : (bs : List ℕ) → length bs < 8 → (z : ℤ) (n : ℕ) → read int64 bs ≡ ok_pair z n → ⊥
 unfolding read
-int64_short bs lt z n e = 
+int64_short bs lt z n e =
     let short : ltb (length bs) 8 ≡ true = lt-ltb (length bs) 8 lt in
     let bad : read int64 bs ≡ Err Ends = rw short refl in
     err_is_not_ok (sym bad ∙ e)

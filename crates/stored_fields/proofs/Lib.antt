@@ -5,3 +5,4 @@ pub mod DocumentLemmas
 pub mod FixedLemmas
 pub mod ValueLemmas
 pub mod StandsLemmas
+pub mod StoreLemmas

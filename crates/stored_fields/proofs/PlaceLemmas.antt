@@ -1,5 +1,5 @@
 -- The records of `.fdx`, one after another.
-use Rattle.std.proofs.Common.{◌≡◌, ◌≢◌, ℕ, zero, suc, ◌+◌, ◌-◌, ◌*◌, ◌<◌, ◌≤◌, Bool, true, false, List, [], ◌∷◌, ◌++◌, length, drop, get_or, Option, Some, None, Result, Ok, Err, refl, sym, ap, subst, ◌∙◌, arith, ℤ, pos, ltb, append_assoc}
+use Rattle.std.proofs.Common.{◌≡◌, ℕ, zero, suc, ◌+◌, ◌*◌, ◌<◌, ◌≤◌, Bool, true, false, List, [], ◌∷◌, ◌++◌, length, drop, get_or, Option, Some, None, Result, Ok, Err, refl, sym, ap, subst, ◌∙◌, arith, ℤ, pos, append_assoc}
 use Rattle.std.specs.List.{last_or}
 use Rattle.lu_types.specs.declared.stored.Window.{Window}
 use Rattle.lu_grammar.specs.Bytes.{Cursor, start_of, moved}
@@ -8,7 +8,7 @@ use borrow.Author.Tests.{ltb-false}
 use Rattle.std.proofs.lemmas.List.{drop-drop, append-nil, length-drop}
 use Rattle.lu_grammar.specs.Reading.{◌>>=◌, read, read_part}
 use Rattle.lu_grammar.specs.Records.{first_broken, record_at}
-use Rattle.lu_grammar.specs.Plans.{Plan, times, one, each, Broken, read_plan, ended, read_file}
+use Rattle.lu_grammar.specs.Plans.{times, one, each, Broken, read_plan, ended, read_file}
 use Rattle.lu_grammar.proofs.Plans.{ok_of, read_due, read_due_broken}
 use Rattle.lu_grammar.proofs.Records.{ok_pair, same_pair}
 use Rattle.lu_grammar.proofs.Loops.{read_plan-and_then, then_ok, one-was, times-more, times-fault, each-none}
@@ -83,7 +83,7 @@ fdx_place_fault total window bytes from number last here rule header before lt e
 
 pub fdx_trailing : (total : ℕ) (window : Window) (bytes : List ℕ) (from : Cursor) (number : ℕ) (last : Option ℤ) (here : Cursor) → IsBehindHeader total window bytes from → PassedPlaces from number last here → number ≡ total → 0 < length here.rest
     → read_file (fdx_plan total window) bytes ≡ Err (record { offset = here.place; rule = 6 })
-fdx_trailing total window bytes from number last here header before all some = 
+fdx_trailing total window bytes from number last here header before all some =
     ap (λ (r : Result (List ℤ × Cursor) Broken). r >>= ended) (fdx_from total window bytes from header ∙ ap (λ (n : ℕ). read_plan (times places_kind n []) from) (sym all) ∙ before.reads)
     ∙ trailing before.places here some
 

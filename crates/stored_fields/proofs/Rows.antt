@@ -1,14 +1,13 @@
 -- Worked rows on the definitions: what reading answers at chosen bytes.
-use Rattle.std.proofs.Common.{◌≡◌, ℕ, ◌+◌, true, false, List, [], ◌∷◌, ◌++◌, Result, Ok, Err, refl, pos, ℤ}
+use Rattle.std.proofs.Common.{◌≡◌, ℕ, true, false, List, [], ◌∷◌, ◌++◌, Result, Ok, Err, refl, pos, ℤ}
 use Rattle.std.specs.Prelude.{codes}
 use Rattle.std.specs.Str.{is_utf8, chars}
 use Rattle.lu_types.specs.declared.stored.Stored.TheVariants.{Text, Binary}
 use Rattle.lu_types.specs.declared.stored.Window.{Window}
-use Rattle.lu_grammar.specs.Parts.{groups}
 use Rattle.lu_grammar.specs.Reading.{read, read_groups}
 use Rattle.lu_grammar.specs.Records.{record_at}
 use Rattle.lu_grammar.specs.Plans.{each, Broken, read_plan, read_file}
-use Rattle.stored_fields.specs.Values.{StoredField, Document}
+use Rattle.stored_fields.specs.Values.{Document}
 use Rattle.stored_fields.specs.Places.{fdx_plan}
 use Rattle.stored_fields.specs.Documents.{fdt_plan}
 

@@ -1,12 +1,12 @@
 -- Where the documents of a `.fdt` without a fault stand.
-use Rattle.std.proofs.Common.{◌≡◌, ℕ, zero, suc, ◌+◌, ◌-◌, ◌<◌, ◌≤◌, Bool, true, false, not, List, [], ◌∷◌, ◌++◌, length, drop, get_or, Option, Some, None, Result, Ok, Err, refl, sym, ap, subst, ◌∙◌, arith, append_assoc, ℤ, pos, cond}
+use Rattle.std.proofs.Common.{◌≡◌, ℕ, zero, suc, ◌+◌, ◌<◌, ◌≤◌, Bool, true, false, not, List, [], ◌∷◌, ◌++◌, length, drop, get_or, None, Ok, refl, sym, ap, subst, ◌∙◌, arith, append_assoc, ℤ, pos}
 use Rattle.std.specs.Ordering.{int_eq}
 use Rattle.std.proofs.lemmas.List.{append-nil, drop-drop, drop_at, length-append, length-drop}
 use Rattle.std.proofs.lemmas.Bool.Decides.{Decides-int_eq}
 use Rattle.lu_types.specs.declared.stored.Window.{Window}
 use Rattle.lu_grammar.specs.Bytes.{IsBytes, Cursor, start_of, moved}
 use Rattle.lu_grammar.specs.Parts.{num, int32}
-use Rattle.lu_grammar.specs.Reading.{◌>>=◌, read_part}
+use Rattle.lu_grammar.specs.Reading.{read_part}
 use Rattle.lu_grammar.specs.Records.{first_broken}
 use Rattle.lu_grammar.specs.Plans.{Plan, done, and_then, times, each, read_plan, read_file}
 use Rattle.lu_grammar.specs.Meaning.{bytes_of}
@@ -14,8 +14,8 @@ use Rattle.lu_grammar.proofs.Parts.{IsBytes-drop}
 use Rattle.lu_grammar.proofs.Records.{ok_pair, same_pair}
 use Rattle.lu_grammar.proofs.Plans.{ok_of, reads-read_plan}
 use Rattle.lu_grammar.proofs.Loops.{read_plan-and_then, then_ok}
-use Rattle.stored_fields.specs.Values.{StoredField, Document}
-use Rattle.stored_fields.specs.Documents.{Record, format, count, count_of, header_shape, format_conditions, count_shape, is_elsewhere, start_conditions, values_kind, is_within, document_at, next_document, fdt_plan}
+use Rattle.stored_fields.specs.Values.{Document}
+use Rattle.stored_fields.specs.Documents.{format, count, count_of, header_shape, format_conditions, count_shape, start_conditions, values_kind, is_within, document_at, next_document, fdt_plan}
 use Rattle.stored_fields.specs.Remaining.{values_at}
 use Rattle.stored_fields.proofs.StepLemmas.{record_at-was, alone_was, due_was, file_was}
 use Rattle.stored_fields.proofs.FixedLemmas.{int32_read}

@@ -1,5 +1,5 @@
 -- Records of one part, and what a call that reads one shows.
-use Rattle.std.proofs.Common.{◌≡◌, ℕ, ◌<◌, List, [], length, true, false, eqb, Option, Some, None, Result, Ok, Err, ap, refl, ◌∙◌, sym, arith, inl, inr}
+use Rattle.std.proofs.Common.{◌≡◌, ℕ, ◌<◌, List, length, true, false, eqb, Option, Some, None, Result, Ok, Err, ap, refl, ◌∙◌, sym, arith, inl, inr}
 use Rattle.std.proofs.lemmas.Bool.{eq-eqb, ne_eqb, cases_eq}
 use Rattle.lu_grammar.specs.declared.bad.Bad.{Bad}
 use Rattle.lu_grammar.specs.Bytes.{Cursor, start_of}

@@ -1,5 +1,5 @@
 -- The values that stand in a document, one after another.
-use Rattle.std.proofs.Common.{◌≡◌, ℕ, zero, suc, ◌+◌, ◌-◌, ◌<◌, ◌≤◌, Bool, List, [], ◌∷◌, ◌++◌, Result, Ok, Err, refl, sym, ap, ◌∙◌, arith, append_assoc}
+use Rattle.std.proofs.Common.{◌≡◌, ℕ, zero, suc, ◌-◌, ◌<◌, Bool, [], ◌∷◌, ◌++◌, Result, Ok, Err, refl, sym, ap, ◌∙◌, arith, append_assoc}
 use Rattle.std.proofs.lemmas.List.{append-nil}
 use Rattle.lu_grammar.specs.declared.bad.Bad.{Bad}
 use Rattle.lu_grammar.specs.Bytes.{Cursor}
@@ -9,7 +9,7 @@ use Rattle.lu_grammar.specs.Plans.{one, times, each, read_plan}
 use Rattle.lu_grammar.proofs.Records.{ok_pair, same_pair}
 use Rattle.lu_grammar.proofs.Plans.{ok_of, err_is_not_ok}
 use Rattle.lu_grammar.proofs.Loops.{read_shape-followed, read_plan-and_then, then_ok, one-was}
-use Rattle.stored_fields.specs.Values.{StoredField, Document, Entry, entry_shape, stored}
+use Rattle.stored_fields.specs.Values.{Document, Entry, entry_shape, stored}
 use Rattle.stored_fields.specs.Documents.{Record, value, value_shape, value_conditions, with_value, values_kind}
 use Rattle.stored_fields.specs.Stores.{value_or}
 use Rattle.stored_fields.specs.Remaining.{values_at}
@@ -60,10 +60,11 @@ values_read asked fields (suc n) front c d all e =
     let shape = (record_at-was value_shape (value_conditions asked fields) c was.0 first.0.1 was.1).0 in
     let entry = entry_was c was.0 first.0.1 shape in
     let rest = values_read asked fields n first.0.0 first.0.1 d all first.2 in
-    let state : first.0.0 ≡ front ++ stored entry.0 ∷ [] = sym was.2 ∙ ap (λ (r : Record). with_value front r) (sym entry.2) in
-    (stored entry.0 ∷ rest.0,
-        rest.1 ∙ ap (λ (t : Document). t ++ rest.0) state ∙ append_assoc front (stored entry.0 ∷ []) rest.0,
-        ap (λ (r : Result (Entry × Cursor) Bad). r >>= λ x. values_at n x.1 >>= λ values. ok_of (stored x.0 ∷ values)) entry.1 ∙ ap (λ (r : Result Document Bad). r >>= λ values. ok_of (stored entry.0 ∷ values)) rest.2)
+    let state : first.0.0 ≡ front ++ stored entry.0 ∷ [] = sym was.2 ∙ ap (λ (r : Record). with_value front r) (sym entry.2) in (
+      stored entry.0 ∷ rest.0,
+      rest.1 ∙ ap (λ (t : Document). t ++ rest.0) state ∙ append_assoc front (stored entry.0 ∷ []) rest.0,
+      ap (λ (r : Result (Entry × Cursor) Bad). r >>= λ x. values_at n x.1 >>= λ values. ok_of (stored x.0 ∷ values)) entry.1 ∙ ap (λ (r : Result Document Bad). r >>= λ values. ok_of (stored entry.0 ∷ values)) rest.2,
+    )
   where
     entry_was : (c : Cursor) (r : Record) (d : Cursor) → read_shape value_shape c ≡ ok_pair r d → (entry : Entry) × (read_shape entry_shape c ≡ ok_pair entry d) × (value entry ≡ r)
     entry_was c r d e =
@@ -76,9 +77,10 @@ pub one_read : (left : ℕ) (c : Cursor) (entry : Entry) (next : Cursor) → 0 <
     → (values_at (left - 1) next ≡ Ok (value_or [] (values_at (left - 1) next))) × (value_or [] (values_at left c) ≡ stored entry ∷ value_or [] (values_at (left - 1) next))
 one_read left c entry next lt e here =
     let more = one_more left c lt e in
-    let p = same_pair more.entry entry more.next next (sym more.read ∙ here) in
-    (ap (values_at (left - 1)) (sym p.1) ∙ more.later ∙ ap (λ (d : Cursor). ok_of (value_or [] (values_at (left - 1) d))) p.1,
-        more.all ∙ ap (λ (x : Entry). stored x ∷ value_or [] (values_at (left - 1) more.next)) p.0 ∙ ap (λ (d : Cursor). stored entry ∷ value_or [] (values_at (left - 1) d)) p.1)
+    let p = same_pair more.entry entry more.next next (sym more.read ∙ here) in (
+      ap (values_at (left - 1)) (sym p.1) ∙ more.later ∙ ap (λ (d : Cursor). ok_of (value_or [] (values_at (left - 1) d))) p.1,
+      more.all ∙ ap (λ (x : Entry). stored x ∷ value_or [] (values_at (left - 1) more.next)) p.0 ∙ ap (λ (d : Cursor). stored entry ∷ value_or [] (values_at (left - 1) d)) p.1,
+    )
 
 -- where values are left reading one does not fail
 pub one_not_bad : (left : ℕ) (c : Cursor) (bad : Bad) → 0 < left → values_at left c ≡ Ok (value_or [] (values_at left c)) → read_shape entry_shape c ≡ Err bad → ⊥

@@ -7,7 +7,7 @@ use Rattle.lu_grammar.specs.Parts.{num}
 use Rattle.lu_grammar.specs.Records.{Shape, whole, part, followed, Condition}
 use Rattle.lu_grammar.specs.Plans.{Plan, done, due, and_then, Kind, times, each}
 use Rattle.stored_fields.specs.declared.value.TheConstants.{TOKENIZED, BINARY}
-use Rattle.stored_fields.specs.Values.{StoredField, Document, Entry, entry_shape, stored}
+use Rattle.stored_fields.specs.Values.{Document, Entry, entry_shape, stored}
 use Rattle.stored_fields.specs.Format.{format_shape, is_other_format}
 
 -- a record of `.fdt`: the format number, how many values a document has, or one of them

@@ -3,6 +3,7 @@ use Rattle.std.specs.Prelude.{◌≡◌, ℕ, ◌-◌, ◌/◌, List, [], length
 use Rattle.lu_types.specs.declared.kind.FileKind.TheVariants.{Fdx, Fdt}
 use Rattle.lu_types.specs.declared.fault.Spot.{Spot}
 use Rattle.lu_types.specs.declared.stored.Window.{Window}
+use Rattle.lu_grammar.specs.Bytes.{IsBytes}
 use Rattle.lu_grammar.specs.Plans.{read_file}
 use Rattle.lu_grammar.specs.Meaning.{Reads, FirstFault}
 use Rattle.stored_fields.specs.declared.layout.TheConstants.{HEADER_BYTES, PLACE_BYTES}
@@ -47,5 +48,6 @@ IsFirstFault fdx fdt fields total window spot =
 
 -- the files have no fault
 pub record IsSound (fields total : ℕ) (window : Window) (fdx fdt : List ℕ) : Type 0 where
+  pub bytes : IsBytes fdt
   pub places : read_file (fdx_plan total window) fdx ≡ Ok (places_in total window fdx)
   pub documents : read_file (fdt_plan window fields (places_in total window fdx)) fdt ≡ Ok (documents_in fields total window fdx fdt)

@@ -3,8 +3,8 @@ ghost use Rattle.std.specs.Prelude.{◌≡◌};
 ghost use Rattle.lu_grammar.specs.Records.{rule_of};
 
 use lu_prims::Bad;
-use lu_types::{FileKind, Spot};
 use lu_types::rules::{ENDS, LONG_NUMBER, NOT_UTF8, TOO_GREAT};
+use lu_types::{FileKind, Spot};
 
 /// The rule that a part without a spelling breaks (format page, "How a fault is found").
 pub fn rule_of(bad: Bad) -> u16

@@ -8,6 +8,8 @@ mod faults;
 mod layout;
 mod places;
 mod value;
+mod view;
 
 pub use document::StoredDoc;
 pub use value::{StoredRef, ValueRef};
+pub use view::{StoredView, stored_total};

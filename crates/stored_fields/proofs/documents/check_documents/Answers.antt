@@ -1,4 +1,4 @@
-use Rattle.std.proofs.Common.{◌≡◌, ◌≤◌, ◌+◌, ◌*◌, sym, ap, ◌∙◌, arith, rules, ℕ, ℤ, List, length, get_or, pos, to_z, of_z, w64}
+use Rattle.std.proofs.Common.{◌≡◌, ◌≤◌, ◌+◌, ◌*◌, sym, ◌∙◌, arith, rules, ℤ, List, length, to_z, of_z, w64}
 use Rattle.lu_types.specs.declared.kind.FileKind.TheVariants.{Fdt}
 use Rattle.stored_fields.specs.Documents.{fdt_plan}
 use Rattle.stored_fields.specs.Stores.{places_in}

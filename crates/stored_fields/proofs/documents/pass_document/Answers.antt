@@ -16,7 +16,7 @@ returns-in-Err-pass_value c =
     let e : to_z w64 (of_z w64 c.args.wanted) ≡ c.args.wanted = search rules in
     document_spot c.args.asked c.args.fields c.args.wanted c.args.here.now c.place-place.result c.in-Err-pass_value.rule c.spot-in-Err-pass_value.result c.spot-in-Err-pass_value.ensures
     (λ documents. rw c.place-place.ensures (document_value_fault c.args.asked c.args.fields c.args.wanted documents c.args.here.now c.next_count.new.here c.in-Ok.count c.loop-value._value c.loop-value.here c.in-Err-pass_value.rule
-        (rw e at c.in-Ok.ensures) c.loop-value.invariant c.loop-value-test.true c.in-Err-pass_value.ensures))
+    (rw e at c.in-Ok.ensures) c.loop-value.invariant c.loop-value-test.true c.in-Err-pass_value.ensures))
 
 pub loop-value-preserved : goal.loop-value-preserved
 loop-value-preserved c =

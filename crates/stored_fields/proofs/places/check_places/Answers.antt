@@ -1,8 +1,7 @@
-use Rattle.std.proofs.Common.{◌≡◌, sym, ap, ◌∙◌, subst, arith, refl, ℕ, length, rules, to_z, of_z, w64}
+use Rattle.std.proofs.Common.{◌≡◌, arith, rules, to_z, of_z, w64}
 use Rattle.lu_types.specs.declared.kind.FileKind.TheVariants.{Fdx}
-use Rattle.lu_grammar.specs.Bytes.{Cursor, start_of}
 use Rattle.stored_fields.specs.Places.{fdx_plan}
-use Rattle.stored_fields.proofs.StepLemmas.{at_spot, spot_of}
+use Rattle.stored_fields.proofs.StepLemmas.{at_spot}
 use Rattle.stored_fields.proofs.PlaceLemmas.{passed_no_place, passed_place, IsBehindHeader, fdx_header_fault, fdx_place_fault, fdx_trailing, fdx_read}
 use Rattle.stored_fields.proofs.places.check_places.Goals as goal
 
@@ -19,7 +18,7 @@ returns-in-Err-next_place c =
     let header : IsBehindHeader c.args.total c.args.window c.args.fdx.now c.pass_header.new.here = rw (← c.at-here.ensures) c.in_default.ensures in
     at_spot (fdx_plan c.args.total c.args.window) c.args.fdx.now Fdx c.place-start.result c.in-Err-next_place.rule c.spot-in-Err-next_place.result c.spot-in-Err-next_place.ensures
     (rw c.place-start.ensures (fdx_place_fault c.args.total c.args.window c.args.fdx.now c.pass_header.new.here c.loop-number._number c.loop-number.before c.loop-number.here c.in-Err-next_place.rule header c.loop-number.invariant
-        c.loop-number-test.true c.in-Err-next_place.ensures))
+    c.loop-number-test.true c.in-Err-next_place.ensures))
 
 pub loop-number-preserved : goal.loop-number-preserved
 loop-number-preserved c =

@@ -1,6 +1,6 @@
 use Rattle.std.proofs.Common.{◌≡◌, ◌<◌, [], ◌∷◌, sym, ap, ◌∙◌, arith, Bool, ◌-◌, ℕ}
 use Rattle.stored_fields.specs.declared.value.ValueRef.{ValueRef}
-use Rattle.stored_fields.specs.Values.{StoredField, Document, stored}
+use Rattle.stored_fields.specs.Values.{Document}
 use Rattle.stored_fields.specs.Entries.{entry_of, value_of}
 use Rattle.stored_fields.specs.Stores.{value_or}
 use Rattle.stored_fields.specs.Remaining.{values_at}

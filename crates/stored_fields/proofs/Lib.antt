@@ -6,3 +6,5 @@ pub mod FixedLemmas
 pub mod ValueLemmas
 pub mod StandsLemmas
 pub mod StoreLemmas
+pub mod WriteLemmas
+pub mod BegunLemmas

@@ -6,3 +6,4 @@ pub mod Stores
 pub mod Steps
 pub mod Entries
 pub mod Remaining
+pub mod Writing

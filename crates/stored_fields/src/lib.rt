@@ -9,7 +9,9 @@ mod layout;
 mod places;
 mod value;
 mod view;
+mod writer;
 
 pub use document::StoredDoc;
 pub use value::{StoredRef, ValueRef};
 pub use view::{StoredView, stored_total};
+pub use writer::{StoredFiles, StoredWriter};

@@ -3,7 +3,7 @@ ghost use Rattle.std.specs.Prelude.{◌≡◌, ◌+◌, ◌-◌, ◌^◌, ◌<�
 ghost use Rattle.lu_types.specs.declared.stored.Stored.TheVariants as owned;
 ghost use Rattle.stored_fields.specs.Values.{StoredField};
 ghost use Rattle.stored_fields.specs.Entries.{value_of, stored_field};
-ghost use Rattle.stored_fields.specs.Writing.{IsStorable, bits_of, value_bytes, fdx_bytes, fdt_bytes, begun, with_stored};
+ghost use Rattle.stored_fields.specs.Writing.{IsStorable, bits_of, content_bytes, value_bytes, fdx_bytes, fdt_bytes, begun, with_stored};
 
 use crate::layout::FORMAT;
 use crate::value::{BINARY, StoredRef, TOKENIZED, ValueRef};
@@ -72,4 +72,101 @@ impl StoredWriter {
             }
         }
     }
+
+    /// Adds a text to the last document.
+    pub fn put_text(
+        &mut self,
+        field: u32,
+        tokenized: bool,
+        text: &str,
+    ) -> Result<(), OutOfMemory>
+        requires lacking { 0 < self.old.lacks }
+        requires field { field < 2 ^ 31 }
+        requires short { length text.now < 2 ^ 31 }
+        ensures ok { OnOk result (self.new ≡ with_stored (record { field = field; tokenized = tokenized; value = owned.Text text.now }) self.old) }
+        ensures err { OnErr result (self.new ≡ self.old) }
+    {
+        self.put(StoredRef {
+            field,
+            tokenized,
+            value: ValueRef::Text(text),
+        })
+    }
+
+    /// Adds bytes to the last document.
+    pub fn put_binary(
+        &mut self,
+        field: u32,
+        tokenized: bool,
+        bytes: &[u8],
+    ) -> Result<(), OutOfMemory>
+        requires lacking { 0 < self.old.lacks }
+        requires field { field < 2 ^ 31 }
+        requires short { length bytes.now < 2 ^ 31 }
+        ensures ok { OnOk result (self.new ≡ with_stored (record { field = field; tokenized = tokenized; value = owned.Binary bytes.now }) self.old) }
+        ensures err { OnErr result (self.new ≡ self.old) }
+    {
+        self.put(StoredRef {
+            field,
+            tokenized,
+            value: ValueRef::Binary(bytes),
+        })
+    }
+
+    /// Adds a value to the last document.
+    fn put(&mut self, value: StoredRef<'_>) -> Result<(), OutOfMemory>
+        requires lacking { 0 < self.old.lacks }
+        requires storable { IsStorable (stored_field value) }
+        ensures ok { OnOk result (self.new ≡ with_stored (stored_field value.entry) self.old) }
+        ensures err { OnErr result (self.new ≡ self.old) }
+    {
+        let start = self.fdt.len();
+        match push_value(&mut self.fdt, value) {
+            Ok(()) => {
+                self.lacks -= 1;
+                Ok(())
+            }
+            Err(error) => {
+                self.fdt.truncate(start);
+                Err(error)
+            }
+        }
+    }
+}
+
+/// The bits of a value.
+fn bits_of(tokenized: bool, value: ValueRef<'_>) -> u8
+    ensures { result ≡ bits_of tokenized (value_of value.entry) }
+{
+    let tokenized = if tokenized { TOKENIZED } else { 0 };
+    match value {
+        ValueRef::Text(_) => tokenized,
+        ValueRef::Binary(_) => tokenized + BINARY,
+    }
+}
+
+/// Appends a binary value: its length, and its bytes. After an `Err` some of it may stand after what was there.
+fn push_binary(out: &mut Vec<u8>, bytes: &[u8]) -> Result<(), OutOfMemory>
+    requires { length bytes.now < 2 ^ 31 }
+    ensures ok { OnOk result (out.new.items ≡ out.old.items ++ content_bytes (owned.Binary bytes.now)) }
+    ensures err { OnErr result (take (vec_len out.old) out.new.items ≡ out.old.items) }
+{
+    put_vint(out, bytes.len() as u32)?;
+    out.extend_from_slice(bytes)?;
+    Ok(())
+}
+
+/// Appends a value. After an `Err` some of it may stand after what was there.
+fn push_value(out: &mut Vec<u8>, value: StoredRef<'_>) -> Result<(), OutOfMemory>
+    requires { IsStorable (stored_field value) }
+    ensures ok { OnOk result (out.new.items ≡ out.old.items ++ value_bytes (stored_field value.entry)) }
+    ensures err { OnErr result (take (vec_len out.old) out.new.items ≡ out.old.items) }
+{
+    put_vint(out, value.field)?;
+    out.push(bits_of(value.tokenized, value.value))?;
+    match value.value {
+        ValueRef::Text(text) => put_text(out, text)?,
+        ValueRef::Binary(bytes) => push_binary(out, bytes)?,
+    }
+    Ok(())
 }

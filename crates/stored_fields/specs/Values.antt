@@ -1,0 +1,40 @@
+-- Stored values, and how one is spelled.
+use Rattle.std.specs.Prelude.{ℕ, Bool, true, false, not, ◌==◌, List, bit_and}
+use Rattle.lu_types.specs.declared.stored.Stored.{Stored}
+use Rattle.lu_types.specs.declared.stored.Stored.TheVariants.{Text, Binary}
+use Rattle.lu_grammar.specs.Parts.{byte, num, bytes, text}
+use Rattle.lu_grammar.specs.Records.{Shape, whole, part, followed}
+use Rattle.stored_fields.specs.declared.value.TheConstants.{TOKENIZED, BINARY}
+
+-- a value that a document stores: the number of its field, whether it was tokenized, and what it is
+pub record StoredField : Type 0 where
+  pub field : ℕ
+  pub tokenized : Bool
+  pub value : Stored
+
+-- the values of a document, in order
+abbrev pub Document : Type 0
+Document = List StoredField
+
+-- a value as it stands in `.fdt`, with its bits
+pub record Entry : Type 0 where
+  pub field : ℕ
+  pub bits : ℕ
+  pub value : Stored
+
+-- one of the bits is set
+abbrev pub has_bit : ℕ → ℕ → Bool
+has_bit bit bits = not (bit_and bits bit == 0)
+
+-- so many bytes where the value is binary, and a text where it is not
+abbrev pub content : Bool → Shape Stored
+content true = part num (λ n. part (bytes n) (λ front. whole (Binary front)))
+content false = part text (λ t. whole (Text t))
+
+-- the number of the field, the bits, and what the value is
+abbrev pub entry_shape : Shape Entry
+entry_shape = part num (λ field. part byte (λ bits. followed (content (has_bit BINARY bits)) (λ value. whole (record { field = field; bits = bits; value = value }))))
+
+-- what an entry stores
+abbrev pub stored : Entry → StoredField
+stored entry = record { field = entry.field; tokenized = has_bit TOKENIZED entry.bits; value = entry.value }

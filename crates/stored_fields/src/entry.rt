@@ -1,0 +1,67 @@
+//! One stored value as it stands in `.fdt` (format page, "Stored documents").
+ghost use Rattle.std.specs.Prelude.{◌≡◌, ℕ, ◌<◌, ◌^◌};
+ghost use Rattle.lu_grammar.specs.Parts.{num, bytes, text};
+ghost use Rattle.stored_fields.specs.Values.{has_bit, content, entry_shape};
+ghost use Rattle.std.specs.Prelude.{true};
+ghost use Rattle.stored_fields.specs.Entries.{value_of, entry_of};
+ghost use Rattle.stored_fields.specs.Steps.{Finds};
+
+use crate::value::{BINARY, ValueRef};
+use lu_prims::{Bad, Cur};
+
+/// A stored value with its bits.
+#[derive(Drop)]
+pub struct EntryRef<'a> {
+    pub field: u32,
+    pub bits: u8,
+    pub value: ValueRef<'a>,
+}
+
+/// Whether one of the bits is set.
+pub fn has_bit(bits: u8, bit: u8) -> bool
+    ensures { result ≡ has_bit bit bits }
+{
+    bits & bit != 0
+}
+
+/// The value behind the bits: so many bytes, or a text.
+fn next_content<'a>(here: &mut Cur<'a>, binary: bool) -> Result<ValueRef<'a>, Bad>
+    ensures { Finds (content binary) value_of here.old here.new result }
+{
+    if binary {
+        return next_binary(here);
+    }
+    match here.text() {
+        Err(bad) => Err(bad),
+        Ok(text) => Ok(ValueRef::Text(text)),
+    }
+}
+
+/// The length of a binary value, and its bytes.
+fn next_binary<'a>(here: &mut Cur<'a>) -> Result<ValueRef<'a>, Bad>
+    ensures { Finds (content true) value_of here.old here.new result }
+{
+    match here.num() {
+        Err(bad) => Err(bad),
+        Ok(length) => match here.bytes(length as usize) {
+            Err(bad) => Err(bad),
+            Ok(bytes) => Ok(ValueRef::Binary(bytes)),
+        },
+    }
+}
+
+/// The value that stands here. After an `Err` the cursor may have moved.
+pub fn next_entry<'a>(here: &mut Cur<'a>) -> Result<EntryRef<'a>, Bad>
+    ensures { Finds entry_shape entry_of here.old here.new result }
+{
+    match here.num() {
+        Err(bad) => Err(bad),
+        Ok(field) => match here.u8() {
+            Err(bad) => Err(bad),
+            Ok(bits) => match next_content(here, has_bit(bits, BINARY)) {
+                Err(bad) => Err(bad),
+                Ok(value) => Ok(EntryRef { field, bits, value }),
+            },
+        },
+    }
+}

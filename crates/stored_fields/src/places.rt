@@ -1,0 +1,89 @@
+//! The check of `.fdx` (format page, "Stored documents").
+ghost use Rattle.std.specs.Prelude.{◌≡◌, ℕ, ◌+◌, ◌^◌, ◌<◌, ◌≤◌, length, Some, None};
+ghost use Rattle.lu_grammar.specs.Records.{first_broken};
+ghost use Rattle.stored_fields.specs.Format.{format_shape};
+ghost use Rattle.stored_fields.specs.Places.{header_conditions, place_shape, place_conditions, is_misplaced, fdx_plan};
+ghost use Rattle.lu_types.specs.declared.kind.FileKind.TheVariants.{Fdx};
+ghost use Rattle.stored_fields.specs.Steps.{Gives, Passes, Judges};
+
+use crate::faults::{rule_of, spot};
+use crate::layout::{GREATEST_PLACE, HEADER_BYTES, is_other_format};
+use lu_prims::Cur;
+use lu_types::rules::{FDX_FORMAT, FDX_PLACE, STORE_RANGE, TRAILING};
+use lu_types::{FileKind, Spot, Window};
+
+/// Which rule the header breaks first.
+fn header_broken(total: u32, window: Window, format: i32) -> Option<u16>
+    requires { window.offset + window.count < 2 ^ 32 }
+    ensures { result ≡ first_broken (header_conditions total window format) }
+{
+    if is_other_format(format) {
+        return Some(FDX_FORMAT);
+    }
+    if window.offset + window.count > total {
+        return Some(STORE_RANGE);
+    }
+    None
+}
+
+/// Whether a place may not come after the one before it, if there is one.
+fn is_misplaced(before: Option<i64>, place: i64) -> bool
+    ensures { result ≡ is_misplaced before place }
+{
+    match before {
+        None => place != HEADER_BYTES as i64,
+        Some(before) => place <= before || place > GREATEST_PLACE,
+    }
+}
+
+/// Passes the header, or answers which rule it breaks first.
+fn pass_header(here: &mut Cur<'_>, total: u32, window: Window) -> Result<(), u16>
+    requires { window.offset + window.count < 2 ^ 32 }
+    ensures { Passes format_shape (header_conditions total window) here.old here.new result }
+{
+    match here.i32() {
+        Err(bad) => Err(rule_of(bad)),
+        Ok(format) => match header_broken(total, window, format) {
+            Some(rule) => Err(rule),
+            None => Ok(()),
+        },
+    }
+}
+
+/// The next place, or which rule it breaks first.
+fn next_place(here: &mut Cur<'_>, before: Option<i64>) -> Result<i64, u16>
+    ensures { Gives place_shape (place_conditions before) (λ z. z) here.old here.new result }
+{
+    match here.i64() {
+        Err(bad) => Err(rule_of(bad)),
+        Ok(place) => {
+            if is_misplaced(before, place) {
+                return Err(FDX_PLACE);
+            }
+            Ok(place)
+        }
+    }
+}
+
+/// Walks `.fdx` of a store of so many documents, of which a segment takes those in the window; answers its first fault.
+pub fn check_places(fdx: &[u8], total: u32, window: Window) -> Result<(), Spot>
+    requires { window.offset + window.count < 2 ^ 32 }
+    ensures { Judges (fdx_plan total window) fdx.now Fdx result }
+{
+    let mut here = Cur::at(fdx, 0);
+    if let Err(rule) = pass_header(&mut here, total, window) {
+        return Err(spot(FileKind::Fdx, 0, rule));
+    }
+    let mut before = None;
+    for _number in 0..total {
+        let start = here.place();
+        match next_place(&mut here, before) {
+            Err(rule) => return Err(spot(FileKind::Fdx, start, rule)),
+            Ok(place) => before = Some(place),
+        }
+    }
+    if here.left() > 0 {
+        return Err(spot(FileKind::Fdx, here.place(), TRAILING));
+    }
+    Ok(())
+}

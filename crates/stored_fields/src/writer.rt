@@ -1,0 +1,172 @@
+//! The writer of both files (format page, "Stored documents").
+ghost use Rattle.std.specs.Prelude.{◌≡◌, ◌+◌, ◌-◌, ◌^◌, ◌<◌, ◌++◌, [], ◌∷◌, length, take, true, false, IfOk, OnOk, OnErr, vec_len};
+ghost use Rattle.lu_types.specs.declared.stored.Stored.TheVariants as owned;
+ghost use Rattle.stored_fields.specs.Values.{StoredField};
+ghost use Rattle.stored_fields.specs.Entries.{value_of, stored_field};
+ghost use Rattle.stored_fields.specs.Writing.{IsStorable, bits_of, content_bytes, value_bytes, fdx_bytes, fdt_bytes, begun, with_stored};
+
+use crate::layout::FORMAT;
+use crate::value::{BINARY, StoredRef, TOKENIZED, ValueRef};
+use lu_prims::{OutOfMemory, put_i32, put_i64, put_text, put_vint};
+use std::alloc::Global;
+use std::marker::Model;
+
+/// The two files of a store.
+#[derive(Debug, Drop)]
+pub struct StoredFiles {
+    /// The places of the documents.
+    pub fdx: Vec<u8>,
+    /// The documents.
+    pub fdt: Vec<u8>,
+}
+
+/// Writes stored documents, one after another, and of each its values in order. Contracts see the documents so far, and how
+/// many values the last of them lacks. A call that finds no memory leaves the writer as it was.
+#[derive(Drop)]
+pub struct StoredWriter {
+    fdx: Vec<u8>,
+    fdt: Vec<u8>,
+    lacks: u32,
+}
+
+impl Model for StoredWriter {
+    ghost use Rattle.stored_fields.specs.Writing.{Written, written_in, IsWriting};
+
+    ghost Value = { Written };
+
+    ghost view = { λ w. written_in w.fdx.items w.fdt.items w.lacks };
+
+    ghost invariant = { λ w. IsWriting w.fdx.items w.fdt.items w.lacks };
+}
+
+impl StoredWriter {
+    /// A writer of no documents yet.
+    pub fn new(alloc: Global) -> Result<StoredWriter, OutOfMemory>
+        ensures { IfOk result (λ writer. writer ≡ record { documents = []; lacks = 0 }) }
+    {
+        let mut fdx = Vec::new(alloc);
+        put_i32(&mut fdx, FORMAT)?;
+        let mut fdt = Vec::new(alloc);
+        put_i32(&mut fdt, FORMAT)?;
+        Ok(StoredWriter { fdx, fdt, lacks: 0 })
+    }
+
+    /// Starts a document of so many values.
+    pub fn begin(&mut self, count: u32) -> Result<(), OutOfMemory>
+        requires complete { self.old.lacks ≡ 0 }
+        requires few { count < 2 ^ 31 }
+        ensures ok { OnOk result (self.new ≡ begun count self.old) }
+        ensures err { OnErr result (self.new ≡ self.old) }
+    {
+        let place = self.fdt.as_slice().len() as i64;
+        let start = self.fdx.len();
+        put_i64(&mut self.fdx, place)?;
+        match put_vint(&mut self.fdt, count) {
+            Ok(()) => {
+                self.lacks = count;
+                Ok(())
+            }
+            Err(error) => {
+                self.fdx.truncate(start);
+                Err(error)
+            }
+        }
+    }
+
+    /// Adds a text to the last document.
+    pub fn put_text(
+        &mut self,
+        field: u32,
+        tokenized: bool,
+        text: &str,
+    ) -> Result<(), OutOfMemory>
+        requires lacking { 0 < self.old.lacks }
+        requires field { field < 2 ^ 31 }
+        requires short { length text.now < 2 ^ 31 }
+        ensures ok { OnOk result (self.new ≡ with_stored (record { field = field; tokenized = tokenized; value = owned.Text text.now }) self.old) }
+        ensures err { OnErr result (self.new ≡ self.old) }
+    {
+        self.put(StoredRef {
+            field,
+            tokenized,
+            value: ValueRef::Text(text),
+        })
+    }
+
+    /// Adds bytes to the last document.
+    pub fn put_binary(
+        &mut self,
+        field: u32,
+        tokenized: bool,
+        bytes: &[u8],
+    ) -> Result<(), OutOfMemory>
+        requires lacking { 0 < self.old.lacks }
+        requires field { field < 2 ^ 31 }
+        requires short { length bytes.now < 2 ^ 31 }
+        ensures ok { OnOk result (self.new ≡ with_stored (record { field = field; tokenized = tokenized; value = owned.Binary bytes.now }) self.old) }
+        ensures err { OnErr result (self.new ≡ self.old) }
+    {
+        self.put(StoredRef {
+            field,
+            tokenized,
+            value: ValueRef::Binary(bytes),
+        })
+    }
+
+    /// Adds a value to the last document.
+    fn put(&mut self, value: StoredRef<'_>) -> Result<(), OutOfMemory>
+        requires lacking { 0 < self.old.lacks }
+        requires storable { IsStorable (stored_field value) }
+        ensures ok { OnOk result (self.new ≡ with_stored (stored_field value.entry) self.old) }
+        ensures err { OnErr result (self.new ≡ self.old) }
+    {
+        let start = self.fdt.len();
+        match push_value(&mut self.fdt, value) {
+            Ok(()) => {
+                self.lacks -= 1;
+                Ok(())
+            }
+            Err(error) => {
+                self.fdt.truncate(start);
+                Err(error)
+            }
+        }
+    }
+}
+
+/// The bits of a value.
+fn bits_of(tokenized: bool, value: ValueRef<'_>) -> u8
+    ensures { result ≡ bits_of tokenized (value_of value.entry) }
+{
+    let tokenized = if tokenized { TOKENIZED } else { 0 };
+    match value {
+        ValueRef::Text(_) => tokenized,
+        ValueRef::Binary(_) => tokenized + BINARY,
+    }
+}
+
+/// Appends a binary value: its length, and its bytes. After an `Err` some of it may stand after what was there.
+fn push_binary(out: &mut Vec<u8>, bytes: &[u8]) -> Result<(), OutOfMemory>
+    requires { length bytes.now < 2 ^ 31 }
+    ensures ok { OnOk result (out.new.items ≡ out.old.items ++ content_bytes (owned.Binary bytes.now)) }
+    ensures err { OnErr result (take (vec_len out.old) out.new.items ≡ out.old.items) }
+{
+    put_vint(out, bytes.len() as u32)?;
+    out.extend_from_slice(bytes)?;
+    Ok(())
+}
+
+/// Appends a value. After an `Err` some of it may stand after what was there.
+fn push_value(out: &mut Vec<u8>, value: StoredRef<'_>) -> Result<(), OutOfMemory>
+    requires { IsStorable (stored_field value) }
+    ensures ok { OnOk result (out.new.items ≡ out.old.items ++ value_bytes (stored_field value.entry)) }
+    ensures err { OnErr result (take (vec_len out.old) out.new.items ≡ out.old.items) }
+{
+    put_vint(out, value.field)?;
+    out.push(bits_of(value.tokenized, value.value))?;
+    match value.value {
+        ValueRef::Text(text) => put_text(out, text)?,
+        ValueRef::Binary(bytes) => push_binary(out, bytes)?,
+    }
+    Ok(())
+}

@@ -76,7 +76,7 @@ places_long (p ∷ ps) = omega (arith, length-append (spelling int64 (pos p)) (f
     eight : (p : ℕ) → length (spelling int64 (pos p)) ≡ 8
     eight p = refl
 
-places_many : (place : ℕ) (documents : List Document) → length (places_from place documents) ≡ length documents
+pub places_many : (place : ℕ) (documents : List Document) → length (places_from place documents) ≡ length documents
 places_many place [] = refl
 places_many place (d ∷ ds) = ap suc (places_many (place + length (document_bytes 0 d)) ds)
 

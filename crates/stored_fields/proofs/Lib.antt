@@ -8,3 +8,6 @@ pub mod StandsLemmas
 pub mod StoreLemmas
 pub mod WriteLemmas
 pub mod BegunLemmas
+pub mod ReadBackLemmas
+pub mod ByteLemmas
+pub mod LawLemmas

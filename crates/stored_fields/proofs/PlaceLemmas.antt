@@ -40,7 +40,7 @@ header_broken_by total window c d z w rule is e broken =
 
 -- ---- so many places
 
-last_push : {A : Type 0} (o : Option A) (xs : List A) (x : A) → last_or o (xs ++ x ∷ []) ≡ Some x
+pub last_push : {A : Type 0} (o : Option A) (xs : List A) (x : A) → last_or o (xs ++ x ∷ []) ≡ Some x
 last_push o [] x = refl
 last_push o (y ∷ ys) x = last_push (Some y) ys x
 

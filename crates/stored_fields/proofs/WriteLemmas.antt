@@ -40,7 +40,7 @@ no_other_bit false (Text t) = refl
 no_other_bit true (Binary bs) = refl
 no_other_bit false (Binary bs) = refl
 
-bits_fit : (tokenized : Bool) (v : Stored) → bits_of tokenized v < 256
+pub bits_fit : (tokenized : Bool) (v : Stored) → bits_of tokenized v < 256
 bits_fit true (Text t) = omega arith
 bits_fit false (Text t) = omega arith
 bits_fit true (Binary bs) = omega arith
@@ -86,17 +86,17 @@ value_is_good asked fields v h = rw (no_field asked h, no_other_bit v.tokenized 
     no_field true h = lt-leb fields v.field (h refl)
 
 -- one kind's record
-writes_one : {S R : Type 0} (kind : Kind S R) (s : S) (place : ℕ) (r : R) (front : List ℕ) → Spells (kind.shape s) r front → first_broken (kind.conditions s place r) ≡ None → Writes (one kind s) place front (kind.after s place r)
+pub writes_one : {S R : Type 0} (kind : Kind S R) (s : S) (place : ℕ) (r : R) (front : List ℕ) → Spells (kind.shape s) r front → first_broken (kind.conditions s place r) ≡ None → Writes (one kind s) place front (kind.after s place r)
 writes_one {S} {R} kind s place r front spells good =
     subst (λ (t : List ℕ). Writes (one kind s) place t (kind.after s place r)) (append-nil front)
     (Writes-due (kind.shape s) (kind.conditions s) (λ place r. done (kind.after s place r)) place r front [] (kind.after s place r) spells good (Writes-done (place + length front) (kind.after s place r)))
 
 -- ---- the values of a document
 
-all_head : {A : Type 0} (P : A → Type 0) (x : A) (xs : List A) → All P (x ∷ xs) → P x
+pub all_head : {A : Type 0} (P : A → Type 0) (x : A) (xs : List A) → All P (x ∷ xs) → P x
 all_head P x xs all = all 0 x (omega arith)
 
-all_tail : {A : Type 0} (P : A → Type 0) (x : A) (xs : List A) → All P (x ∷ xs) → All P xs
+pub all_tail : {A : Type 0} (P : A → Type 0) (x : A) (xs : List A) → All P (x ∷ xs) → All P xs
 all_tail P x xs all k d lt = all (suc k) d (omega arith)
 
 pub writes_values : (asked : Bool) (fields : ℕ) (values front : Document) (place : ℕ) → All IsStorable values → All (IsField asked fields) values

@@ -1,16 +1,17 @@
 -- The one spelling of stored documents, as the writer gives it.
-use Rattle.std.specs.Prelude.{◌≡◌, ◌≢◌, ℕ, zero, suc, ◌+◌, ◌-◌, ◌^◌, ◌<◌, Bool, true, false, cond, if◌then◌else◌, ◌==◌, List, [], ◌∷◌, ◌++◌, length, drop, pos, All, Result, Ok, Err}
+use Rattle.std.specs.Prelude.{◌≡◌, ◌≢◌, ℕ, zero, suc, ◌+◌, ◌-◌, ◌^◌, ◌<◌, ◌≤◌, Bool, true, false, cond, if◌then◌else◌, ◌==◌, List, [], ◌∷◌, ◌++◌, length, drop, pos, All, Result, Ok, Err}
 use Rattle.std.specs.List.{flat_map}
 use Rattle.lu_types.specs.declared.stored.Stored.{Stored}
 use Rattle.lu_types.specs.declared.stored.Stored.TheVariants.{Text, Binary}
 use Rattle.lu_grammar.specs.Parts.{int32, int64, num, bytes, text, IsValue, spelling}
+use Rattle.lu_types.specs.declared.stored.Window.{Window}
 use Rattle.lu_grammar.specs.Bytes.{Cursor}
 use Rattle.lu_grammar.specs.Plans.{Plan, done, due, and_then, times, Broken, read_plan}
 use Rattle.stored_fields.specs.declared.layout.TheConstants.{FORMAT, HEADER_BYTES}
 use Rattle.stored_fields.specs.declared.value.TheConstants.{TOKENIZED, BINARY}
 use Rattle.stored_fields.specs.Values.{StoredField, Document}
 use Rattle.stored_fields.specs.Documents.{Record, count_of, count_shape, values_kind}
-use Rattle.stored_fields.specs.Stores.{total_of}
+use Rattle.stored_fields.specs.Stores.{total_of, windowed}
 
 -- ---- what can be written
 
@@ -32,6 +33,10 @@ abbrev pub AreStorable : ℕ → List Document → Type 0
 AreStorable lacks [] = lacks ≡ 0
 AreStorable lacks (d ∷ []) = IsStorableDocument lacks d
 AreStorable lacks (d ∷ e ∷ ds) = IsStorableDocument 0 d × AreStorable lacks (e ∷ ds)
+
+-- the fields of all values of a document are among so many
+abbrev pub HasFields : ℕ → Document → Type 0
+HasFields fields values = All (λ v. v.field < fields) values
 
 -- ---- how it is written
 
@@ -71,6 +76,12 @@ places_from place (d ∷ ds) = place ∷ places_from (place + length (document_b
 -- `.fdx` of documents
 abbrev pub fdx_bytes : List Document → List ℕ
 fdx_bytes documents = spelling int32 FORMAT ++ flat_map (λ place. spelling int64 (pos place)) (places_from HEADER_BYTES documents)
+
+-- a window of written documents can be checked: their places are below 2^31, the window is in the store, and the fields of its documents are among so many
+pub record IsCheckable (fields : ℕ) (window : Window) (documents : List Document) : Type 0 where
+  pub short : length (fdt_bytes 0 documents) < 2 ^ 31
+  pub within : window.offset + window.count ≤ length documents
+  pub named : All (HasFields fields) (windowed window documents)
 
 -- ---- what the writer holds
 

@@ -5,6 +5,7 @@ mod document;
 mod documents;
 mod entry;
 mod faults;
+pub mod laws;
 mod layout;
 mod places;
 mod value;

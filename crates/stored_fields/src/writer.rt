@@ -3,7 +3,7 @@ ghost use Rattle.std.specs.Prelude.{◌≡◌, ◌+◌, ◌-◌, ◌^◌, ◌<�
 ghost use Rattle.lu_types.specs.declared.stored.Stored.TheVariants as owned;
 ghost use Rattle.stored_fields.specs.Values.{StoredField};
 ghost use Rattle.stored_fields.specs.Entries.{value_of, stored_field};
-ghost use Rattle.stored_fields.specs.Writing.{IsStorable, bits_of, content_bytes, value_bytes, fdx_bytes, fdt_bytes, begun, with_stored};
+ghost use Rattle.stored_fields.specs.Writing.{IsStorable, bits_of, content_bytes, value_bytes, fdx_bytes, fdt_bytes, begun, with_stored, AreStorable};
 
 use crate::layout::FORMAT;
 use crate::value::{BINARY, StoredRef, TOKENIZED, ValueRef};
@@ -111,6 +111,17 @@ impl StoredWriter {
             tokenized,
             value: ValueRef::Binary(bytes),
         })
+    }
+
+    /// The two files. Takes no memory.
+    pub fn finish(self) -> StoredFiles
+        requires { self.lacks ≡ 0 }
+        ensures fdx { result.fdx.items ≡ fdx_bytes self.documents }
+        ensures fdt { result.fdt.items ≡ fdt_bytes 0 self.documents }
+        ensures storable { AreStorable 0 self.documents }
+    {
+        let StoredWriter { fdx, fdt, lacks: _ } = self;
+        StoredFiles { fdx, fdt }
     }
 
     /// Adds a value to the last document.

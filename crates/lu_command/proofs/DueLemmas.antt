@@ -1,50 +1,24 @@
 -- The answer that is due is one, and what is answered where none failed.
-use Rattle.std.proofs.Common.{◌≡◌, ℕ, ◌≤◌, true, List, length, Option, Some, None, refl, sym, subst, ap, ◌∙◌, inl, inr, ◌⊎◌, arith}
+use Rattle.std.proofs.Common.{◌≡◌, ℕ, ◌≤◌, Bool, true, false, List, length, Option, Some, None, refl, sym, subst, ap, ◌∙◌, inl, inr, ◌⊎◌, arith}
 use Rattle.std.specs.Prelude.{IfSome}
 use Rattle.std.specs.Option.{ForSome}
 use Rattle.lu_grammar.specs.Bytes.{IsBytes}
-use Rattle.lu_grammar.proofs.LawLemmas.{value_is_one, fault_is_one, no_fault_if_read}
 use Rattle.lu_dir.specs.Files.{Files, contents}
 use Rattle.lu_dir.specs.Loading.{is_over}
 use Rattle.lu_types.specs.Names.{part_name}
 use Rattle.lu_types.specs.declared.kind.FileKind.{FileKind}
-use Rattle.lu_types.specs.declared.kind.FileKind.TheVariants.{Fnm}
-use Rattle.lu_types.specs.declared.fault.Spot.{Spot}
-use Rattle.lu_types.specs.Judging.{IsFirstFault}
-use Rattle.field_infos.specs.Fnm.{fnm_plan}
+use Rattle.lu_types.specs.declared.kind.FileKind.TheVariants.{Fnm, Fdx, Fdt}
 use Rattle.lu_command.specs.declared.status.Status.{Status}
 use Rattle.lu_command.specs.declared.status.Status.TheVariants as statuses
 use Rattle.lu_command.specs.declared.status.Which.TheVariants as things
-use Rattle.lu_command.specs.Commands.{Meaning, fields}
-use Rattle.lu_command.specs.Texts.{fault_text, field_lines}
-use Rattle.lu_command.specs.Answers.{file_limit, not_standing, FieldsSays, FieldsDue, MeaningDue, Due, IsFile, HoldsBytes, GaveUp, Completes, Prints}
+use Rattle.lu_command.specs.declared.status.Refusal.TheVariants as refusals
+use Rattle.lu_command.specs.Commands.{Meaning, docs, fields}
+use Rattle.lu_command.specs.Texts.{too_large_text}
+use Rattle.lu_command.specs.Files.{file_limit, IsFile}
+use Rattle.lu_command.specs.Docs.{docs_kinds, DocsSays, DocsDue, first_too_long}
+use Rattle.lu_command.specs.Answers.{FieldsSays, FieldsDue, MeaningDue, Due, HoldsBytes, GaveUp, Completes, Prints}
 use Rattle.lu_command.proofs.MeaningLemmas.{only_meaning}
-
--- the spot of these parts
-abbrev spot_of : FileKind → ℕ → ℕ → Spot
-spot_of kind offset rule = record { kind = kind; offset = offset; rule = rule }
-
--- spots with the same parts are one
-same_spot : (a b : Spot) → a.kind ≡ b.kind → a.offset ≡ b.offset → a.rule ≡ b.rule → a ≡ b
-same_spot a b kind offset rule = ap (λ k. spot_of k a.offset a.rule) kind ∙ ap (λ n. spot_of b.kind n a.rule) offset ∙ ap (spot_of b.kind b.offset) rule
-
--- the first fault of bytes is one
-spot_is_one : (bytes : List ℕ) (a b : Spot) → IsBytes bytes → IsFirstFault Fnm (fnm_plan true None) bytes a → IsFirstFault Fnm (fnm_plan true None) bytes b → a ≡ b
-spot_is_one bytes a b fits one other =
-    let same = fault_is_one (fnm_plan true None) bytes a.offset a.rule b.offset b.rule fits one.1 other.1 in
-    same_spot a b (one.0 ∙ sym other.0) same.0 same.1
-
--- what `fields` says of bytes is one answer and one text
-says_one : (segment : List ℕ) (found : Option (List ℕ)) (s t : Status) (x y : List ℕ) → ForSome found IsBytes → FieldsSays segment found s x → FieldsSays segment found t y → (s ≡ t) × (x ≡ y)
-says_one segment None s t x y made one other = (one.0 ∙ sym other.0, one.1 ∙ sym other.1)
-says_one segment (Some bytes) s t x y made (inl a) (inl b) =
-    let table = value_is_one (fnm_plan true None) bytes a.0 b.0 a.1 b.1 in
-    (a.2 ∙ sym b.2, a.3 ∙ ap (field_lines 0) table ∙ sym b.3)
-says_one segment (Some bytes) s t x y made (inl a) (inr b) = absurd (no_fault_if_read (fnm_plan true None) bytes a.0 b.0.offset b.0.rule (made bytes refl) a.1 b.1.1)
-says_one segment (Some bytes) s t x y made (inr a) (inl b) = absurd (no_fault_if_read (fnm_plan true None) bytes b.0 a.0.offset a.0.rule (made bytes refl) b.1 a.1.1)
-says_one segment (Some bytes) s t x y made (inr a) (inr b) =
-    let spot = spot_is_one bytes a.0 b.0 (made bytes refl) a.1 b.1 in
-    (a.2 ∙ ap not_standing spot ∙ sym b.2, a.3 ∙ ap (fault_text segment) spot ∙ sym b.3)
+use Rattle.lu_command.proofs.SaysLemmas.{fields_says_one, docs_says_one}
 
 -- a file that is too long is none within the limit
 not_both : (found : Option (List ℕ)) → is_over file_limit found ≡ true → IfSome found (λ bytes. length bytes ≤ file_limit) → ⊥
@@ -64,10 +38,50 @@ module _ (files : Files) (made : HoldsBytes files) where
   fields_one segment s t x y (inr a) (inr b) =
       let here = a.1.0 files refl in
       let same : b.0 ≡ a.0 = sym (b.1.0 files refl) ∙ here in
-      says_one segment a.0 s t x y (subst (λ o. ForSome o IsBytes) here (made (part_name segment Fnm))) a.2 (subst (λ o. FieldsSays segment o t y) same b.2)
+      fields_says_one segment a.0 s t x y (subst (λ o. ForSome o IsBytes) here (made (part_name segment Fnm))) a.2 (subst (λ o. FieldsSays segment o t y) same b.2)
+
+  -- a file that is there is within the limit
+  within : (name : List ℕ) (found : Option (List ℕ)) → IsFile (Some files) name found → is_over file_limit (contents files name) ≡ false
+  within name found file = go (is_over file_limit (contents files name)) refl
+    where
+      go : (t : Bool) → is_over file_limit (contents files name) ≡ t → t ≡ false
+      go true over = absurd (not_too_long name found over file)
+      go false over = refl
+
+  -- where all files are within the limit none is too long
+  none_too_long : (segment : List ℕ) (fnm fdx fdt : Option (List ℕ)) (kind : FileKind) → IsFile (Some files) (part_name segment Fnm) fnm → IsFile (Some files) (part_name segment Fdx) fdx → IsFile (Some files) (part_name segment Fdt) fdt
+      → first_too_long files segment docs_kinds ≡ Some kind → ⊥
+  none_too_long segment fnm fdx fdt kind one two three first =
+      let none : first_too_long files segment docs_kinds ≡ None = rw (within (part_name segment Fnm) fnm one, within (part_name segment Fdx) fdx two, within (part_name segment Fdt) fdt three) refl in
+      cc
+
+  -- the bytes of a file that is there
+  bytes_of : (name : List ℕ) (found : Option (List ℕ)) → IsFile (Some files) name found → ForSome found IsBytes
+  bytes_of name found file = subst (λ o. ForSome o IsBytes) (file.0 files refl) (made name)
+
+  -- a file is there as one
+  same_file : (name : List ℕ) (one other : Option (List ℕ)) → IsFile (Some files) name one → IsFile (Some files) name other → other ≡ one
+  same_file name one other here there = sym (there.0 files refl) ∙ here.0 files refl
+
+  -- the answer to `docs` that is due is one
+  docs_one : (segment : List ℕ) (s t : Status) (x y : List ℕ) → DocsDue segment (Some files) s x → DocsDue segment (Some files) t y → (s ≡ t) × (x ≡ y)
+  docs_one segment s t x y (inl a) (inl b) =
+      let kind : a.0 ≡ b.0 = same_kind (sym (a.1 files refl) ∙ b.1 files refl) in
+      (a.2 ∙ ap (λ k. statuses.Refused (refusals.FileTooLarge k)) kind ∙ sym b.2, a.3 ∙ ap too_large_text kind ∙ sym b.3)
+    where
+      same_kind : {j k : FileKind} → Some j ≡ Some k → j ≡ k
+      same_kind e = cc
+  docs_one segment s t x y (inl a) (inr b) = absurd (none_too_long segment b.0 b.1 b.2 a.0 b.3 b.4 b.5 (a.1 files refl))
+  docs_one segment s t x y (inr a) (inl b) = absurd (none_too_long segment a.0 a.1 a.2 b.0 a.3 a.4 a.5 (b.1 files refl))
+  docs_one segment s t x y (inr a) (inr b) =
+      docs_says_one segment a.0 a.1 a.2 s t x y (bytes_of (part_name segment Fnm) a.0 a.3) (bytes_of (part_name segment Fdx) a.1 a.4) (bytes_of (part_name segment Fdt) a.2 a.5) a.6
+      (subst (λ o. DocsSays segment o a.1 a.2 t y) (same_file (part_name segment Fnm) a.0 b.0 a.3 b.3)
+      (subst (λ o. DocsSays segment b.0 o a.2 t y) (same_file (part_name segment Fdx) a.1 b.1 a.4 b.4)
+      (subst (λ o. DocsSays segment b.0 b.1 o t y) (same_file (part_name segment Fdt) a.2 b.2 a.5 b.5) b.6)))
 
   -- the answer to a meaning that is due is one
   meaning_one : (meaning other : Meaning) → meaning ≡ other → (s t : Status) (x y : List ℕ) → MeaningDue meaning (Some files) s x → MeaningDue other (Some files) t y → (s ≡ t) × (x ≡ y)
+  meaning_one (docs dir segment) other same s t x y one there = docs_one segment s t x y one (subst (λ m. MeaningDue m (Some files) t y) (sym same) there)
   meaning_one (fields dir segment) other same s t x y one there = fields_one segment s t x y one (subst (λ m. MeaningDue m (Some files) t y) (sym same) there)
 
   -- the answer that is due is one, and so is its text

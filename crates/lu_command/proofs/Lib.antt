@@ -3,4 +3,5 @@ pub mod WordLemmas
 pub mod TextLemmas
 pub mod AnswerLemmas
 pub mod LoadLemmas
+pub mod SaysLemmas
 pub mod DueLemmas

@@ -18,28 +18,10 @@ use Rattle.lu_command.specs.declared.status.Status.{Status}
 use Rattle.lu_command.specs.declared.status.Status.TheVariants as statuses
 use Rattle.lu_command.specs.declared.status.Which.TheVariants as things
 use Rattle.lu_command.specs.declared.status.Refusal.TheVariants as refusals
-use Rattle.lu_command.specs.Commands.{Meaning, fields, Means}
+use Rattle.lu_command.specs.Commands.{Meaning, fields, docs, Means}
+use Rattle.lu_command.specs.Files.{IsTooLong, IsFile, missing, not_standing}
+use Rattle.lu_command.specs.Docs.{DocsDue}
 use Rattle.lu_command.specs.Texts.{usage_text, fault_text, too_large_text, field_lines}
-
--- the answer of a command that needs no commit, where a file has this fault
-abbrev pub not_standing : Spot → Status
-not_standing spot = statuses.NotStanding 0 (record { segment = 0; spot = spot })
-
--- the fault of a file that is not there
-abbrev pub missing : FileKind → Spot
-missing kind = record { kind = kind; offset = 0; rule = MISSING }
-
--- the most bytes of a file that a command reads
-abbrev pub file_limit : ℕ
-file_limit = 2 ^ 31 - 1
-
--- a folder that tells its files has a file of this name that is too long
-abbrev pub IsTooLong : Option Files → List ℕ → Type 0
-IsTooLong files name = ForSome files (λ told. is_over file_limit (contents told name) ≡ true)
-
--- these bytes, where there are any, are the file of this name, if the folder tells its files; and they are not too many
-abbrev pub IsFile : Option Files → List ℕ → Option (List ℕ) → Type 0
-IsFile files name found = ForSome files (λ told. contents told name ≡ found) × IfSome found (λ bytes. length bytes ≤ file_limit)
 
 -- what `fields` says of the bytes of a field table, where there are any: its lines, or its first fault
 abbrev pub FieldsSays : List ℕ → Option (List ℕ) → Status → List ℕ → Type 0
@@ -57,6 +39,7 @@ FieldsDue segment files status text =
 -- the answer to a meaning that is due, and its text
 abbrev pub MeaningDue : Meaning → Option Files → Status → List ℕ → Type 0
 MeaningDue (fields dir segment) files status text = FieldsDue segment files status text
+MeaningDue (docs dir segment) files status text = DocsDue segment files status text
 
 -- the answer to words that is due, and its text
 abbrev pub Due : List (List ℕ) → Option Files → Status → List ℕ → Type 0

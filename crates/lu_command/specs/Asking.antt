@@ -7,7 +7,7 @@ use Rattle.lu_dir.specs.declared.loading.LoadFault.TheVariants as loads
 use Rattle.lu_command.specs.declared.status.Status.{Status}
 use Rattle.lu_command.specs.declared.status.Status.TheVariants as statuses
 use Rattle.lu_command.specs.declared.status.Which.TheVariants as things
-use Rattle.lu_command.specs.Commands.{Meaning, fields, Means}
+use Rattle.lu_command.specs.Commands.{Meaning, fields, docs, Means}
 
 -- the answer to a failure of the folder
 abbrev pub status_of : DirFail → Status
@@ -25,6 +25,7 @@ AsksFor path asked status = status ≢ statuses.NoMemory → asked ≡ Some path
 -- the folder of a meaning
 abbrev pub folder_of : Meaning → List ℕ
 folder_of (fields dir segment) = dir
+folder_of (docs dir segment) = dir
 
 -- unless memory ended, words with a meaning ask for its folder, and words without one ask for none
 pub record Asks (words : List (List ℕ)) (before after : Option (List ℕ)) (status : Status) : Type 0 where

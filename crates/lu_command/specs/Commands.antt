@@ -2,10 +2,12 @@
 use Rattle.std.specs.Prelude.{◌≡◌, ℕ, List, ◌∷◌, codes}
 use Rattle.lu_command.specs.Words.{HasDirAndSegment}
 
--- what a call asks for: the field table of a segment in a folder
+-- what a call asks for: the field table of a segment in a folder, or its stored documents
 pub data Meaning : Type 0 where
   fields : List ℕ → List ℕ → Meaning
+  docs : List ℕ → List ℕ → Meaning
 
 -- the words after the program's name mean this
 abbrev pub Means : List (List ℕ) → Meaning → Type 0
 Means words (fields dir segment) = (rest : List (List ℕ)) × (words ≡ codes "fields" ∷ rest) × HasDirAndSegment rest dir segment
+Means words (docs dir segment) = (rest : List (List ℕ)) × (words ≡ codes "docs" ∷ rest) × HasDirAndSegment rest dir segment

@@ -9,6 +9,12 @@ use Rattle.lu_types.specs.Names.{part_name}
 use Rattle.lu_types.specs.Rules.{name_of_rule}
 use Rattle.lu_types.specs.declared.kind.FileKind.{FileKind}
 use Rattle.lu_types.specs.declared.fault.Spot.{Spot}
+use Rattle.lu_types.specs.declared.stored.Stored.{Stored}
+use Rattle.lu_types.specs.declared.stored.Stored.TheVariants as values
+use Rattle.hex.specs.Hex.{encode_lower}
+use Rattle.stored_fields.specs.Values.{StoredField, Document}
+use Rattle.std.specs.List.{flat_map}
+use Rattle.std.specs.Prelude.{Bool, true, false}
 
 -- a text and the line feed after it
 abbrev pub line : List ℕ → List ℕ
@@ -39,7 +45,33 @@ too_large_text kind = line (codes "refused:" ▹ codes "FileTooLarge" ▹ extens
 abbrev pub field_line : ℕ → TableField → List ℕ
 field_line number field = line (codes "field" ▹ decimal number ▹ hex_byte field.bits ▹ quoted_text field.name)
 
+-- the texts of some things, numbered from here on
+abbrev pub numbered : {A : Type 0} → (ℕ → A → List ℕ) → ℕ → List A → List ℕ
+numbered text number [] = []
+numbered text number (x ∷ xs) = text number x ++ numbered text (number + 1) xs
+
 -- the lines of fields, numbered from here on
 abbrev pub field_lines : ℕ → List TableField → List ℕ
-field_lines number [] = []
-field_lines number (field ∷ fields) = field_line number field ++ field_lines (number + 1) fields
+field_lines number fields = numbered field_line number fields
+
+-- the digit of a flag
+abbrev pub flag_digit : Bool → List ℕ
+flag_digit true = codes "1"
+flag_digit false = codes "0"
+
+-- what a stored value is, as it is printed: a quoted text, or bytes in hexadecimal digits
+abbrev pub value_text : Stored → List ℕ
+value_text (values.Text text) = codes "text" ▹ quoted_text text
+value_text (values.Binary bytes) = codes "binary" ▹ encode_lower bytes
+
+-- the line of a stored value: its field, whether it was tokenized, and what it is
+abbrev pub stored_line : StoredField → List ℕ
+stored_line stored = line (codes "stored" ▹ decimal stored.field ▹ flag_digit stored.tokenized ▹ value_text stored.value)
+
+-- the lines of a document: its number, and its stored values
+abbrev pub doc_text : ℕ → Document → List ℕ
+doc_text number document = line (codes "doc" ▹ decimal number) ++ flat_map stored_line document
+
+-- the lines of documents, numbered from here on
+abbrev pub doc_lines : ℕ → List Document → List ℕ
+doc_lines number documents = numbered doc_text number documents

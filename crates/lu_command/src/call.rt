@@ -1,5 +1,5 @@
 //! The call that answers the words of the program.
-ghost use Rattle.std.specs.Prelude.{◌≡◌, ◌≢◌, ℕ, List, Some, MatchOption, string_bytes};
+ghost use Rattle.std.specs.Prelude.{◌≡◌, ◌≢◌, ◌<◌, ◌≤◌, ℕ, List, length, map, slice_get, IfOk, IfSome, Some, MatchOption, string_bytes};
 ghost use Rattle.std.specs.Option.{option_copied};
 ghost use Rattle.lu_types.specs.Names.{part_name as name_of_part};
 ghost use Rattle.lu_dir.specs.Faults.{IsCaused};
@@ -8,18 +8,23 @@ ghost use Rattle.lu_command.specs.Words.{texts};
 ghost use Rattle.lu_command.specs.Commands.{Meaning, Means};
 ghost use Rattle.lu_command.specs.Answers.{Prints, FieldsSays, FieldsDue, MeaningDue, Due, HoldsBytes, Completes};
 ghost use Rattle.lu_command.specs.Texts.{too_large_text as text_of_too_large};
+ghost use Rattle.lu_command.specs.Docs.{docs_kinds, DocsSays, DocsDue};
 ghost use Rattle.lu_command.specs.Asking.{AsksFor, Asks, IsTooLarge, folder_of, status_of};
 ghost use Rattle.lu_command.specs.Meanings.{meaning_of};
 
 use crate::answer::tell;
-use crate::command::{Command, dir_and_segment_of};
-use crate::judging::fields_answer;
+use crate::command::Command;
+use crate::judging::{docs_answer, fields_answer};
 use crate::limits::FILE_LIMIT;
 use crate::status::{Refusal, Status, Which};
 use crate::texts::{USAGE, too_large_text};
 use lu_dir::{Dir, DirFail, LoadFault, Sink, Source, load};
+use lu_prims::OutOfMemory;
 use lu_types::{FileKind, part_name};
 use std::alloc::Global;
+
+/// The files that `docs` reads, in order.
+const DOCS_FILES: [FileKind; 3] = [FileKind::Fnm, FileKind::Fdx, FileKind::Fdt];
 
 /// The answer to a failure of the folder.
 fn stopped(fail: DirFail) -> Status
@@ -111,6 +116,93 @@ fn fields<D: Dir, K: Sink>(
     }
 }
 
+/// Prints what `docs` says of the bytes of its three files, where they are there.
+fn say_docs<K: Sink>(
+    alloc: Global,
+    segment: &str,
+    fnm: Option<&[u8]>,
+    fdx: Option<&[u8]>,
+    fdt: Option<&[u8]>,
+    out: &mut K,
+) -> Status
+    requires { IfSome (option_copied fdx) (λ bytes. length bytes ≤ FILE_LIMIT) }
+    ensures printed { Prints (DocsSays segment.now (option_copied fnm.entry) (option_copied fdx.entry) (option_copied fdt.entry)) (K.taken out.old) (K.taken out.new) result }
+    ensures cause { IsCaused (K.faults out.old) (K.faults out.new) (result ≡ Status.Device Which.Sink) }
+    ensures folder { result ≢ Status.Device Which.Dir }
+{
+    match docs_answer(alloc, segment, fnm, fdx, fdt) {
+        Ok(answer) => tell(alloc, out, answer.status, answer.text.as_slice()),
+        Err(_) => Status::NoMemory,
+    }
+}
+
+/// The names of the files that `docs` reads, in order.
+fn docs_names(alloc: Global, segment: &str) -> Result<[String; 3], OutOfMemory>
+    ensures { IfOk result (λ names. map string_bytes names ≡ map (name_of_part segment.now) docs_kinds) }
+{
+    let fnm = part_name(alloc, segment, DOCS_FILES[0])?;
+    let fdx = part_name(alloc, segment, DOCS_FILES[1])?;
+    let fdt = part_name(alloc, segment, DOCS_FILES[2])?;
+    Ok([fnm, fdx, fdt])
+}
+
+/// The kind of the file of `docs` that was too long to be loaded.
+fn docs_kind(fault: &LoadFault) -> FileKind
+    ensures { (place : ℕ) → fault.now ≡ LoadFault.TooLarge place → place < 3 → slice_get docs_kinds place ≡ Some result }
+{
+    match fault {
+        LoadFault::TooLarge(place) if *place < 3 => DOCS_FILES[*place as usize],
+        _ => FileKind::Fnm,
+    }
+}
+
+/// Answers `docs` in the folder that was entered.
+fn read_docs<D: Dir, K: Sink>(alloc: Global, segment: &str, dir: &mut D, out: &mut K) -> Status
+    ensures printed { Prints (DocsDue segment.now (D.files dir.old)) (K.taken out.old) (K.taken out.new) result }
+    ensures files { D.files dir.new ≡ D.files dir.old }
+    ensures asked { D.asked dir.new ≡ D.asked dir.old }
+    ensures folder { IsCaused (D.faults dir.old) (D.faults dir.new) (result ≡ Status.Device Which.Dir) }
+    ensures output { IsCaused (K.faults out.old) (K.faults out.new) (result ≡ Status.Device Which.Sink) }
+{
+    let names = match docs_names(alloc, segment) {
+        Ok(names) => names,
+        Err(_) => return Status::NoMemory,
+    };
+    match load(alloc, dir, &names, FILE_LIMIT) {
+        Ok(loaded) => {
+            let [fnm, fdx, fdt] = &names;
+            let fnm = loaded.get(fnm.as_str());
+            let fdx = loaded.get(fdx.as_str());
+            let fdt = loaded.get(fdt.as_str());
+            say_docs(alloc, segment, fnm, fdx, fdt, out)
+        }
+        Err(fault) => {
+            let kind = docs_kind(&fault);
+            say_unloaded(alloc, kind, fault, out)
+        }
+    }
+}
+
+/// Answers `docs`.
+fn docs<D: Dir, K: Sink>(
+    alloc: Global,
+    path: &str,
+    segment: &str,
+    dir: &mut D,
+    out: &mut K,
+) -> Status
+    ensures printed { Prints (DocsDue segment.now (D.files dir.old)) (K.taken out.old) (K.taken out.new) result }
+    ensures files { D.files dir.new ≡ D.files dir.old }
+    ensures asked { AsksFor path.now (D.asked dir.new) result }
+    ensures folder { IsCaused (D.faults dir.old) (D.faults dir.new) (result ≡ Status.Device Which.Dir) }
+    ensures output { IsCaused (K.faults out.old) (K.faults out.new) (result ≡ Status.Device Which.Sink) }
+{
+    match dir.enter(alloc, path) {
+        Ok(()) => read_docs(alloc, segment, dir, out),
+        Err(fail) => stopped(fail),
+    }
+}
+
 /// Answers a command.
 fn obey<D: Dir, K: Sink>(alloc: Global, command: Command<'_>, dir: &mut D, out: &mut K) -> Status
     ensures printed { Prints (MeaningDue (meaning_of command.entry) (D.files dir.old)) (K.taken out.old) (K.taken out.new) result }
@@ -119,8 +211,10 @@ fn obey<D: Dir, K: Sink>(alloc: Global, command: Command<'_>, dir: &mut D, out: 
     ensures folder { IsCaused (D.faults dir.old) (D.faults dir.new) (result ≡ Status.Device Which.Dir) }
     ensures output { IsCaused (K.faults out.old) (K.faults out.new) (result ≡ Status.Device Which.Sink) }
 {
-    let (path, segment) = dir_and_segment_of(command);
-    fields(alloc, path, segment, dir, out)
+    match command {
+        Command::Fields { dir: path, segment } => fields(alloc, path, segment, dir, out),
+        Command::Docs { dir: path, segment } => docs(alloc, path, segment, dir, out),
+    }
 }
 
 /// Words and the files of a folder that tells them determine the answer and its text.

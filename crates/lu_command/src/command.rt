@@ -10,6 +10,8 @@ use crate::words::dir_and_segment;
 pub enum Command<'a> {
     /// Print the field table of the segment in the folder.
     Fields { dir: &'a str, segment: &'a str },
+    /// Print the stored documents of the segment in the folder.
+    Docs { dir: &'a str, segment: &'a str },
 }
 
 impl<'a> Command<'a> {
@@ -23,17 +25,9 @@ impl<'a> Command<'a> {
         let (dir, segment) = dir_and_segment(rest)?;
         match name.as_str() {
             "fields" => Some(Command::Fields { dir, segment }),
+            "docs" => Some(Command::Docs { dir, segment }),
             _ => None,
         }
-    }
-}
-
-/// The folder and the segment of the command that there is.
-pub(crate) fn dir_and_segment_of<'a>(command: Command<'a>) -> (&'a str, &'a str)
-    ensures { command.entry ≡ Command.Fields result.0 result.1 }
-{
-    match command {
-        Command::Fields { dir, segment } => (dir, segment),
     }
 }
 

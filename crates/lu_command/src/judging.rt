@@ -1,15 +1,18 @@
 //! What a command says of the bytes that it read.
-ghost use Rattle.std.specs.Prelude.{◌≡◌, IfOk};
+ghost use Rattle.std.specs.Prelude.{◌≡◌, ◌<◌, ◌^◌, length, Some, None, IfOk, IfSome};
 ghost use Rattle.std.specs.Option.{option_copied};
-ghost use Rattle.lu_command.specs.Answers.{FieldsSays, IsAnswer, not_standing};
-ghost use Rattle.lu_command.specs.Texts.{fault_text as text_of_fault, field_lines};
+ghost use Rattle.lu_command.specs.Answers.{FieldsSays, IsAnswer};
+ghost use Rattle.lu_command.specs.Docs.{StoreSays, DocsSays};
+ghost use Rattle.lu_command.specs.Files.{not_standing};
+ghost use Rattle.lu_command.specs.Texts.{fault_text as text_of_fault, field_lines, doc_lines};
 
 use crate::answer::Answer;
 use crate::status::Status;
-use crate::texts::{fault_text, fields_text};
+use crate::texts::{docs_text, fault_text, fields_text};
 use field_infos::check;
 use lu_prims::OutOfMemory;
 use lu_types::rules::MISSING;
+use stored_fields::{StoredView, stored_total};
 use lu_types::{CodecFault, Fault, FieldTable, FileKind, Spot};
 use std::alloc::Global;
 
@@ -61,3 +64,82 @@ const MISSING_TABLE: Spot = Spot {
     offset: 0,
     rule: MISSING,
 };
+
+/// The fault of a file of places that is not there, and of a file of documents.
+const MISSING_PLACES: Spot = Spot {
+    kind: FileKind::Fdx,
+    offset: 0,
+    rule: MISSING,
+};
+const MISSING_DOCUMENTS: Spot = Spot {
+    kind: FileKind::Fdt,
+    offset: 0,
+    rule: MISSING,
+};
+
+/// The answer with the lines of the documents of a store.
+fn documents_answer(alloc: Global, view: &StoredView<'_>) -> Result<Answer, OutOfMemory>
+    ensures { IfOk result (λ answer. (answer.status ≡ Status.Ok) × (answer.text.items ≡ doc_lines 0 view.now)) }
+{
+    let mut text = Vec::new(alloc);
+    docs_text(alloc, &mut text, view)?;
+    Ok(Answer {
+        status: Status::Ok,
+        text,
+    })
+}
+
+/// What `docs` says of the two files of a store that are there.
+fn store_answer(alloc: Global, segment: &str, fields: u32, fdx: &[u8], fdt: &[u8]) -> Result<Answer, OutOfMemory>
+    requires { length fdx.now < 2 ^ 31 }
+    ensures says { IfOk result (λ answer. StoreSays segment.now fields (Some fdx.now) (Some fdt.now) answer.status answer.text.items) }
+    ensures answer { IfOk result (λ answer. IsAnswer answer.status) }
+{
+    match StoredView::check(fdx, fdt, fields, stored_total(fdx)) {
+        Ok(view) => documents_answer(alloc, &view),
+        Err(spot) => faulty(alloc, segment, spot),
+    }
+}
+
+/// What `docs` says of a store without its file of documents: a fault of its file of places comes first.
+fn places_answer(alloc: Global, segment: &str, fields: u32, fdx: &[u8]) -> Result<Answer, OutOfMemory>
+    requires { length fdx.now < 2 ^ 31 }
+    ensures says { IfOk result (λ answer. StoreSays segment.now fields (Some fdx.now) None answer.status answer.text.items) }
+    ensures answer { IfOk result (λ answer. IsAnswer answer.status) }
+{
+    match StoredView::check(fdx, &[], fields, stored_total(fdx)) {
+        Err(spot) if spot.kind == FileKind::Fdx => faulty(alloc, segment, spot),
+        _ => faulty(alloc, segment, MISSING_DOCUMENTS),
+    }
+}
+
+/// What `docs` says of the files of a store whose values have so many fields, where they are there.
+fn stored_answer(alloc: Global, segment: &str, fields: u32, fdx: Option<&[u8]>, fdt: Option<&[u8]>) -> Result<Answer, OutOfMemory>
+    requires { IfSome (option_copied fdx) (λ bytes. length bytes < 2 ^ 31) }
+    ensures says { IfOk result (λ answer. StoreSays segment.now fields (option_copied fdx.entry) (option_copied fdt.entry) answer.status answer.text.items) }
+    ensures answer { IfOk result (λ answer. IsAnswer answer.status) }
+{
+    let Some(fdx) = fdx else {
+        return faulty(alloc, segment, MISSING_PLACES);
+    };
+    match fdt {
+        Some(fdt) => store_answer(alloc, segment, fields, fdx, fdt),
+        None => places_answer(alloc, segment, fields, fdx),
+    }
+}
+
+/// What `docs` says of its three files, where they are there.
+pub fn docs_answer(alloc: Global, segment: &str, fnm: Option<&[u8]>, fdx: Option<&[u8]>, fdt: Option<&[u8]>) -> Result<Answer, OutOfMemory>
+    requires { IfSome (option_copied fdx) (λ bytes. length bytes < 2 ^ 31) }
+    ensures says { IfOk result (λ answer. DocsSays segment.now (option_copied fnm.entry) (option_copied fdx.entry) (option_copied fdt.entry) answer.status answer.text.items) }
+    ensures answer { IfOk result (λ answer. IsAnswer answer.status) }
+{
+    let Some(bytes) = fnm else {
+        return faulty(alloc, segment, MISSING_TABLE);
+    };
+    match check(alloc, bytes, true, None) {
+        Ok(table) => stored_answer(alloc, segment, table.count(), fdx, fdt),
+        Err(CodecFault::Spot(spot)) => faulty(alloc, segment, spot),
+        Err(CodecFault::OutOfMemory) => Err(OutOfMemory),
+    }
+}

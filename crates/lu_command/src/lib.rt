@@ -16,6 +16,8 @@ pub use limits::FILE_LIMIT;
 pub use status::{Refusal, Status, Which};
 
 #[cfg(test)]
+mod docs_tests;
+#[cfg(test)]
 mod run_tests;
 #[cfg(test)]
 mod tests;

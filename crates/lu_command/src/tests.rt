@@ -21,7 +21,12 @@ fn words_have_their_meaning(rt: HostRuntime) -> Result<(), Fail> {
         ("fields d -- _0", Some("d")),
         ("fields d _0 --", Some("d")),
         ("fields d _zik0zi", Some("d")),
-        ("docs d _0", None),
+        ("docs d _0", Some("d")),
+        ("docs -- --x _0", Some("--x")),
+        ("docs d _01", None),
+        ("docs d", None),
+        ("docs d _0 x", None),
+        ("doc d _0", None),
         ("fields d _01", None),
         ("fields d", None),
         ("fields d _0 x", None),
@@ -39,6 +44,7 @@ fn words_have_their_meaning(rt: HostRuntime) -> Result<(), Fail> {
     for (line, dir) in lines {
         let words = words_of(rt.alloc(), line)?;
         let found = match Command::of(words.as_slice()) {
+            Some(Command::Docs { dir, .. }) => Some(dir),
             Some(Command::Fields { dir, .. }) => Some(dir),
             None => None,
         };

@@ -3,11 +3,13 @@ ghost use Rattle.std.specs.Prelude.{◌≡◌, ℕ, ◌++◌, ◌<◌, List, len
 ghost use Rattle.lu_types.specs.Tables.{TableField};
 ghost use Rattle.std.specs.Char.{digit_char};
 ghost use Rattle.lu_types.specs.Fields.{table_field};
-ghost use Rattle.lu_command.specs.Texts.{hex_byte, field_line, field_lines, fault_text, too_large_text, usage_text};
+ghost use Rattle.stored_fields.specs.Entries.{stored_field, value_of};
+ghost use Rattle.lu_command.specs.Texts.{hex_byte, field_line, field_lines, fault_text, too_large_text, usage_text, value_text, flag_digit as digit_of_flag, stored_line, doc_text as text_of_doc, doc_lines};
 
 use lu_prims::{OutOfMemory, quoted};
+use stored_fields::{StoredDoc, StoredRef, StoredView, ValueRef};
 use lu_types::rules::rule_name;
-use lu_types::{Field, FieldTable, FileKind, Spot, part_name};
+use lu_types::{Field, FieldTable, FileKind, Spot, Stored, part_name};
 use std::alloc::Global;
 
 /// The line of words that have no meaning.
@@ -90,4 +92,70 @@ pub fn too_large_text(alloc: Global, kind: FileKind) -> Result<String, OutOfMemo
     ensures { IfOk result (λ text. string_bytes text ≡ too_large_text kind) }
 {
     Ok(format!(in alloc; "refused: FileTooLarge {kind}\n")?)
+}
+
+/// Appends bytes in hexadecimal digits. After an `Err` some of it may be there.
+fn put_binary(alloc: Global, out: &mut Vec<u8>, bytes: &[u8]) -> Result<(), OutOfMemory>
+    ensures { OnOk result (out.new.items ≡ out.old.items ++ value_text (Stored.Binary bytes.now)) }
+{
+    let digits = hex::encode(alloc, bytes)?;
+    out.extend_from_slice(b"binary ")?;
+    out.extend_from_slice(digits.as_bytes())?;
+    Ok(())
+}
+
+/// Appends what a stored value is. After an `Err` some of it may be there.
+fn put_value(alloc: Global, out: &mut Vec<u8>, value: ValueRef<'_>) -> Result<(), OutOfMemory>
+    ensures { OnOk result (out.new.items ≡ out.old.items ++ value_text (value_of value.entry)) }
+{
+    match value {
+        ValueRef::Text(text) => {
+            out.extend_from_slice(b"text ")?;
+            quoted(out, text)
+        }
+        ValueRef::Binary(bytes) => put_binary(alloc, out, bytes),
+    }
+}
+
+/// The digit of a flag.
+fn flag_digit(flag: bool) -> &'static str
+    ensures { result.now ≡ digit_of_flag flag }
+{
+    if flag { "1" } else { "0" }
+}
+
+/// Appends the line of a stored value. After an `Err` some of it may be there.
+fn put_stored_line(alloc: Global, out: &mut Vec<u8>, stored: StoredRef<'_>) -> Result<(), OutOfMemory>
+    ensures { OnOk result (out.new.items ≡ out.old.items ++ stored_line (stored_field stored.entry)) }
+{
+    let field = stored.field;
+    let flag = flag_digit(stored.tokenized);
+    let head = format!(in alloc; "stored {field} {flag} ")?;
+    out.extend_from_slice(head.as_bytes())?;
+    put_value(alloc, out, stored.value)?;
+    out.push(b'\n')?;
+    Ok(())
+}
+
+/// Appends the lines of a document, of which no value was taken. After an `Err` some of them may be there.
+pub fn doc_text(alloc: Global, out: &mut Vec<u8>, number: u32, doc: StoredDoc<'_>) -> Result<(), OutOfMemory>
+    ensures { OnOk result (out.new.items ≡ out.old.items ++ text_of_doc number doc.entry) }
+{
+    let mut doc = doc;
+    let head = format!(in alloc; "doc {number}\n")?;
+    out.extend_from_slice(head.as_bytes())?;
+    while let Some(stored) = doc.next() {
+        put_stored_line(alloc, out, stored)?;
+    }
+    Ok(())
+}
+
+/// Appends the lines of the documents of a store. After an `Err` some of them may be there.
+pub fn docs_text(alloc: Global, out: &mut Vec<u8>, view: &StoredView<'_>) -> Result<(), OutOfMemory>
+    ensures { OnOk result (out.new.items ≡ out.old.items ++ doc_lines 0 view.now) }
+{
+    for number in 0..view.documents() {
+        doc_text(alloc, out, number, view.doc(number))?;
+    }
+    Ok(())
 }

@@ -1,4 +1,4 @@
-use Rattle.std.proofs.Common.{◌≡◌, ℕ, List, [], ◌∷◌, Option, sym, ap, subst, ◌∙◌, inl, inr, string_bytes, Result, Err}
+use Rattle.std.proofs.Common.{◌≡◌, ℕ, List, [], ◌∷◌, Option, sym, ap, subst, ◌∙◌, inl, inr, string_bytes, slice_get, Result, Err}
 use Rattle.std.specs.Option.{option_copied}
 use Rattle.lu_types.specs.declared.kind.FileKind.TheVariants.{Fnm}
 use Rattle.lu_types.specs.Names.{part_name}
@@ -8,7 +8,8 @@ use Rattle.lu_dir.specs.declared.loading.Loaded.{Loaded}
 use Rattle.lu_command.specs.declared.status.Status.TheVariants as statuses
 use Rattle.lu_command.specs.declared.status.Refusal.TheVariants as refusals
 use Rattle.lu_command.specs.Texts.{too_large_text}
-use Rattle.lu_command.specs.Answers.{FieldsSays, FieldsDue, IsFile}
+use Rattle.lu_command.specs.Files.{IsFile}
+use Rattle.lu_command.specs.Answers.{FieldsSays, FieldsDue}
 use Rattle.lu_command.specs.Asking.{IsTooLarge}
 use Rattle.lu_command.proofs.AnswerLemmas.{Prints-wider}
 use Rattle.lu_command.proofs.LoadLemmas.{IsFile-loaded, IsTooLong-first, IsCaused-never}
@@ -21,7 +22,7 @@ returns-in-Ok-load-clause-printed g c =
     let names : string_bytes c.in-Ok.name ∷ [] ≡ part_name segment Fnm ∷ [] = ap (λ (n : List ℕ). n ∷ []) c.in-Ok.ensures in
     let found : option_copied c.get.result ≡ contents c.in-Ok-load.loaded (part_name segment Fnm) = c.get.ensures ∙ ap (contents c.in-Ok-load.loaded) (c.as_str.ensures.value ∙ c.in-Ok.ensures) in
     let file : IsFile files (part_name segment Fnm) (option_copied c.get.result) =
-    subst (λ (o : Option (List ℕ)). IsFile files (part_name segment Fnm) o) (sym found) (IsFile-loaded files c.in-Ok-load.loaded (part_name segment Fnm) _ names c.in-Ok-load.ensures.loaded c.in-Ok-load.ensures.within) in
+    subst (λ (o : Option (List ℕ)). IsFile files (part_name segment Fnm) o) (sym found) (IsFile-loaded files c.in-Ok-load.loaded (string_bytes c.in-Ok.name ∷ []) 0 (part_name segment Fnm) (ap (λ (ns : List (List ℕ)). slice_get ns 0) names) c.in-Ok-load.ensures.loaded c.in-Ok-load.ensures.within) in
     Prints-wider (FieldsSays segment (option_copied c.get.result)) (FieldsDue segment files) (λ s t says. inr (option_copied c.get.result, file, says))
     (g.K.Sink.taken c.args.out.now) (g.K.Sink.taken c.say_fields.new.out) c.say_fields.result c.say_fields.ensures.printed
 

@@ -65,11 +65,11 @@ fn leaves_what_is_planned(rt: HostRuntime) -> Result<(), test::Fail> {
     let alloc = rt.alloc();
     for (left, after_create, after_patch, after_remove) in LEAVINGS {
         let want = after_create.map(|text| text.as_bytes());
-        assert_eq!(rt; created(alloc, 1, left)?.get("f"), want, "create {left:?}");
+        assert_eq!(rt; created(alloc, 1, left)?.get("f"), want);
         let want = Some(after_patch.as_bytes());
-        assert_eq!(rt; patched(alloc, 1, left)?.get("f"), want, "patch {left:?}");
+        assert_eq!(rt; patched(alloc, 1, left)?.get("f"), want);
         let want = after_remove.map(|text| text.as_bytes());
-        assert_eq!(rt; removed(alloc, 1, left)?.get("f"), want, "remove {left:?}");
+        assert_eq!(rt; removed(alloc, 1, left)?.get("f"), want);
     }
     let later = Left::Prefix(3);
     assert_eq!(rt;

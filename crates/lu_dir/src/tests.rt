@@ -1,4 +1,4 @@
-ghost use Rattle.std.specs.Prelude.{IfOk, codes};
+ghost use Rattle.std.specs.Prelude.{◌<◌, ◌≤◌, ◌^◌, IfOk, codes};
 ghost use Rattle.lu_dir.specs.Files.{HasRange};
 
 use crate::{
@@ -6,6 +6,7 @@ use crate::{
     LoadFault, MemDir, MemSink, MemSource, Sink, Source, load, read_all, write_all,
 };
 use std::alloc::Global;
+use std::rt::Runtime;
 use std::{fs, test};
 
 const FOLDER: &str = "lu_dir_test";
@@ -64,11 +65,11 @@ fn leaves_what_is_planned(rt: HostRuntime) -> Result<(), test::Fail> {
     let alloc = rt.alloc();
     for (left, after_create, after_patch, after_remove) in LEAVINGS {
         let want = after_create.map(|text| text.as_bytes());
-        assert_eq!(rt; created(alloc, 1, left)?.get("f"), want, "create {left:?}");
+        assert_eq!(rt; created(alloc, 1, left)?.get("f"), want);
         let want = Some(after_patch.as_bytes());
-        assert_eq!(rt; patched(alloc, 1, left)?.get("f"), want, "patch {left:?}");
+        assert_eq!(rt; patched(alloc, 1, left)?.get("f"), want);
         let want = after_remove.map(|text| text.as_bytes());
-        assert_eq!(rt; removed(alloc, 1, left)?.get("f"), want, "remove {left:?}");
+        assert_eq!(rt; removed(alloc, 1, left)?.get("f"), want);
     }
     let later = Left::Prefix(3);
     assert_eq!(rt;
@@ -84,7 +85,7 @@ fn leaves_what_is_planned(rt: HostRuntime) -> Result<(), test::Fail> {
 }
 
 #[test]
-fn stops_and_fails(rt: HostRuntime) -> Result<(), test::Fail> {
+fn stops_from_a_call_on(rt: HostRuntime) -> Result<(), test::Fail> {
     let alloc = rt.alloc();
     let mut dir = FaultDir::new(folder(alloc)?, vec![in alloc]?, Some(4));
     assert_eq!(rt; dir.enter(alloc, "d"), Ok(()));
@@ -92,31 +93,40 @@ fn stops_and_fails(rt: HostRuntime) -> Result<(), test::Fail> {
     assert_eq!(rt; dir.length(alloc, "f"), Ok(Some(6)));
     assert_eq!(rt; dir.sync(alloc, "f"), Err(DirFail::Failed));
     assert_eq!(rt; dir.create(alloc, "g", b"g"), Err(DirFail::Failed));
-    assert_eq!(rt; dir.enter(alloc, "e"), Err(DirFail::Failed));
-    assert!(rt; dir.list(alloc).is_err());
     assert_eq!(rt; dir.into_inner().get("g"), None);
-    for call in [1, 2] {
-        let bytes = b"abc".to_vec(alloc)?;
-        let mut source = FaultSource::new(MemSource::new(bytes, 2), vec![in alloc; call]?);
-        let mut sink = FaultSink::new(MemSink::new(alloc), vec![in alloc; call]?);
-        let mut buf = [0; 4];
-        for turn in [1, 2] {
-            let want = if turn == call {
-                Err(DirFail::Failed)
-            } else {
-                Ok(2)
-            };
-            assert_eq!(rt; sink.write(alloc, b"xy"), want);
-            assert_eq!(rt; source.read(alloc, &mut buf), want);
-        }
-        assert_eq!(rt; sink.bytes(), b"xy".as_slice());
-        assert_eq!(rt; buf, *b"ab\0\0");
-    }
+    Ok(())
+}
+
+/// What two calls of a source answer of which one fails.
+fn read_twice(alloc: Global, fails: u64) -> Result<[Result<usize, DirFail>; 2], test::Fail> {
+    let source = MemSource::new(b"abc".to_vec(alloc)?, 2);
+    let mut source = FaultSource::new(source, vec![in alloc; fails]?);
+    let mut buf = [0; 4];
+    Ok([source.read(alloc, &mut buf), source.read(alloc, &mut buf)])
+}
+
+/// What two calls of a sink answer of which one fails.
+fn written_twice(alloc: Global, fails: u64) -> Result<[Result<usize, DirFail>; 2], test::Fail> {
+    let mut sink = FaultSink::new(MemSink::new(alloc), vec![in alloc; fails]?);
+    Ok([sink.write(alloc, b"xy"), sink.write(alloc, b"xy")])
+}
+
+#[test]
+fn fails_at_a_call(rt: HostRuntime) -> Result<(), test::Fail> {
+    let alloc = rt.alloc();
+    let failed = Err(DirFail::Failed);
+    assert_eq!(rt; read_twice(alloc, 1)?, [failed, Ok(2)]);
+    assert_eq!(rt; read_twice(alloc, 2)?, [Ok(2), failed]);
+    assert_eq!(rt; written_twice(alloc, 1)?, [failed, Ok(2)]);
+    assert_eq!(rt; written_twice(alloc, 2)?, [Ok(2), failed]);
+    let mut sink = FaultSink::new(MemSink::new(alloc), vec![in alloc]?);
+    write_all(alloc, &mut sink, b"abcde")?;
+    assert_eq!(rt; sink.bytes(), b"abcde".as_slice());
     Ok(())
 }
 
 #[test]
-fn loads_and_reads(rt: HostRuntime) -> Result<(), test::Fail> {
+fn loads_by_name(rt: HostRuntime) -> Result<(), test::Fail> {
     let alloc = rt.alloc();
     let mut dir = MemDir::new(alloc);
     dir.put("five", b"abcde")?;
@@ -131,53 +141,92 @@ fn loads_and_reads(rt: HostRuntime) -> Result<(), test::Fail> {
     let loaded = load(alloc, &mut dir, &names, 5)?;
     assert_eq!(rt; loaded.get("five"), Some(b"abcde".as_slice()));
     assert_eq!(rt; loaded.get("none"), None);
+    Ok(())
+}
+
+/// Five bytes, read in pieces.
+fn read_in_pieces(alloc: Global, piece: usize, limit: u64) -> Result<Vec<u8>, LoadFault>
+    requires piece { 1 ≤ piece }
+    requires limit { limit < 2 ^ 31 }
+{
+    let mut source = MemSource::new(b"abcde".to_vec(alloc)?, piece);
+    read_all(alloc, &mut source, limit)
+}
+
+#[test]
+fn reads_in_pieces(rt: HostRuntime) -> Result<(), test::Fail> {
+    let alloc = rt.alloc();
     for piece in [1, 2, 5, 100] {
-        let mut source = MemSource::new(b"abcde".to_vec(alloc)?, piece);
         assert_eq!(rt;
-            read_all(alloc, &mut source, 4).err(),
+            read_in_pieces(alloc, piece, 4).err(),
             Some(LoadFault::TooLarge(0))
         );
-        let mut source = MemSource::new(b"abcde".to_vec(alloc)?, piece);
-        let bytes = read_all(alloc, &mut source, 5)?;
-        assert_eq!(rt; bytes.as_slice(), b"abcde".as_slice());
+        assert_eq!(rt;
+            read_in_pieces(alloc, piece, 5)?.as_slice(),
+            b"abcde".as_slice()
+        );
     }
-    let mut sink = MemSink::new(alloc);
-    write_all(alloc, &mut sink, b"abcde")?;
-    assert_eq!(rt; sink.bytes(), b"abcde".as_slice());
     Ok(())
+}
+
+/// Makes, patches and syncs a file beside a folder.
+fn filled<'r>(rt: &'r HostRuntime) -> Result<HostDir<'r, HostRuntime>, test::Fail> {
+    let alloc = rt.alloc();
+    let _ = fs::remove_dir_all(rt, FOLDER);
+    fs::create_dir(rt, FOLDER)?;
+    fs::create_dir(rt, "lu_dir_test/sub")?;
+    let mut dir = HostDir::new(rt);
+    dir.enter(alloc, FOLDER)?;
+    dir.create(alloc, "f", b"abc")?;
+    dir.create(alloc, "f", b"abcdef")?;
+    dir.patch(alloc, "f", 1, b"WXYZ")?;
+    dir.sync(alloc, "f")?;
+    Ok(dir)
+}
+
+/// The lengths of a file, of a folder and of nothing.
+fn lengths<D: Dir>(alloc: Global, dir: &mut D) -> [Result<Option<u64>, DirFail>; 3] {
+    [
+        dir.length(alloc, "f"),
+        dir.length(alloc, "sub"),
+        dir.length(alloc, "g"),
+    ]
+}
+
+/// A read past the end, a patch of no file, and a path that is no folder.
+fn failures<R: Runtime + AllocGlobal>(
+    alloc: Global,
+    dir: &mut HostDir<'_, R>,
+) -> [Result<(), DirFail>; 3] {
+    [
+        dir.read(alloc, "f", 4, &mut [0; 3]),
+        dir.patch(alloc, "g", 0, b"g"),
+        dir.enter(alloc, "lu_dir_test/none"),
+    ]
 }
 
 #[test]
 fn works_on_a_real_folder(rt: HostRuntime) -> Result<(), test::Fail> {
     let alloc = rt.alloc();
-    let _ = fs::remove_dir_all(&rt, FOLDER);
-    fs::create_dir(&rt, FOLDER)?;
-    fs::create_dir(&rt, "lu_dir_test/sub")?;
-    let mut dir = HostDir::new(&rt);
-    assert_eq!(rt; dir.enter(alloc, "lu_dir_test/none"), Err(DirFail::Failed));
-    assert_eq!(rt; dir.enter(alloc, FOLDER), Ok(()));
-    assert_eq!(rt; dir.create(alloc, "f", b"abc"), Ok(()));
-    assert_eq!(rt; dir.create(alloc, "f", b"abcdef"), Ok(()));
-    assert_eq!(rt; dir.patch(alloc, "f", 1, b"WXYZ"), Ok(()));
-    assert_eq!(rt; dir.sync(alloc, "f"), Ok(()));
-    assert_eq!(rt; dir.length(alloc, "f"), Ok(Some(6)));
-    assert_eq!(rt; dir.length(alloc, "sub"), Ok(None));
-    assert_eq!(rt; dir.length(alloc, "g"), Ok(None));
+    let mut dir = filled(&rt)?;
     let names = dir.list(alloc)?;
     assert_eq!(rt; names.len(), 1);
-    assert_eq!(rt; names[0].as_str(), "f");
-    let mut buf = [0; 3];
-    assert_eq!(rt; dir.read(alloc, "f", 4, &mut buf), Err(DirFail::Failed));
-    assert_eq!(rt; dir.read(alloc, "f", 3, &mut buf), Ok(()));
-    assert_eq!(rt; buf, *b"YZf");
     let loaded = load(alloc, &mut dir, &names, 6)?;
     assert_eq!(rt; loaded.get("f"), Some(b"aWXYZf".as_slice()));
-    assert_eq!(rt; dir.patch(alloc, "g", 0, b"g"), Err(DirFail::Failed));
-    assert_eq!(rt; dir.remove(alloc, "f"), Ok(()));
-    assert_eq!(rt; dir.remove(alloc, "f"), Ok(()));
-    assert_eq!(rt; dir.length(alloc, "f"), Ok(None));
+    assert_eq!(rt; lengths(alloc, &mut dir), [Ok(Some(6)), Ok(None), Ok(None)]);
+    assert_eq!(rt; failures(alloc, &mut dir), [Err(DirFail::Failed); 3]);
+    dir.enter(alloc, FOLDER)?;
+    dir.remove(alloc, "f")?;
+    dir.remove(alloc, "f")?;
+    assert_eq!(rt; dir.list(alloc)?.len(), 0);
     fs::remove_dir_all(&rt, FOLDER)?;
+    Ok(())
+}
+
+#[test]
+fn works_on_the_real_streams(rt: HostRuntime) -> Result<(), test::Fail> {
+    let alloc = rt.alloc();
     write_all(alloc, &mut HostSink::new(&rt), b"\n")?;
-    let _ = HostSource::new(&rt).read(alloc, &mut buf);
+    let _ = HostSource::new(&rt).read(alloc, &mut [0; 3]);
     Ok(())
 }

@@ -1,4 +1,4 @@
-use Rattle.std.proofs.Common.{◌≡◌, ◌+◌, ◌≤◌, List, ℕ, [], ◌∷◌, length, Option, IsSomeAnd, sym, ap, ◌∙◌, subst, lit≤}
+use Rattle.std.proofs.Common.{◌+◌, ◌≤◌, List, ℕ, [], ◌∷◌, length, Option, IsSomeAnd, sym, ap, ◌∙◌, subst, lit≤}
 use Rattle.lu_dir.specs.Files.{contents}
 use Rattle.lu_dir.proofs.Contents.{contents-with_file-same}
 use Rattle.lu_dir.proofs.tests.folder.Goals as goal

@@ -12,7 +12,7 @@ use Rattle.std.specs.Option.{ForSome, option_map}
 use Rattle.lu_dir.proofs.Contents.{bytes_eq-same}
 use Rattle.lu_dir.specs.Faults.{IsCaused}
 use Rattle.lu_dir.specs.Files.{Files, contents}
-use Rattle.lu_dir.specs.Loading.{AreLoaded, AreWithin, file_if_named, is_named, is_over, first_over}
+use Rattle.lu_dir.specs.Loading.{AreLoaded, AreWithin, is_named, is_over, first_over}
 use Rattle.lu_command.specs.Files.{file_limit, IsFile, IsTooLong}
 
 -- a name that stands among some is one of them
@@ -24,10 +24,12 @@ named-at (n ∷ names) (suc i) name stands = or_right (bytes_eq name n) (is_name
 -- a file that was loaded
 pub IsFile-loaded : (files : Option Files) (loaded : Files) (names : List (List ℕ)) (i : ℕ) (name : List ℕ) → slice_get names i ≡ Some name → ForSome files (λ told. AreLoaded told names loaded) → AreWithin file_limit loaded
     → IsFile files name (contents loaded name)
-IsFile-loaded files loaded names i name stands all within =
-    (λ told tells.
+IsFile-loaded files loaded names i name stands all within = (
+  λ told tells.
       let found : contents loaded name ≡ contents told name = all told tells name ∙ ap (λ (t : Bool). cond t (contents told name) None) (named-at names i name stands) in
-      sym found, within name)
+      sym found,
+  within name,
+)
 
 text-here : (names : List (String Global)) (i : ℕ) (s : String Global) → i < length names → s ≡ get_or names i s → slice_get (map string_bytes names) i ≡ Some (string_bytes s)
 text-here [] i s lt here = absurd (omega arith)

@@ -1,5 +1,5 @@
 -- What is said of the bytes of files is one answer and one text.
-use Rattle.std.proofs.Common.{◌≡◌, ℕ, ℤ, true, List, length, Option, Some, None, refl, sym, subst, ap, ◌∙◌, inl, inr, ◌⊎◌}
+use Rattle.std.proofs.Common.{◌≡◌, ℕ, ℤ, true, List, length, Option, Some, None, refl, sym, subst, ap, ◌∙◌, inl, inr}
 use Rattle.std.specs.Option.{ForSome}
 use Rattle.lu_grammar.specs.Bytes.{IsBytes}
 use Rattle.lu_grammar.specs.Plans.{Plan}

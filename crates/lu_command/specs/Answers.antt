@@ -1,16 +1,13 @@
 -- Which answer is due, and what a call prints.
-use Rattle.std.specs.Prelude.{◌≡◌, ℕ, ◌-◌, ◌^◌, ◌<◌, ◌≤◌, ◌⊎◌, true, List, length, take, Option, Some, None, IfSome}
+use Rattle.std.specs.Prelude.{◌≡◌, ℕ, ◌<◌, ◌⊎◌, true, List, length, take, Option, Some, None}
 use Rattle.std.specs.Option.{ForSome}
-use Rattle.lu_grammar.specs.declared.general.TheConstants.{MISSING}
 use Rattle.lu_grammar.specs.Bytes.{IsBytes}
 use Rattle.lu_grammar.specs.Meaning.{Reads}
 use Rattle.lu_dir.specs.Files.{Files, contents}
-use Rattle.lu_dir.specs.Loading.{is_over}
 use Rattle.lu_dir.specs.Streams.{with_taken}
 use Rattle.lu_types.specs.Tables.{TableField}
 use Rattle.lu_types.specs.Judging.{IsFirstFault}
 use Rattle.lu_types.specs.Names.{part_name}
-use Rattle.lu_types.specs.declared.kind.FileKind.{FileKind}
 use Rattle.lu_types.specs.declared.kind.FileKind.TheVariants.{Fnm}
 use Rattle.lu_types.specs.declared.fault.Spot.{Spot}
 use Rattle.field_infos.specs.Fnm.{fnm_plan}

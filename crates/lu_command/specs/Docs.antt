@@ -60,4 +60,4 @@ abbrev pub DocsDue : List ℕ → Option Files → Status → List ℕ → Type 
 DocsDue segment files status text =
     ((kind : FileKind) × ForSome files (λ told. first_too_long told segment docs_kinds ≡ Some kind) × (status ≡ statuses.Refused (refusals.FileTooLarge kind)) × (text ≡ too_large_text kind))
     ⊎ ((fnm : Option (List ℕ)) × (fdx : Option (List ℕ)) × (fdt : Option (List ℕ)) × IsFile files (part_name segment Fnm) fnm × IsFile files (part_name segment Fdx) fdx
-      × IsFile files (part_name segment Fdt) fdt × DocsSays segment fnm fdx fdt status text)
+    × IsFile files (part_name segment Fdt) fdt × DocsSays segment fnm fdx fdt status text)

@@ -1,10 +1,9 @@
-ghost use Rattle.std.specs.Prelude.{None, option_map, string_bytes};
+ghost use Rattle.std.specs.Prelude.{◌<◌, None, option_map, string_bytes};
 
-use crate::tests::words_of;
-use crate::{Refusal, Status, run};
-use lu_dir::{Dir, Fail as Failure, FaultDir, Left, MemDir, MemSink, MemSource};
+use crate::run_tests::expect;
+use crate::{Status, Which};
+use lu_dir::{Dir, Fail as Failure, FaultDir, Left, MemDir};
 use lu_prims::OutOfMemory;
-use lu_types::FileKind;
 use std::alloc::Global;
 use std::process::Abort;
 use std::test::Fail;
@@ -31,37 +30,63 @@ fn folder(alloc: Global, files: &[Option<&[u8]>; 3]) -> Result<MemDir, OutOfMemo
     Ok(dir)
 }
 
-// What `docs` prints for these files, and its exit number.
-fn answered(
-    alloc: Global,
+// What `docs` says of these files is this text, with this exit number.
+fn expect_docs<R: Abort + AllocGlobal>(
+    rt: &R,
     files: &[Option<&[u8]>; 3],
-) -> Result<(String, u8), Fail> {
-    let words = words_of(alloc, "docs d _0")?;
-    let mut dir = folder(alloc, files)?;
-    let mut source = MemSource::new(Vec::new(alloc), 1);
-    let mut sink = MemSink::new(alloc);
-    let status = run(alloc, words.as_slice(), &mut dir, &mut source, &mut sink);
-    let text = String::from_utf8_lossy(alloc, sink.bytes())?;
-    Ok((text, status.code()))
+    text: &str,
+    code: u8,
+) -> Result<(), Fail> {
+    let mut dir = folder(rt.alloc(), files)?;
+    expect(rt, "docs d _0", &mut dir, code, text)?;
+    Ok(())
 }
 
 #[test]
 fn stored_fields_are_judged(rt: HostRuntime) -> Result<(), Fail> {
     let rows: [(&[u8], &[u8], &str, u8); 9] = [
         (FDX, FDT, GOOD, 0),
-        (b"\x00\x00\x00\x02\x00\x00\x00\x00\x00\x00\x00\x04\x00", FDT, "fault _0.fdx 12 6 Trailing\n", 1),
+        (
+            b"\x00\x00\x00\x02\x00\x00\x00\x00\x00\x00\x00\x04\x00",
+            FDT,
+            "fault _0.fdx 12 6 Trailing\n",
+            1,
+        ),
         (b"\x00\x00", FDT, "fault _0.fdx 0 1 Ends\n", 1),
-        (FDX, b"\x00\x00\x00\x02\x01\x02\x01\x0Bhello world", "fault _0.fdt 5 45 StoredField\n", 1),
-        (FDX, b"\x00\x00\x00\x02\x01\x00\x04\x0Bhello world", "fault _0.fdt 5 46 StoredBits\n", 1),
-        (FDX, b"\x00\x00\x00\x02\x01\x00\x03\x0Bhello world", "doc 0\nstored 0 1 binary 68656c6c6f20776f726c64\n", 0),
-        (b"\x00\x00\x00\x02\x00\x00\x00\x00\x00\x00\x00\x05", FDT, "fault _0.fdx 4 41 FdxPlace\n", 1),
-        (FDX, b"\x00\x00\x00\x02\x01\x00\x01\x0Bhello world\x00", "fault _0.fdt 19 6 Trailing\n", 1),
+        (
+            FDX,
+            b"\x00\x00\x00\x02\x01\x02\x01\x0Bhello world",
+            "fault _0.fdt 5 45 StoredField\n",
+            1,
+        ),
+        (
+            FDX,
+            b"\x00\x00\x00\x02\x01\x00\x04\x0Bhello world",
+            "fault _0.fdt 5 46 StoredBits\n",
+            1,
+        ),
+        (
+            FDX,
+            b"\x00\x00\x00\x02\x01\x00\x03\x0Bhello world",
+            "doc 0\nstored 0 1 binary 68656c6c6f20776f726c64\n",
+            0,
+        ),
+        (
+            b"\x00\x00\x00\x02\x00\x00\x00\x00\x00\x00\x00\x05",
+            FDT,
+            "fault _0.fdx 4 41 FdxPlace\n",
+            1,
+        ),
+        (
+            FDX,
+            b"\x00\x00\x00\x02\x01\x00\x01\x0Bhello world\x00",
+            "fault _0.fdt 19 6 Trailing\n",
+            1,
+        ),
         (b"\x00\x00\x00\x02", b"\x00\x00\x00\x02", "", 0),
     ];
     for (fdx, fdt, text, code) in rows {
-        let (printed, number) = answered(rt.alloc(), &[Some(FNM), Some(fdx), Some(fdt)])?;
-        assert_eq!(rt; printed.as_str(), text);
-        assert_eq!(rt; number, code, "{text}");
+        expect_docs(&rt, &[Some(FNM), Some(fdx), Some(fdt)], text, code)?;
     }
     Ok(())
 }
@@ -77,9 +102,7 @@ fn the_first_missing_file_is_named(rt: HostRuntime) -> Result<(), Fail> {
         ([Some(FNM), Some(b"\x00"), None], "fault _0.fdx 0 1 Ends\n"),
     ];
     for (files, text) in rows {
-        let (printed, number) = answered(rt.alloc(), &files)?;
-        assert_eq!(rt; printed.as_str(), text);
-        assert_eq!(rt; number, 1, "{text}");
+        expect_docs(&rt, &files, text, 1)?;
     }
     Ok(())
 }
@@ -91,18 +114,19 @@ fn values_are_printed_as_they_are(rt: HostRuntime) -> Result<(), Fail> {
             b"\x00\x00\x00\x02\x01\x00\x00\x07a\"\\\x0A\x01\xC3\xA9",
             "doc 0\nstored 0 0 text \"a\\\"\\\\\\u000a\\u0001\u{E9}\"\n",
         ),
-        (b"\x00\x00\x00\x02\x01\x01\x02\x00", "doc 0\nstored 1 0 binary \n"),
+        (
+            b"\x00\x00\x00\x02\x01\x01\x02\x00",
+            "doc 0\nstored 1 0 binary \n",
+        ),
         (b"\x00\x00\x00\x02\x00", "doc 0\n"),
     ];
     for (fdt, text) in rows {
-        let (printed, number) = answered(rt.alloc(), &[Some(FNM), Some(FDX), Some(fdt)])?;
-        assert_eq!(rt; printed.as_str(), text);
-        assert_eq!(rt; number, 0, "{text}");
+        expect_docs(&rt, &[Some(FNM), Some(FDX), Some(fdt)], text, 0)?;
     }
     Ok(())
 }
 
-// The place of the part that a cut at a length ends in, by the places where the parts start.
+// The place of the record that a cut at a length ends in, by the places where the records start.
 fn part_of(starts: &[usize], length: usize) -> usize {
     let mut part = 0;
     for start in starts {
@@ -119,28 +143,28 @@ fn cut_at_every_length<R: Abort + AllocGlobal>(
     place: usize,
     whole: &[u8],
     starts: &[usize],
-) -> Result<(), Fail> {
+) -> Result<(), Fail>
+    requires { place < 3 }
+{
     for length in 0..whole.len() {
         let mut files = [Some(FNM), Some(FDX), Some(FDT)];
         files[place] = Some(&whole[..length]);
-        let (printed, number) = answered(rt.alloc(), &files)?;
         let name = NAMES[place];
         let offset = part_of(starts, length);
         let expected = format!(in rt.alloc(); "fault {name} {offset} 1 Ends\n")?;
-        assert_eq!(rt; printed.as_str(), expected.as_str(), "{length}");
-        assert_eq!(rt; number, 1, "{length}");
+        expect_docs(rt, &files, expected.as_str(), 1)?;
     }
     Ok(())
 }
 
 #[test]
 fn a_cut_field_table_is_named(rt: HostRuntime) -> Result<(), Fail> {
-    cut_at_every_length(&rt, 0, FNM, &[0, 5, 6, 12, 13, 18])
+    cut_at_every_length(&rt, 0, FNM, &[0, 6, 13])
 }
 
 #[test]
 fn a_cut_file_of_documents_is_named(rt: HostRuntime) -> Result<(), Fail> {
-    cut_at_every_length(&rt, 2, FDT, &[0, 4, 5, 6, 7])
+    cut_at_every_length(&rt, 2, FDT, &[0, 4, 5])
 }
 
 #[test]
@@ -151,9 +175,29 @@ fn a_cut_file_of_places_is_named(rt: HostRuntime) -> Result<(), Fail> {
             4 => "fault _0.fdt 4 6 Trailing\n",
             _ => "fault _0.fdx 4 6 Trailing\n",
         };
-        let (printed, number) = answered(rt.alloc(), &[Some(FNM), Some(&FDX[..length]), Some(FDT)])?;
-        assert_eq!(rt; printed.as_str(), expected, "{length}");
-        assert_eq!(rt; number, 1, "{length}");
+        expect_docs(
+            &rt,
+            &[Some(FNM), Some(&FDX[..length]), Some(FDT)],
+            expected,
+            1,
+        )?;
+    }
+    Ok(())
+}
+
+#[test]
+fn a_failure_of_the_folder_is_answered(rt: HostRuntime) -> Result<(), Fail> {
+    for call in 1..8 {
+        let fails = [Failure {
+            call,
+            left: Left::Before,
+        }]
+        .to_vec(rt.alloc())?;
+        let files = [Some(FNM), Some(FDX), Some(FDT)];
+        let mut dir = FaultDir::new(folder(rt.alloc(), &files)?, fails, None);
+        let status = expect(&rt, "docs d _0", &mut dir, 4, "")?;
+        assert_eq!(rt; status, Status::Device(Which::Dir), "{call}");
+        assert_eq!(rt; dir.into_inner().get("_0.fdt"), Some(FDT), "{call}");
     }
     Ok(())
 }

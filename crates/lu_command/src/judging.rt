@@ -12,9 +12,9 @@ use crate::texts::{docs_text, fault_text, fields_text};
 use field_infos::check;
 use lu_prims::OutOfMemory;
 use lu_types::rules::MISSING;
-use stored_fields::{StoredView, stored_total};
 use lu_types::{CodecFault, Fault, FieldTable, FileKind, Spot};
 use std::alloc::Global;
+use stored_fields::{StoredView, stored_total};
 
 /// The answer that a file of the segment has this fault.
 fn faulty(alloc: Global, segment: &str, spot: Spot) -> Result<Answer, OutOfMemory>
@@ -71,6 +71,7 @@ const MISSING_PLACES: Spot = Spot {
     offset: 0,
     rule: MISSING,
 };
+
 const MISSING_DOCUMENTS: Spot = Spot {
     kind: FileKind::Fdt,
     offset: 0,
@@ -90,7 +91,13 @@ fn documents_answer(alloc: Global, view: &StoredView<'_>) -> Result<Answer, OutO
 }
 
 /// What `docs` says of the two files of a store that are there.
-fn store_answer(alloc: Global, segment: &str, fields: u32, fdx: &[u8], fdt: &[u8]) -> Result<Answer, OutOfMemory>
+fn store_answer(
+    alloc: Global,
+    segment: &str,
+    fields: u32,
+    fdx: &[u8],
+    fdt: &[u8],
+) -> Result<Answer, OutOfMemory>
     requires { length fdx.now < 2 ^ 31 }
     ensures says { IfOk result (λ answer. StoreSays segment.now fields (Some fdx.now) (Some fdt.now) answer.status answer.text.items) }
     ensures answer { IfOk result (λ answer. IsAnswer answer.status) }
@@ -102,7 +109,12 @@ fn store_answer(alloc: Global, segment: &str, fields: u32, fdx: &[u8], fdt: &[u8
 }
 
 /// What `docs` says of a store without its file of documents: a fault of its file of places comes first.
-fn places_answer(alloc: Global, segment: &str, fields: u32, fdx: &[u8]) -> Result<Answer, OutOfMemory>
+fn places_answer(
+    alloc: Global,
+    segment: &str,
+    fields: u32,
+    fdx: &[u8],
+) -> Result<Answer, OutOfMemory>
     requires { length fdx.now < 2 ^ 31 }
     ensures says { IfOk result (λ answer. StoreSays segment.now fields (Some fdx.now) None answer.status answer.text.items) }
     ensures answer { IfOk result (λ answer. IsAnswer answer.status) }
@@ -114,7 +126,13 @@ fn places_answer(alloc: Global, segment: &str, fields: u32, fdx: &[u8]) -> Resul
 }
 
 /// What `docs` says of the files of a store whose values have so many fields, where they are there.
-fn stored_answer(alloc: Global, segment: &str, fields: u32, fdx: Option<&[u8]>, fdt: Option<&[u8]>) -> Result<Answer, OutOfMemory>
+fn stored_answer(
+    alloc: Global,
+    segment: &str,
+    fields: u32,
+    fdx: Option<&[u8]>,
+    fdt: Option<&[u8]>,
+) -> Result<Answer, OutOfMemory>
     requires { IfSome (option_copied fdx) (λ bytes. length bytes < 2 ^ 31) }
     ensures says { IfOk result (λ answer. StoreSays segment.now fields (option_copied fdx.entry) (option_copied fdt.entry) answer.status answer.text.items) }
     ensures answer { IfOk result (λ answer. IsAnswer answer.status) }
@@ -129,7 +147,13 @@ fn stored_answer(alloc: Global, segment: &str, fields: u32, fdx: Option<&[u8]>, 
 }
 
 /// What `docs` says of its three files, where they are there.
-pub fn docs_answer(alloc: Global, segment: &str, fnm: Option<&[u8]>, fdx: Option<&[u8]>, fdt: Option<&[u8]>) -> Result<Answer, OutOfMemory>
+pub fn docs_answer(
+    alloc: Global,
+    segment: &str,
+    fnm: Option<&[u8]>,
+    fdx: Option<&[u8]>,
+    fdt: Option<&[u8]>,
+) -> Result<Answer, OutOfMemory>
     requires { IfSome (option_copied fdx) (λ bytes. length bytes < 2 ^ 31) }
     ensures says { IfOk result (λ answer. DocsSays segment.now (option_copied fnm.entry) (option_copied fdx.entry) (option_copied fdt.entry) answer.status answer.text.items) }
     ensures answer { IfOk result (λ answer. IsAnswer answer.status) }

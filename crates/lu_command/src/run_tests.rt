@@ -7,8 +7,11 @@ use lu_dir::{
 };
 use lu_prims::OutOfMemory;
 use lu_types::FileKind;
-use std::alloc::Global;
+use std::alloc::{AllocError, Global};
+use std::process::Abort;
 use std::test::Fail;
+
+const FIELDS: &str = "fields d _0";
 
 const FILE: &str = "_0.fnm";
 
@@ -23,6 +26,23 @@ fn folder(alloc: Global, table: Option<&[u8]>) -> Result<MemDir, OutOfMemory> {
         dir.put(FILE, bytes)?;
     }
     Ok(dir)
+}
+
+// What a call over memory with the words of this line answers, where it has this exit number and prints this text.
+pub(crate) fn expect<R: Abort + AllocGlobal, D: Dir>(
+    rt: &R,
+    line: &str,
+    dir: &mut D,
+    code: u8,
+    text: &str,
+) -> Result<Status, AllocError> {
+    let words = words_of(rt.alloc(), line)?;
+    let mut source = MemSource::new(Vec::new(rt.alloc()), 1);
+    let mut sink = MemSink::new(rt.alloc());
+    let status = run(rt.alloc(), words.as_slice(), dir, &mut source, &mut sink);
+    assert_eq!(rt; status.code(), code, "{line}: {text}");
+    assert_eq!(rt; sink.bytes(), text.as_bytes(), "{line}: {text}");
+    Ok(status)
 }
 
 #[test]
@@ -62,20 +82,9 @@ fn a_field_table_is_judged(rt: HostRuntime) -> Result<(), Fail> {
             1,
         ),
     ];
-    let words = words_of(rt.alloc(), "fields d _0")?;
     for (table, text, code) in rows {
         let mut dir = folder(rt.alloc(), table)?;
-        let mut source = MemSource::new(Vec::new(rt.alloc()), 1);
-        let mut sink = MemSink::new(rt.alloc());
-        let status = run(
-            rt.alloc(),
-            words.as_slice(),
-            &mut dir,
-            &mut source,
-            &mut sink,
-        );
-        assert_eq!(rt; status.code(), code, "{text}");
-        assert_eq!(rt; sink.bytes(), text.as_bytes(), "{text}");
+        expect(&rt, FIELDS, &mut dir, code, text)?;
         assert_eq!(rt; dir.get(FILE), table, "{text}");
     }
     Ok(())
@@ -94,65 +103,53 @@ fn words_without_a_meaning_get_the_usage(rt: HostRuntime) -> Result<(), Fail> {
         "fields --help",
     ];
     let mut dir = folder(rt.alloc(), Some(ONE_FIELD))?;
-    let mut source = MemSource::new(Vec::new(rt.alloc()), 1);
-    let mut sink = MemSink::new(rt.alloc());
-    let status = run(rt.alloc(), &[], &mut dir, &mut source, &mut sink);
-    assert_eq!(rt; status, Status::Usage);
-    assert_eq!(rt; sink.bytes(), USAGE.as_bytes());
     for line in lines {
-        let words = words_of(rt.alloc(), line)?;
-        let mut sink = MemSink::new(rt.alloc());
-        let status = run(
-            rt.alloc(),
-            words.as_slice(),
-            &mut dir,
-            &mut source,
-            &mut sink,
-        );
-        assert_eq!(rt; status.code(), 2, "{line}");
-        assert_eq!(rt; sink.bytes(), USAGE.as_bytes(), "{line}");
+        expect(&rt, line, &mut dir, 2, USAGE)?;
     }
     Ok(())
 }
 
 #[test]
-fn failures_of_devices_are_answered(rt: HostRuntime) -> Result<(), Fail> {
-    let words = words_of(rt.alloc(), "fields d _0")?;
+fn no_words_get_the_usage(rt: HostRuntime) -> Result<(), Fail> {
+    let mut dir = MemDir::new(rt.alloc());
     let mut source = MemSource::new(Vec::new(rt.alloc()), 1);
+    let mut sink = MemSink::new(rt.alloc());
+    let status = run(rt.alloc(), &[], &mut dir, &mut source, &mut sink);
+    assert_eq!(rt; status, Status::Usage);
+    assert_eq!(rt; sink.bytes(), USAGE.as_bytes());
+    Ok(())
+}
+
+#[test]
+fn a_failure_of_the_output_is_answered(rt: HostRuntime) -> Result<(), Fail> {
+    let words = words_of(rt.alloc(), FIELDS)?;
     let mut dir = folder(rt.alloc(), Some(ONE_FIELD))?;
-    let mut full = FaultSink::new(MemSink::new(rt.alloc()), [1].to_vec(rt.alloc())?);
+    let mut source = MemSource::new(Vec::new(rt.alloc()), 1);
+    let mut sink = FaultSink::new(MemSink::new(rt.alloc()), [1].to_vec(rt.alloc())?);
     let status = run(
         rt.alloc(),
         words.as_slice(),
         &mut dir,
         &mut source,
-        &mut full,
+        &mut sink,
     );
     assert_eq!(rt; status, Status::Device(Which::Sink));
     assert_eq!(rt; status.code(), 4);
-    assert!(rt; full.bytes().is_empty());
-    for (call, wanted, printed) in [
-        (1, Status::Device(Which::Dir), ""),
-        (2, Status::Device(Which::Dir), ""),
-        (3, Status::Device(Which::Dir), ""),
-        (4, Status::Ok, "field 0 01 \"a\"\n"),
-    ] {
+    assert!(rt; sink.bytes().is_empty());
+    Ok(())
+}
+
+#[test]
+fn a_failure_of_the_folder_is_answered(rt: HostRuntime) -> Result<(), Fail> {
+    for call in 1..4 {
         let fails = [Failure {
             call,
             left: Left::Before,
         }]
         .to_vec(rt.alloc())?;
         let mut dir = FaultDir::new(folder(rt.alloc(), Some(ONE_FIELD))?, fails, None);
-        let mut sink = MemSink::new(rt.alloc());
-        let status = run(
-            rt.alloc(),
-            words.as_slice(),
-            &mut dir,
-            &mut source,
-            &mut sink,
-        );
-        assert_eq!(rt; status, wanted, "{call}");
-        assert_eq!(rt; sink.bytes(), printed.as_bytes(), "{call}");
+        let status = expect(&rt, FIELDS, &mut dir, 4, "")?;
+        assert_eq!(rt; status, Status::Device(Which::Dir), "{call}");
         assert_eq!(rt; dir.into_inner().get(FILE), Some(ONE_FIELD), "{call}");
     }
     Ok(())
@@ -219,23 +216,12 @@ impl Dir for LongFiles {
 
 #[test]
 fn a_long_file_is_refused(rt: HostRuntime) -> Result<(), Fail> {
-    let words = words_of(rt.alloc(), "fields d _0")?;
     let mut dir = LongFiles { path: None };
-    let mut source = MemSource::new(Vec::new(rt.alloc()), 1);
-    let mut sink = MemSink::new(rt.alloc());
-    let status = run(
-        rt.alloc(),
-        words.as_slice(),
-        &mut dir,
-        &mut source,
-        &mut sink,
-    );
+    let status = expect(&rt, FIELDS, &mut dir, 3, "refused: FileTooLarge fnm\n")?;
     assert_eq!(rt;
         status,
         Status::Refused(Refusal::FileTooLarge(FileKind::Fnm))
     );
-    assert_eq!(rt; status.code(), 3);
-    assert_eq!(rt; sink.bytes(), "refused: FileTooLarge fnm\n".as_bytes());
     assert_eq!(rt; dir.path.as_ref().map(|path| path.as_str()), Some("d"));
     Ok(())
 }

@@ -7,10 +7,10 @@ ghost use Rattle.stored_fields.specs.Entries.{stored_field, value_of};
 ghost use Rattle.lu_command.specs.Texts.{hex_byte, field_line, field_lines, fault_text, too_large_text, usage_text, value_text, flag_digit as digit_of_flag, stored_line, doc_text as text_of_doc, doc_lines};
 
 use lu_prims::{OutOfMemory, quoted};
-use stored_fields::{StoredDoc, StoredRef, StoredView, ValueRef};
 use lu_types::rules::rule_name;
 use lu_types::{Field, FieldTable, FileKind, Spot, Stored, part_name};
 use std::alloc::Global;
+use stored_fields::{StoredDoc, StoredRef, StoredView, ValueRef};
 
 /// The line of words that have no meaning.
 pub const USAGE: &str = "usage: lucene3 COMMAND [DIR] [ARGUMENTS]\n";
@@ -125,7 +125,11 @@ fn flag_digit(flag: bool) -> &'static str
 }
 
 /// Appends the line of a stored value. After an `Err` some of it may be there.
-fn put_stored_line(alloc: Global, out: &mut Vec<u8>, stored: StoredRef<'_>) -> Result<(), OutOfMemory>
+fn put_stored_line(
+    alloc: Global,
+    out: &mut Vec<u8>,
+    stored: StoredRef<'_>,
+) -> Result<(), OutOfMemory>
     ensures { OnOk result (out.new.items ≡ out.old.items ++ stored_line (stored_field stored.entry)) }
 {
     let field = stored.field;
@@ -138,7 +142,12 @@ fn put_stored_line(alloc: Global, out: &mut Vec<u8>, stored: StoredRef<'_>) -> R
 }
 
 /// Appends the lines of a document, of which no value was taken. After an `Err` some of them may be there.
-pub fn doc_text(alloc: Global, out: &mut Vec<u8>, number: u32, doc: StoredDoc<'_>) -> Result<(), OutOfMemory>
+pub fn doc_text(
+    alloc: Global,
+    out: &mut Vec<u8>,
+    number: u32,
+    doc: StoredDoc<'_>,
+) -> Result<(), OutOfMemory>
     ensures { OnOk result (out.new.items ≡ out.old.items ++ text_of_doc number doc.entry) }
 {
     let mut doc = doc;

@@ -32,7 +32,7 @@ places_begun place [] = ap (λ (n : ℕ). n ∷ []) (let e : place ≡ place + 0
 places_begun place (d ∷ []) = refl
 places_begun place (d ∷ e ∷ ds) =
     ap (λ (t : List ℕ). place ∷ t) (places_begun (place + length (document_bytes 0 d)) (e ∷ ds)
-        ∙ ap (λ (n : ℕ). places_from (place + length (document_bytes 0 d)) (e ∷ ds) ++ n ∷ []) (omega (arith, length-append (document_bytes 0 d) (documents_bytes 0 (e ∷ ds)))))
+    ∙ ap (λ (n : ℕ). places_from (place + length (document_bytes 0 d)) (e ∷ ds) ++ n ∷ []) (omega (arith, length-append (document_bytes 0 d) (documents_bytes 0 (e ∷ ds)))))
 
 -- ---- one more value of the last document
 
@@ -99,7 +99,7 @@ written_is fdx fdt lacks documents places values storable =
     let rest : drop HEADER_BYTES fdt ≡ documents_bytes lacks documents ++ [] = ap (drop HEADER_BYTES) values ∙ sym (append-nil (documents_bytes lacks documents)) in
     ap (λ (r : Result (List Document × Cursor) Broken). read_or_none r)
     (ap (λ (n : ℕ). read_plan (begun_documents n lacks) (at HEADER_BYTES (drop HEADER_BYTES fdt))) total ∙ ap (λ (t : List ℕ). read_plan (begun_documents (length documents) lacks) (at HEADER_BYTES t)) rest
-        ∙ (writes_documents lacks documents HEADER_BYTES storable).reads [])
+    ∙ (writes_documents lacks documents HEADER_BYTES storable).reads [])
 
 pub is_writing : (fdx fdt : List ℕ) (lacks : ℕ) (documents : List Document) → fdx ≡ fdx_bytes documents → fdt ≡ fdt_bytes lacks documents → AreStorable lacks documents → IsWriting fdx fdt lacks
 is_writing fdx fdt lacks documents places values storable =
@@ -154,5 +154,5 @@ stored_held fdx fdt fdt_new lacks v writing some new values =
     let place : List ℕ → List ℕ = λ ps. flat_map (λ p. spelling int64 (pos p)) ps in
     holds fdx fdt_new (lacks - 1) (in_last v ds) (writing.places ∙ ap (λ (ps : List ℕ). spelling int32 FORMAT ++ place ps) (sym (places_stored HEADER_BYTES v ds)))
     (values ∙ ap (λ (t : List ℕ). t ++ value_bytes v) (writing.values ∙ ap (λ (n : ℕ). fdt_bytes n ds) back) ∙ append_assoc (spelling int32 FORMAT) (documents_bytes (suc (lacks - 1)) ds) (value_bytes v)
-        ∙ ap (λ (t : List ℕ). spelling int32 FORMAT ++ t) (sym (bytes_stored (lacks - 1) v ds storable)))
+    ∙ ap (λ (t : List ℕ). spelling int32 FORMAT ++ t) (sym (bytes_stored (lacks - 1) v ds storable)))
     (storable_stored (lacks - 1) v ds storable new)

@@ -80,7 +80,7 @@ writes_places (p ∷ ps) front place h =
     let rest : AreWellPlaced (last_or None (front ++ pos p ∷ [])) ps = subst (λ (o : Option ℤ). AreWellPlaced o ps) (sym (last_push None front (pos p))) h.2 in
     subst (λ (zs : List ℤ). Writes (times places_kind (suc (length ps)) front) place (spelling int64 (pos p) ++ flat_map (λ q. spelling int64 (pos q)) ps) zs) (append_assoc front (pos p ∷ []) (map pos ps))
     (Writes-and_then (one places_kind front) (times places_kind (length ps)) place (spelling int64 (pos p)) (flat_map (λ q. spelling int64 (pos q)) ps) (front ++ pos p ∷ []) ((front ++ pos p ∷ []) ++ map pos ps) first
-        (writes_places ps (front ++ pos p ∷ []) (place + length (spelling int64 (pos p))) rest))
+    (writes_places ps (front ++ pos p ∷ []) (place + length (spelling int64 (pos p))) rest))
 
 -- the places of written documents
 abbrev pub places_of : List Document → List ℤ
@@ -147,8 +147,8 @@ writes_all window fields places (d ∷ ds) front passed place is long storable n
     λ i lt holds. named (suc i) (omega arith) (ap (is_within window) (let e : length front + suc i ≡ length (front ++ d ∷ []) + i = omega (arith, length-append front (d ∷ [])) in e) ∙ holds) in
     subst (λ (t : List ℕ). Writes (each (next_document window fields places) (suc (length ds)) front) place t (front ++ d ∷ ds)) (sym (documents_cons d ds))
     (subst (λ (all : List Document). Writes (each (next_document window fields places) (suc (length ds)) front) place (document_bytes 0 d ++ documents_bytes 0 ds) all) (append_assoc front (d ∷ []) ds)
-        (Writes-and_then (next_document window fields places front) (each (next_document window fields places) (length ds)) place (document_bytes 0 d) (documents_bytes 0 ds) (front ++ d ∷ []) ((front ++ d ∷ []) ++ ds) first
-            (writes_all window fields places ds (front ++ d ∷ []) (passed ++ pos place ∷ []) (place + length (document_bytes 0 d)) behind longer parts.1 later)))
+    (Writes-and_then (next_document window fields places front) (each (next_document window fields places) (length ds)) place (document_bytes 0 d) (documents_bytes 0 ds) (front ++ d ∷ []) ((front ++ d ∷ []) ++ ds) first
+    (writes_all window fields places ds (front ++ d ∷ []) (passed ++ pos place ∷ []) (place + length (document_bytes 0 d)) behind longer parts.1 later)))
 
 -- the fields of a document in the window are there
 named_within : (fields : ℕ) (window : Window) (documents : List Document) → IsCheckable fields window documents → (i : ℕ) → is_within window i ≡ true → HasFields fields (get_or documents i [])
@@ -185,6 +185,7 @@ fdt_writes fields window documents storable h =
 -- both files are read as the documents
 pub read_back : (fields : ℕ) (window : Window) (documents : List Document) → AreStorable 0 documents → IsCheckable fields window documents
     → (read_file (fdx_plan (length documents) window) (fdx_bytes documents) ≡ Ok (places_of documents)) × (read_file (fdt_plan window fields (places_of documents)) (fdt_bytes 0 documents) ≡ Ok documents)
-read_back fields window documents storable h =
-    (read_file-Writes (fdx_plan (length documents) window) (fdx_bytes documents) (places_of documents) (fdx_writes window documents h.short h.within),
-        read_file-Writes (fdt_plan window fields (places_of documents)) (fdt_bytes 0 documents) documents (fdt_writes fields window documents storable h))
+read_back fields window documents storable h = (
+  read_file-Writes (fdx_plan (length documents) window) (fdx_bytes documents) (places_of documents) (fdx_writes window documents h.short h.within),
+  read_file-Writes (fdt_plan window fields (places_of documents)) (fdt_bytes 0 documents) documents (fdt_writes fields window documents storable h),
+)

@@ -111,7 +111,7 @@ writes_values asked fields (v ∷ vs) front place storable there =
     subst (λ (s : Document). Writes (one kind front) place (value_bytes v) s) state (writes_one kind front place (value (entry v)) (value_bytes v) (spells_value v (all_head IsStorable v vs storable)) (value_is_good asked fields v (all_head (IsField asked fields) v vs there))) in
     subst (λ (s : Document). Writes (times kind (suc (length vs)) front) place (value_bytes v ++ flat_map value_bytes vs) s) (append_assoc front (v ∷ []) vs)
     (Writes-and_then (one kind front) (times kind (length vs)) place (value_bytes v) (flat_map value_bytes vs) (front ++ v ∷ []) ((front ++ v ∷ []) ++ vs) first
-        (writes_values asked fields vs (front ++ v ∷ []) (place + length (value_bytes v)) (all_tail IsStorable v vs storable) (all_tail (IsField asked fields) v vs there)))
+    (writes_values asked fields vs (front ++ v ∷ []) (place + length (value_bytes v)) (all_tail IsStorable v vs storable) (all_tail (IsField asked fields) v vs there)))
 
 -- ---- the documents as the writer holds them
 
@@ -131,7 +131,7 @@ writes_begun lacks values place storable =
 pub writes_documents : (lacks : ℕ) (documents : List Document) (place : ℕ) → AreStorable lacks documents → Writes (begun_documents (length documents) lacks) place (documents_bytes lacks documents) documents
 unfolding begun_documents
 writes_documents lacks [] place storable = Writes-done place []
-writes_documents lacks (d ∷ []) place storable = 
+writes_documents lacks (d ∷ []) place storable =
     subst (λ (t : List ℕ). Writes (begun_documents 1 lacks) place t (d ∷ [])) (append-nil (document_bytes lacks d))
     (Writes-and_then (begun_document lacks) (λ d. done (d ∷ [])) place (document_bytes lacks d) [] d (d ∷ []) (writes_begun lacks d place storable) (Writes-done (place + length (document_bytes lacks d)) (d ∷ [])))
 writes_documents lacks (d ∷ e ∷ ds) place storable =
@@ -139,5 +139,5 @@ writes_documents lacks (d ∷ e ∷ ds) place storable =
     let n = length ds in
     Writes-and_then (begun_document 0) (λ d. and_then (begun_documents (suc n) lacks) (λ ds. done (d ∷ ds))) place (document_bytes 0 d) (documents_bytes lacks (e ∷ ds)) d (d ∷ e ∷ ds) (writes_begun 0 d place storable.0)
     (subst (λ (t : List ℕ). Writes (and_then (begun_documents (suc n) lacks) (λ ds. done (d ∷ ds))) here t (d ∷ e ∷ ds)) (append-nil (documents_bytes lacks (e ∷ ds)))
-        (Writes-and_then (begun_documents (suc n) lacks) (λ ds. done (d ∷ ds)) here (documents_bytes lacks (e ∷ ds)) [] (e ∷ ds) (d ∷ e ∷ ds) (writes_documents lacks (e ∷ ds) here storable.1)
-            (Writes-done (here + length (documents_bytes lacks (e ∷ ds))) (d ∷ e ∷ ds))))
+    (Writes-and_then (begun_documents (suc n) lacks) (λ ds. done (d ∷ ds)) here (documents_bytes lacks (e ∷ ds)) [] (e ∷ ds) (d ∷ e ∷ ds) (writes_documents lacks (e ∷ ds) here storable.1)
+    (Writes-done (here + length (documents_bytes lacks (e ∷ ds))) (d ∷ e ∷ ds))))

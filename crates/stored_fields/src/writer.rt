@@ -8,6 +8,7 @@ ghost use Rattle.stored_fields.specs.Writing.{IsStorable, bits_of, content_bytes
 use crate::layout::FORMAT;
 use crate::value::{BINARY, StoredRef, TOKENIZED, ValueRef};
 use lu_prims::{OutOfMemory, put_i32, put_i64, put_text, put_vint};
+use lu_types::Bytes;
 use std::alloc::Global;
 use std::marker::Model;
 
@@ -15,9 +16,9 @@ use std::marker::Model;
 #[derive(Debug, Drop)]
 pub struct StoredFiles {
     /// The places of the documents.
-    pub fdx: Vec<u8>,
+    pub fdx: Bytes,
     /// The documents.
-    pub fdt: Vec<u8>,
+    pub fdt: Bytes,
 }
 
 /// Writes stored documents, one after another, and of each its values in order. Contracts see the documents so far, and how
@@ -74,12 +75,7 @@ impl StoredWriter {
     }
 
     /// Adds a text to the last document.
-    pub fn put_text(
-        &mut self,
-        field: u32,
-        tokenized: bool,
-        text: &str,
-    ) -> Result<(), OutOfMemory>
+    pub fn put_text(&mut self, field: u32, tokenized: bool, text: &str) -> Result<(), OutOfMemory>
         requires lacking { 0 < self.old.lacks }
         requires field { field < 2 ^ 31 }
         requires short { length text.now < 2 ^ 31 }
@@ -116,12 +112,15 @@ impl StoredWriter {
     /// The two files. Takes no memory.
     pub fn finish(self) -> StoredFiles
         requires { self.lacks ≡ 0 }
-        ensures fdx { result.fdx.items ≡ fdx_bytes self.documents }
-        ensures fdt { result.fdt.items ≡ fdt_bytes 0 self.documents }
+        ensures fdx { result.fdx ≡ fdx_bytes self.documents }
+        ensures fdt { result.fdt ≡ fdt_bytes 0 self.documents }
         ensures storable { AreStorable 0 self.documents }
     {
         let StoredWriter { fdx, fdt, lacks: _ } = self;
-        StoredFiles { fdx, fdt }
+        StoredFiles {
+            fdx: Bytes::new(fdx),
+            fdt: Bytes::new(fdt),
+        }
     }
 
     /// Adds a value to the last document.

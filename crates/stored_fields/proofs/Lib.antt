@@ -12,3 +12,4 @@ pub mod ReadBackLemmas
 pub mod ByteLemmas
 pub mod LawLemmas
 pub mod OnlyLemmas
+pub mod OnlyFiles

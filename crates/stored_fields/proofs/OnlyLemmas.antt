@@ -127,15 +127,15 @@ spells_values asked fields (suc n) front c d all fits e =
 -- ---- one document
 
 -- a document that was read is spelled as the writer does, and stands where it is wanted
-record SpellsDocument (wanted : ℤ) (documents all : List Document) (c d : Cursor) : Type 0 where
-  it : Document
-  all_is : all ≡ documents ++ it ∷ []
-  storable : IsStorableDocument 0 it
-  is : c.rest ≡ document_bytes 0 it ++ d.rest
-  wanted_is : pos c.place ≡ wanted
-  fits : IsBytes d.rest
+pub record SpellsDocument (wanted : ℤ) (documents all : List Document) (c d : Cursor) : Type 0 where
+  pub it : Document
+  pub all_is : all ≡ documents ++ it ∷ []
+  pub storable : IsStorableDocument 0 it
+  pub is : c.rest ≡ document_bytes 0 it ++ d.rest
+  pub wanted_is : pos c.place ≡ wanted
+  pub fits : IsBytes d.rest
 
-spells_document : (asked : Bool) (fields : ℕ) (wanted : ℤ) (documents : List Document) (c : Cursor) (x : List Document × Cursor) → IsBytes c.rest → read_plan (document_at asked fields wanted documents) c ≡ ok_of x
+pub spells_document : (asked : Bool) (fields : ℕ) (wanted : ℤ) (documents : List Document) (c : Cursor) (x : List Document × Cursor) → IsBytes c.rest → read_plan (document_at asked fields wanted documents) c ≡ ok_of x
     → SpellsDocument wanted documents x.0 c x.1
 unfolding read_plan
 spells_document asked fields wanted documents c x fits e =

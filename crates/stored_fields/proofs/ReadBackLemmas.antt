@@ -120,7 +120,7 @@ writes_document asked fields wanted front d place is storable there =
     (n, [], storable.0, sym (append-nil (spelling num n)), (refl, refl)) good body
 
 -- the element behind so many
-at_length : {A : Type 0} (xs : List A) (y : A) (ys : List A) (d : A) (n : ℕ) → length xs ≡ n → get_or (xs ++ y ∷ ys) n d ≡ y
+pub at_length : {A : Type 0} (xs : List A) (y : A) (ys : List A) (d : A) (n : ℕ) → length xs ≡ n → get_or (xs ++ y ∷ ys) n d ≡ y
 at_length {A} xs y ys d n is = ap (λ (k : ℕ). get_or (xs ++ y ∷ ys) k d) (sym is) ∙ go xs
   where
     go : (xs : List A) → get_or (xs ++ y ∷ ys) (length xs) d ≡ y

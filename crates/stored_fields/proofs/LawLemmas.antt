@@ -1,5 +1,5 @@
 -- The two files of written documents are a store of these documents.
-use Rattle.std.proofs.Common.{◌≡◌, ℕ, List, length, refl, subst, ap, ◌∙◌, sym}
+use Rattle.std.proofs.Common.{◌≡◌, ℕ, List, length, refl, subst, ap, ◌∙◌}
 use Rattle.lu_types.specs.declared.stored.Window.{Window}
 use Rattle.lu_grammar.proofs.Files.{Reads-from}
 use Rattle.stored_fields.specs.Values.{Document}

@@ -1,14 +1,14 @@
 -- Only the files that the writer gives are read as stored documents.
-use Rattle.std.proofs.Common.{◌≡◌, ℕ, zero, suc, ◌+◌, ◌-◌, ◌*◌, ◌^◌, ◌<◌, ◌≤◌, Bool, true, false, not, List, [], ◌∷◌, ◌++◌, length, map, get_or, Option, Some, None, Result, Ok, Err, refl, sym, ap, subst, ◌∙◌, arith, append_assoc, ℤ, pos}
+use Rattle.std.proofs.Common.{◌≡◌, ℕ, zero, suc, ◌+◌, Bool, true, false, not, List, [], ◌∷◌, ◌++◌, length, map, get_or, None, refl, sym, ap, subst, ◌∙◌, arith, append_assoc, ℤ, pos}
 use Rattle.std.specs.List.{flat_map, last_or}
 use Rattle.std.specs.Ordering.{int_eq}
 use Rattle.std.proofs.lemmas.Bool.Decides.{Decides-int_eq}
 use Rattle.std.proofs.lemmas.List.{append-nil, length-append, nil_from_length}
 use Rattle.lu_types.specs.declared.stored.Window.{Window}
 use Rattle.lu_grammar.specs.Bytes.{IsBytes, Cursor, start_of}
-use Rattle.lu_grammar.specs.Parts.{int32, int64, num, spelling}
+use Rattle.lu_grammar.specs.Parts.{int32, int64, spelling}
 use Rattle.lu_grammar.specs.Records.{first_broken, Spells}
-use Rattle.lu_grammar.specs.Plans.{Plan, one, times, each, read_plan, read_file}
+use Rattle.lu_grammar.specs.Plans.{one, times, each, read_plan, read_file}
 use Rattle.lu_grammar.specs.Meaning.{bytes_of}
 use Rattle.lu_grammar.proofs.Records.{ok_pair, same_pair}
 use Rattle.lu_grammar.proofs.Plans.{ok_of, reads-read_plan}
@@ -18,12 +18,12 @@ use Rattle.stored_fields.specs.declared.layout.TheConstants.{FORMAT, HEADER_BYTE
 use Rattle.stored_fields.specs.Format.{format_shape, is_other_format}
 use Rattle.stored_fields.specs.Values.{Document}
 use Rattle.stored_fields.specs.Places.{is_past, header_conditions, place_shape, place_conditions, places_kind, fdx_plan}
-use Rattle.stored_fields.specs.Documents.{Record, format, header_shape, format_conditions, is_within, next_document, fdt_plan}
+use Rattle.stored_fields.specs.Documents.{Record, header_shape, format_conditions, is_within, next_document, fdt_plan}
 use Rattle.stored_fields.specs.Stores.{IsStore}
 use Rattle.stored_fields.specs.Writing.{IsStorableDocument, AreStorable, document_bytes, documents_bytes, fdt_bytes, places_from, fdx_bytes}
 use Rattle.stored_fields.proofs.StepLemmas.{record_at-was, due_was, file_was}
 use Rattle.stored_fields.proofs.ReadBackLemmas.{documents_cons, at_length, places_of}
-use Rattle.stored_fields.proofs.OnlyLemmas.{taken, SpellsDocument, spells_document}
+use Rattle.stored_fields.proofs.OnlyLemmas.{taken, spells_document}
 
 -- ---- the header of both files
 
@@ -114,7 +114,7 @@ spells_fdx total window fdx places fits e =
     let body = spells_places total [] head.0.1 file.0 places took.fits head.2 in
     took.rest ∙ ap (λ (t : List ℕ). t ++ head.0.1.rest) (format_spelled head.0.0 took.front took.spells (good head.0.0 (is_other_format head.0.0) (is_past total window) refl judged.1))
     ∙ ap (λ (t : List ℕ). spelling int32 FORMAT ++ t) (body.is ∙ ap (λ (t : List ℕ). flat_map (λ z. spelling int64 z) body.more ++ t) (nil_from_length file.0.rest file.2) ∙ append-nil (flat_map (λ z. spelling int64 z) body.more)
-        ∙ ap (λ (zs : List ℤ). flat_map (λ z. spelling int64 z) zs) (sym body.all_is))
+    ∙ ap (λ (zs : List ℤ). flat_map (λ z. spelling int64 z) zs) (sym body.all_is))
   where
     good : (z : ℤ) (other past : Bool) → is_other_format z ≡ other → first_broken (record { rule = 40; broken = other } ∷ record { rule = 42; broken = past } ∷ []) ≡ None → is_other_format z ≡ false
     good z true past is h = cc

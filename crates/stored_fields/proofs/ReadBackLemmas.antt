@@ -1,5 +1,5 @@
 -- What the writer gives is read as the documents that it was handed.
-use Rattle.std.proofs.Common.{◌≡◌, ℕ, zero, suc, ◌+◌, ◌-◌, ◌*◌, ◌^◌, ◌<◌, ◌≤◌, Bool, true, false, not, ltb, List, [], ◌∷◌, ◌++◌, length, map, get_or, Option, Some, None, Result, Ok, Err, refl, sym, ap, subst, ◌∙◌, arith, append_assoc, ℤ, pos, inl, inr, drop}
+use Rattle.std.proofs.Common.{◌≡◌, ℕ, zero, suc, ◌+◌, ◌-◌, ◌^◌, ◌<◌, ◌≤◌, Bool, true, false, ltb, List, [], ◌∷◌, ◌++◌, length, map, get_or, Option, Some, None, Ok, refl, sym, ap, subst, ◌∙◌, arith, append_assoc, ℤ, pos, inl, inr, drop}
 use Rattle.std.specs.Prelude.{All, ◌&&◌, nat_le, nat_lt, FitsSigned}
 use Rattle.std.specs.List.{flat_map, last_or}
 use Rattle.std.specs.Int.{w32, w64}
@@ -12,15 +12,15 @@ use Rattle.std.proofs.lemmas.List.{append-nil, length-append, get_or-take, get_o
 use Rattle.lu_types.specs.declared.stored.Window.{Window}
 use Rattle.lu_grammar.specs.Parts.{int32, int64, num, groups, spelling}
 use Rattle.lu_grammar.specs.Records.{first_broken}
-use Rattle.lu_grammar.specs.Plans.{done, due, and_then, one, times, each, read_file}
+use Rattle.lu_grammar.specs.Plans.{done, and_then, one, times, each, read_file}
 use Rattle.lu_grammar.proofs.Writers.{Writes, Writes-due, Writes-done, Writes-and_then, Writes-none, read_file-Writes}
 use Rattle.stored_fields.specs.declared.layout.TheConstants.{FORMAT, HEADER_BYTES}
 use Rattle.stored_fields.specs.Format.{format_shape}
-use Rattle.stored_fields.specs.Values.{StoredField, Document}
+use Rattle.stored_fields.specs.Values.{Document}
 use Rattle.stored_fields.specs.Places.{is_past, header_conditions, is_misplaced, place_conditions, places_kind, fdx_plan}
-use Rattle.stored_fields.specs.Documents.{Record, format, count, count_of, header_shape, format_conditions, count_shape, is_elsewhere, start_conditions, values_kind, is_within, document_at, next_document, fdt_plan}
+use Rattle.stored_fields.specs.Documents.{format, count, count_of, header_shape, format_conditions, count_shape, start_conditions, values_kind, is_within, document_at, next_document, fdt_plan}
 use Rattle.stored_fields.specs.Stores.{windowed}
-use Rattle.stored_fields.specs.Writing.{IsStorable, IsStorableDocument, AreStorable, HasFields, value_bytes, document_bytes, documents_bytes, fdt_bytes, places_from, fdx_bytes, IsCheckable}
+use Rattle.stored_fields.specs.Writing.{IsStorableDocument, AreStorable, HasFields, value_bytes, document_bytes, documents_bytes, fdt_bytes, places_from, fdx_bytes, IsCheckable}
 use Rattle.stored_fields.proofs.PlaceLemmas.{last_push}
 use Rattle.stored_fields.proofs.WriteLemmas.{IsField, writes_one, writes_values}
 

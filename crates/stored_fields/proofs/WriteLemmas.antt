@@ -1,19 +1,19 @@
 -- What the one spelling of stored documents is read as.
-use Rattle.std.proofs.Common.{◌≡◌, ℕ, zero, suc, ◌+◌, ◌-◌, ◌*◌, ◌^◌, ◌<◌, ◌≤◌, Bool, true, false, not, cond, List, [], ◌∷◌, ◌++◌, length, drop, get_or, Option, Some, None, Result, Ok, Err, refl, sym, ap, subst, ◌∙◌, arith, append_assoc, ℤ, pos}
-use Rattle.std.specs.Prelude.{◌&&◌, nat_lt, nat_le, All}
+use Rattle.std.proofs.Common.{◌≡◌, ℕ, suc, ◌+◌, ◌-◌, ◌<◌, Bool, true, false, List, [], ◌∷◌, ◌++◌, length, None, refl, sym, ap, subst, arith, append_assoc}
+use Rattle.std.specs.Prelude.{◌&&◌, nat_le, All}
 use Rattle.std.specs.List.{flat_map}
 use Rattle.std.proofs.lemmas.Bool.{lt-leb}
-use Rattle.std.proofs.lemmas.List.{append-nil, length-append}
+use Rattle.std.proofs.lemmas.List.{append-nil}
 use Rattle.lu_types.specs.declared.stored.Stored.{Stored}
 use Rattle.lu_types.specs.declared.stored.Stored.TheVariants.{Text, Binary}
-use Rattle.lu_grammar.specs.Parts.{num, byte, bytes, text, spelling, IsValue}
-use Rattle.lu_grammar.specs.Records.{Shape, whole, part, followed, Condition, first_broken, Spells}
-use Rattle.lu_grammar.specs.Plans.{Plan, done, due, and_then, Kind, one, times, each}
+use Rattle.lu_grammar.specs.Parts.{num, text, spelling}
+use Rattle.lu_grammar.specs.Records.{Shape, whole, followed, first_broken, Spells}
+use Rattle.lu_grammar.specs.Plans.{done, and_then, Kind, one, times, each}
 use Rattle.lu_grammar.proofs.Records.{Spells-followed}
 use Rattle.lu_grammar.proofs.Writers.{Writes, Writes-due, Writes-done, Writes-and_then, Writes-none}
 use Rattle.stored_fields.specs.declared.value.TheConstants.{TOKENIZED, BINARY}
 use Rattle.stored_fields.specs.Values.{StoredField, Document, Entry, has_bit, content, entry_shape, stored}
-use Rattle.stored_fields.specs.Documents.{Record, count, value, count_of, count_shape, value_shape, value_conditions, entry_conditions, has_other_bit, with_value, values_kind}
+use Rattle.stored_fields.specs.Documents.{count, value, count_of, count_shape, value_shape, value_conditions, has_other_bit, with_value, values_kind}
 use Rattle.stored_fields.specs.Writing.{IsStorableValue, IsStorable, bits_of, content_bytes, value_bytes, document_bytes, documents_bytes, AreStorable, IsStorableDocument, begun_document, begun_documents}
 
 -- ---- one value

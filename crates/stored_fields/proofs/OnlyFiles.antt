@@ -1,9 +1,11 @@
 -- Only the files that the writer gives are read as stored documents.
-use Rattle.std.proofs.Common.{◌≡◌, ℕ, zero, suc, ◌+◌, Bool, true, false, not, List, [], ◌∷◌, ◌++◌, length, map, get_or, None, refl, sym, ap, subst, ◌∙◌, arith, append_assoc, ℤ, pos}
+use Rattle.std.proofs.Common.{◌≡◌, ℕ, zero, suc, take, drop, ◌<◌, ◌≤◌, ◌+◌, Bool, true, false, not, List, [], ◌∷◌, ◌++◌, length, map, get_or, None, refl, sym, ap, subst, ◌∙◌, arith, append_assoc, ℤ, pos}
 use Rattle.std.specs.List.{flat_map, last_or}
 use Rattle.std.specs.Ordering.{int_eq}
 use Rattle.std.proofs.lemmas.Bool.Decides.{Decides-int_eq}
-use Rattle.std.proofs.lemmas.List.{append-nil, length-append, nil_from_length}
+use Rattle.std.proofs.lemmas.Bool.{le-leb, lt-ltb}
+use Rattle.std.specs.Prelude.{nat_le, nat_lt}
+use Rattle.std.proofs.lemmas.List.{append-nil, length-append, length-take, get_or-take, get_or-drop, nil_from_length}
 use Rattle.lu_types.specs.declared.stored.Window.{Window}
 use Rattle.lu_grammar.specs.Bytes.{IsBytes, Cursor, start_of}
 use Rattle.lu_grammar.specs.Parts.{int32, int64, spelling}
@@ -19,9 +21,11 @@ use Rattle.stored_fields.specs.Format.{format_shape, is_other_format}
 use Rattle.stored_fields.specs.Values.{Document}
 use Rattle.stored_fields.specs.Places.{is_past, header_conditions, place_shape, place_conditions, places_kind, fdx_plan}
 use Rattle.stored_fields.specs.Documents.{Record, header_shape, format_conditions, is_within, next_document, fdt_plan}
-use Rattle.stored_fields.specs.Stores.{IsStore}
-use Rattle.stored_fields.specs.Writing.{IsStorableDocument, AreStorable, document_bytes, documents_bytes, fdt_bytes, places_from, fdx_bytes}
+use Rattle.stored_fields.specs.Stores.{IsStore, windowed}
+use Rattle.stored_fields.specs.Writing.{IsStorableDocument, AreStorable, HasFields, document_bytes, documents_bytes, fdt_bytes, places_from, fdx_bytes}
 use Rattle.stored_fields.proofs.StepLemmas.{record_at-was, due_was, file_was}
+use Rattle.std.specs.Prelude.{All}
+use Rattle.stored_fields.proofs.WriteLemmas.{IsField}
 use Rattle.stored_fields.proofs.ReadBackLemmas.{documents_cons, at_length, places_of}
 use Rattle.stored_fields.proofs.OnlyLemmas.{taken, spells_document}
 
@@ -66,8 +70,9 @@ spells_places (suc n) front c d all fits e =
 
 -- ---- the documents
 
-record SpellsDocuments (rest : List ℤ) (front all : List Document) (c d : Cursor) : Type 0 where
+record SpellsDocuments (window : Window) (fields : ℕ) (rest : List ℤ) (front all : List Document) (c d : Cursor) : Type 0 where
   more : List Document
+  named : (i : ℕ) (o : Document) → i < length more → is_within window (length front + i) ≡ true → HasFields fields (get_or more i o)
   all_is : all ≡ front ++ more
   storable : AreStorable 0 more
   is : c.rest ≡ documents_bytes 0 more ++ d.rest
@@ -78,10 +83,10 @@ storable_with d [] h t = h
 storable_with d (e ∷ ds) h t = (h, t)
 
 spells_documents : (window : Window) (fields : ℕ) (places passed rest : List ℤ) (front : List Document) (c d : Cursor) (all : List Document) → places ≡ passed ++ rest → length passed ≡ length front → IsBytes c.rest
-    → read_plan (each (next_document window fields places) (length rest) front) c ≡ ok_pair all d → SpellsDocuments rest front all c d
+    → read_plan (each (next_document window fields places) (length rest) front) c ≡ ok_pair all d → SpellsDocuments window fields rest front all c d
 unfolding each read_plan
 spells_documents window fields places passed [] front c d all split long fits e =
-    let p = same_pair front all c d e in record { more = []; all_is = sym p.0 ∙ sym (append-nil front); storable = refl; is = ap (λ (x : Cursor). x.rest) p.1; placed = refl }
+    let p = same_pair front all c d e in record { more = []; named = λ i o lt. absurd (omega arith); all_is = sym p.0 ∙ sym (append-nil front); storable = refl; is = ap (λ (x : Cursor). x.rest) p.1; placed = refl }
 spells_documents window fields places passed (z ∷ zs) front c d all split long fits e =
     let plan = next_document window fields places in
     let wanted : ℤ = get_or places (length front) (pos 0) in
@@ -95,12 +100,19 @@ spells_documents window fields places passed (z ∷ zs) front c d all split long
     let rest = spells_documents window fields places (passed ++ z ∷ []) zs first.0.0 first.0.1 d all (split ∙ sym (append_assoc passed (z ∷ []) zs)) longer one.fits first.2 in
     record {
       more = one.it ∷ rest.more;
+      named = named_each (length front) (length first.0.0) (omega (arith, ap length one.all_is, length-append front (one.it ∷ []))) one.it rest.more one.named rest.named;
       all_is = rest.all_is ∙ ap (λ (ds : List Document). ds ++ rest.more) one.all_is ∙ append_assoc front (one.it ∷ []) rest.more;
       storable = storable_with one.it rest.more one.storable rest.storable;
       is = one.is ∙ ap (λ (t : List ℕ). document_bytes 0 one.it ++ t) rest.is ∙ sym (append_assoc (document_bytes 0 one.it) (documents_bytes 0 rest.more) d.rest)
           ∙ ap (λ (t : List ℕ). t ++ d.rest) (sym (documents_cons one.it rest.more));
       placed = ap (λ (w : ℤ). w ∷ zs) (sym (one.wanted_is ∙ wanted_is)) ∙ ap (λ (ys : List ℤ). pos c.place ∷ ys) (rest.placed ∙ ap (λ (n : ℕ). map pos (places_from n rest.more)) behind);
     }
+
+  where
+    named_each : (k m : ℕ) → m ≡ k + 1 → (it : Document) (more : List Document) → All (IsField (is_within window k) fields) it → ((i : ℕ) (o : Document) → i < length more → is_within window (m + i) ≡ true → HasFields fields (get_or more i o))
+        → (i : ℕ) (o : Document) → i < suc (length more) → is_within window (k + i) ≡ true → HasFields fields (get_or (it ∷ more) i o)
+    named_each k m next it more here later zero o lt holds = λ j v within. here j v within (ap (is_within window) (let e : k ≡ k + 0 = omega arith in e) ∙ holds)
+    named_each k m next it more here later (suc i) o lt holds = later i o (omega arith) (ap (is_within window) (let e : m + i ≡ k + suc i = omega arith in e) ∙ holds)
 
 -- ---- the files
 
@@ -121,12 +133,13 @@ spells_fdx total window fdx places fits e =
     good z false past is h = is
 
 -- `.fdt` that was read is the writer's, and its documents stand at the places
-record SpellsFdt (places : List ℤ) (fdt : List ℕ) (documents : List Document) : Type 0 where
+pub record SpellsFdt (window : Window) (fields : ℕ) (places : List ℤ) (fdt : List ℕ) (documents : List Document) : Type 0 where
   storable : AreStorable 0 documents
+  pub named : (i : ℕ) (o : Document) → i < length documents → is_within window i ≡ true → HasFields fields (get_or documents i o)
   is : fdt ≡ fdt_bytes 0 documents
   placed : places ≡ places_of documents
 
-spells_fdt : (window : Window) (fields : ℕ) (places : List ℤ) (fdt : List ℕ) (documents : List Document) → IsBytes fdt → read_file (fdt_plan window fields places) fdt ≡ ok_of documents → SpellsFdt places fdt documents
+pub spells_fdt : (window : Window) (fields : ℕ) (places : List ℤ) (fdt : List ℕ) (documents : List Document) → IsBytes fdt → read_file (fdt_plan window fields places) fdt ≡ ok_of documents → SpellsFdt window fields places fdt documents
 spells_fdt window fields places fdt documents fits e =
     let file = file_was (fdt_plan window fields places) fdt documents e in
     let head = due_was header_shape (λ _ r. format_conditions r) (λ _ _. each (next_document window fields places) (length places) []) (start_of fdt) (documents, file.0) file.1 in
@@ -138,6 +151,9 @@ spells_fdt window fields places fdt documents fits e =
     let place : head.0.1.place ≡ HEADER_BYTES = omega (arith, took.place, ap length front_is, four) in
     record {
       storable = subst (AreStorable 0) (sym body.all_is) body.storable;
+      named = λ i o lt holds.
+          subst (λ (ds : List Document). HasFields fields (get_or ds i o)) (sym body.all_is)
+          (body.named i o (omega (arith, lt, ap length body.all_is)) (ap (is_within window) (let e : 0 + i ≡ i = omega arith in e) ∙ holds));
       is = took.rest ∙ ap (λ (t : List ℕ). t ++ head.0.1.rest) front_is
           ∙ ap (λ (t : List ℕ). spelling int32 FORMAT ++ t) (body.is ∙ ap (λ (t : List ℕ). documents_bytes 0 body.more ++ t) (nil_from_length file.0.rest file.2) ∙ append-nil (documents_bytes 0 body.more) ∙ ap (documents_bytes 0) (sym body.all_is));
       placed = body.placed ∙ ap (λ (n : ℕ). map pos (places_from n body.more)) place ∙ ap places_of (sym body.all_is);
@@ -161,3 +177,15 @@ only_written fdx fdt fields total window documents fdx_fits fdt_fits store =
     flat_pos : (ps : List ℕ) → flat_map (λ z. spelling int64 z) (map pos ps) ≡ flat_map (λ p. spelling int64 (pos p)) ps
     flat_pos [] = refl
     flat_pos (p ∷ ps) = ap (λ (t : List ℕ). spelling int64 (pos p) ++ t) (flat_pos ps)
+
+-- the documents in a window of a store have the fields that were asked of them
+pub windowed_named : (window : Window) (fields : ℕ) (places : List ℤ) (fdt : List ℕ) (documents : List Document) → IsBytes fdt → read_file (fdt_plan window fields places) fdt ≡ ok_of documents
+    → window.offset + window.count ≤ length documents → All (HasFields fields) (windowed window documents)
+windowed_named window fields places fdt documents fits e within k o lt =
+    let spelled = spells_fdt window fields places fdt documents fits e in
+    let few : k < window.count = omega (arith, lt, length-take window.count (drop window.offset documents)) in
+    let low : nat_le window.offset (window.offset + k) ≡ true = le-leb window.offset (window.offset + k) (omega arith) in
+    let high : nat_lt (window.offset + k) (window.offset + window.count) ≡ true = lt-ltb (window.offset + k) (window.offset + window.count) (omega arith) in
+    let inside : is_within window (window.offset + k) ≡ true = rw (low, high) refl in
+    let same : get_or (windowed window documents) k o ≡ get_or documents (window.offset + k) o = get_or-take window.count (drop window.offset documents) k o few ∙ get_or-drop window.offset documents k o in
+    subst (HasFields fields) (sym same) (spelled.named (window.offset + k) o (omega arith) inside)

@@ -2,7 +2,7 @@
 use Rattle.std.proofs.Common.{◌≡◌, ℕ, zero, suc, ◌+◌, ◌^◌, ◌<◌, Bool, true, false, List, [], ◌∷◌, ◌++◌, length, None, Result, refl, sym, ap, subst, ◌∙◌, arith, append_assoc, ℤ, pos}
 use Rattle.std.specs.Prelude.{All, ◌&&◌, nat_le}
 use Rattle.std.specs.List.{flat_map}
-use borrow.Author.Tests.{ltb-false}
+use borrow.Author.Tests.{ltb-false, leb-false}
 use Rattle.std.proofs.lemmas.List.{append-nil}
 use Rattle.lu_types.specs.declared.stored.Stored.{Stored}
 use Rattle.lu_types.specs.declared.stored.Stored.TheVariants.{Text, Binary}
@@ -19,6 +19,7 @@ use Rattle.stored_fields.specs.Values.{StoredField, Document, Entry, has_bit, co
 use Rattle.stored_fields.specs.Documents.{Record, value, value_shape, has_other_bit, entry_conditions, value_conditions, with_value, values_kind, count_of, count_shape, start_conditions, document_at}
 use Rattle.stored_fields.specs.Writing.{IsStorable, IsStorableDocument, bits_of, value_bytes, document_bytes}
 use Rattle.stored_fields.proofs.StepLemmas.{record_at-was, due_was}
+use Rattle.stored_fields.proofs.WriteLemmas.{IsField}
 use Rattle.stored_fields.proofs.StandsLemmas.{not_elsewhere}
 
 -- what was taken between two places
@@ -43,8 +44,9 @@ binary_bits (suc (suc (suc zero))) bs few binary = refl
 binary_bits (suc (suc (suc (suc n)))) bs few binary = absurd (omega (arith, ltb-false 3 (suc (suc (suc (suc n)))) few))
 
 -- a record spells a value as the writer does
-record SpellsValue (r : Record) (front : List ℕ) : Type 0 where
+record SpellsValue (asked : Bool) (fields : ℕ) (r : Record) (front : List ℕ) : Type 0 where
   it : StoredField
+  named : IsField asked fields it
   storable : IsStorable it
   is : front ≡ value_bytes it
   adds : (values : Document) → with_value values r ≡ values ++ it ∷ []
@@ -60,27 +62,38 @@ no_other asked fields field bits good = go (asked && nat_le fields field) (has_o
     go false true is h = cc
     go false false is h = is
 
-spells_value : (asked : Bool) (fields : ℕ) (r : Record) (front : List ℕ) → Spells value_shape r front → first_broken (value_conditions asked fields r) ≡ None → SpellsValue r front
+spells_value : (asked : Bool) (fields : ℕ) (r : Record) (front : List ℕ) → Spells value_shape r front → first_broken (value_conditions asked fields r) ≡ None → SpellsValue asked fields r front
 spells_value asked fields r front (field, back, is_field, front_is, (bits, rest, is_bits, back_is, tail)) good = go (has_bit BINARY bits) refl tail
   where
     whole_is : (content_bytes : List ℕ) (b : ℕ) → rest ≡ content_bytes → b ≡ bits → front ≡ spelling num field ++ (b ∷ content_bytes)
     whole_is bytes b e same = front_is ∙ ap (λ (t : List ℕ). spelling num field ++ t) (back_is ∙ ap (λ (t : List ℕ). bits ∷ t) e ∙ ap (λ (n : ℕ). n ∷ bytes) (sym same))
 
-    go : (b : Bool) → has_bit BINARY bits ≡ b → Spells (followed (followed (content b) (λ v. whole (entry_with field bits v))) (λ entry. whole (value entry))) r rest → SpellsValue r front
+    known : first_broken (entry_conditions asked fields field bits) ≡ None → asked ≡ true → field < fields
+    known judged yes_asked = at_field (nat_le fields field) (has_other_bit bits) refl (ap (λ (a : Bool). first_broken (record { rule = 45; broken = a && nat_le fields field } ∷ record { rule = 46; broken = has_other_bit bits } ∷ [])) (sym yes_asked) ∙ judged)
+      where
+        at_field : (a b : Bool) → nat_le fields field ≡ a → first_broken (record { rule = 45; broken = true && a } ∷ record { rule = 46; broken = b } ∷ []) ≡ None → field < fields
+        at_field true b is h = cc
+        at_field false b is h = leb-false fields field is
+
+    go : (b : Bool) → has_bit BINARY bits ≡ b → Spells (followed (followed (content b) (λ v. whole (entry_with field bits v))) (λ entry. whole (value entry))) r rest → SpellsValue asked fields r front
     go true binary (n, more, is_n, rest_is, (bs, none, is_bs, more_is, (r_is, none_is))) =
-        let few = no_other asked fields field bits (ap (λ (x : Record). first_broken (value_conditions asked fields x)) r_is ∙ good) in
+        let judged = ap (λ (x : Record). first_broken (value_conditions asked fields x)) r_is ∙ good in
+        let few = no_other asked fields field bits judged in
         let content_is : rest ≡ spelling num (length bs) ++ bs = rest_is ∙ ap (λ (k : ℕ). spelling num k ++ more) (sym is_bs.0) ∙ ap (λ (t : List ℕ). spelling num (length bs) ++ t) (more_is ∙ ap (λ (t : List ℕ). bs ++ t) none_is ∙ append-nil bs) in
         record {
           it = stored (entry_with field bits (Binary bs));
+          named = known judged;
           storable = (is_field, (subst (λ (k : ℕ). k < 2 ^ 31) (sym is_bs.0) is_n, (refl, is_bs.1)));
           is = whole_is (spelling num (length bs) ++ bs) (bits_of (has_bit TOKENIZED bits) (Binary bs)) content_is (binary_bits bits bs few binary);
           adds = λ values. ap (λ (x : Record). with_value values x) (sym r_is);
         }
     go false text (t, none, is_t, rest_is, (r_is, none_is)) =
-        let few = no_other asked fields field bits (ap (λ (x : Record). first_broken (value_conditions asked fields x)) r_is ∙ good) in
+        let judged = ap (λ (x : Record). first_broken (value_conditions asked fields x)) r_is ∙ good in
+        let few = no_other asked fields field bits judged in
         let content_is : rest ≡ spelling num (length t) ++ t = rest_is ∙ ap (λ (x : List ℕ). (spelling num (length t) ++ t) ++ x) none_is ∙ append-nil (spelling num (length t) ++ t) in
         record {
           it = stored (entry_with field bits (Text t));
+          named = known judged;
           storable = (is_field, is_t);
           is = whole_is (spelling num (length t) ++ t) (bits_of (has_bit TOKENIZED bits) (Text t)) content_is (text_bits bits t few text);
           adds = λ values. ap (λ (x : Record). with_value values x) (sym r_is);
@@ -89,8 +102,9 @@ spells_value asked fields r front (field, back, is_field, front_is, (bits, rest,
 -- ---- so many values
 
 -- the values that were read, after those in front, are spelled as the writer does
-pub record SpellsValues (number : ℕ) (front all : Document) (c d : Cursor) : Type 0 where
+pub record SpellsValues (asked : Bool) (fields number : ℕ) (front all : Document) (c d : Cursor) : Type 0 where
   pub more : Document
+  pub named : All (IsField asked fields) more
   pub all_is : all ≡ front ++ more
   pub many : length more ≡ number
   pub storable : All IsStorable more
@@ -101,11 +115,11 @@ all_cons : {A : Type 0} (P : A → Type 0) (x : A) (xs : List A) → P x → All
 all_cons P x xs h t zero d lt = h
 all_cons P x xs h t (suc k) d lt = t k d (omega arith)
 
-pub spells_values : (asked : Bool) (fields number : ℕ) (front : Document) (c d : Cursor) (all : Document) → IsBytes c.rest → read_plan (times (values_kind asked fields) number front) c ≡ ok_pair all d → SpellsValues number front all c d
+pub spells_values : (asked : Bool) (fields number : ℕ) (front : Document) (c d : Cursor) (all : Document) → IsBytes c.rest → read_plan (times (values_kind asked fields) number front) c ≡ ok_pair all d → SpellsValues asked fields number front all c d
 unfolding each read_plan
 spells_values asked fields zero front c d all fits e =
     let p = same_pair front all c d e in
-    record { more = []; all_is = sym p.0 ∙ sym (append-nil front); many = refl; storable = λ k v lt. absurd (omega arith); is = ap (λ (x : Cursor). x.rest) p.1; fits = subst (λ (x : Cursor). IsBytes x.rest) p.1 fits }
+    record { more = []; all_is = sym p.0 ∙ sym (append-nil front); many = refl; storable = λ k v lt. absurd (omega arith); named = λ k v lt. absurd (omega arith); is = ap (λ (x : Cursor). x.rest) p.1; fits = subst (λ (x : Cursor). IsBytes x.rest) p.1 fits }
 spells_values asked fields (suc n) front c d all fits e =
     let kind = values_kind asked fields in
     let first = then_ok (read_plan (one kind front) c) (λ x. read_plan (times kind n x.0) x.1) (all, d) (sym (read_plan-and_then (one kind front) (times kind n) c) ∙ e) in
@@ -120,6 +134,7 @@ spells_values asked fields (suc n) front c d all fits e =
       all_is = rest.all_is ∙ ap (λ (vs : Document). vs ++ rest.more) state ∙ append_assoc front (one.it ∷ []) rest.more;
       many = ap suc rest.many;
       storable = all_cons IsStorable one.it rest.more one.storable rest.storable;
+      named = all_cons (IsField asked fields) one.it rest.more one.named rest.named;
       is = took.rest ∙ ap (λ (t : List ℕ). t ++ first.0.1.rest) one.is ∙ ap (λ (t : List ℕ). value_bytes one.it ++ t) rest.is ∙ sym (append_assoc (value_bytes one.it) (flat_map value_bytes rest.more) d.rest);
       fits = rest.fits;
     }
@@ -127,8 +142,9 @@ spells_values asked fields (suc n) front c d all fits e =
 -- ---- one document
 
 -- a document that was read is spelled as the writer does, and stands where it is wanted
-pub record SpellsDocument (wanted : ℤ) (documents all : List Document) (c d : Cursor) : Type 0 where
+pub record SpellsDocument (asked : Bool) (fields : ℕ) (wanted : ℤ) (documents all : List Document) (c d : Cursor) : Type 0 where
   pub it : Document
+  pub named : All (IsField asked fields) it
   pub all_is : all ≡ documents ++ it ∷ []
   pub storable : IsStorableDocument 0 it
   pub is : c.rest ≡ document_bytes 0 it ++ d.rest
@@ -136,7 +152,7 @@ pub record SpellsDocument (wanted : ℤ) (documents all : List Document) (c d : 
   pub fits : IsBytes d.rest
 
 pub spells_document : (asked : Bool) (fields : ℕ) (wanted : ℤ) (documents : List Document) (c : Cursor) (x : List Document × Cursor) → IsBytes c.rest → read_plan (document_at asked fields wanted documents) c ≡ ok_of x
-    → SpellsDocument wanted documents x.0 c x.1
+    → SpellsDocument asked fields wanted documents x.0 c x.1
 unfolding read_plan
 spells_document asked fields wanted documents c x fits e =
     let kind = values_kind asked fields in
@@ -150,6 +166,7 @@ spells_document asked fields wanted documents c x fits e =
     let many : count_of head.0.0 ≡ length values.more + 0 = omega (arith, values.many) in
     record {
       it = values.more;
+      named = values.named;
       all_is = sym same.0 ∙ ap (λ (vs : Document). documents ++ vs ∷ []) values.all_is;
       storable = (subst (λ (n : ℕ). n < 2 ^ 31) many counted.0, values.storable);
       is = took.rest ∙ ap (λ (t : List ℕ). t ++ head.0.1.rest) counted.1 ∙ ap (λ (n : ℕ). spelling num n ++ head.0.1.rest) many ∙ ap (λ (t : List ℕ). spelling num (length values.more + 0) ++ t) values.is

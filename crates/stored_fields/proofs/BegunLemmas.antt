@@ -154,3 +154,11 @@ stored_held fdx fdt fdt_new lacks v writing some new values =
     (values ∙ ap (λ (t : List ℕ). t ++ value_bytes v) (writing.values ∙ ap (λ (n : ℕ). fdt_bytes n ds) back) ∙ append_assoc (spelling int32 FORMAT) (documents_bytes (suc (lacks - 1)) ds) (value_bytes v)
     ∙ ap (λ (t : List ℕ). spelling int32 FORMAT ++ t) (sym (bytes_stored (lacks - 1) v ds storable)))
     (storable_stored (lacks - 1) v ds storable new)
+
+-- ---- for callers
+
+-- one more value of the last document, where that one is known
+pub in_last-append : (v : StoredField) (documents : List Document) (d : Document) → in_last v (documents ++ d ∷ []) ≡ documents ++ (d ++ v ∷ []) ∷ []
+in_last-append v [] d = refl
+in_last-append v (e ∷ []) d = refl
+in_last-append v (e ∷ f ∷ ds) d = ap (λ (t : List Document). e ∷ t) (in_last-append v (f ∷ ds) d)

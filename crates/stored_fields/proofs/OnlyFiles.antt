@@ -1,5 +1,5 @@
 -- Only the files that the writer gives are read as stored documents.
-use Rattle.std.proofs.Common.{◌≡◌, ℕ, zero, suc, take, drop, ◌<◌, ◌≤◌, ◌+◌, Bool, true, false, not, List, [], ◌∷◌, ◌++◌, length, map, get_or, None, refl, sym, ap, subst, ◌∙◌, arith, append_assoc, ℤ, pos}
+use Rattle.std.proofs.Common.{◌≡◌, ℕ, zero, suc, drop, ◌<◌, ◌≤◌, ◌+◌, Bool, true, false, not, List, [], ◌∷◌, ◌++◌, length, map, get_or, None, refl, sym, ap, subst, ◌∙◌, arith, append_assoc, ℤ, pos}
 use Rattle.std.specs.List.{flat_map, last_or}
 use Rattle.std.specs.Ordering.{int_eq}
 use Rattle.std.proofs.lemmas.Bool.Decides.{Decides-int_eq}
@@ -18,11 +18,11 @@ use Rattle.lu_grammar.proofs.Files.{read_file-Reads}
 use Rattle.lu_grammar.proofs.Loops.{read_plan-and_then, then_ok, one-was}
 use Rattle.stored_fields.specs.declared.layout.TheConstants.{FORMAT, HEADER_BYTES}
 use Rattle.stored_fields.specs.Format.{format_shape, is_other_format}
-use Rattle.stored_fields.specs.Values.{Document}
+use Rattle.stored_fields.specs.Values.{Document, HasFields}
 use Rattle.stored_fields.specs.Places.{is_past, header_conditions, place_shape, place_conditions, places_kind, fdx_plan}
 use Rattle.stored_fields.specs.Documents.{Record, header_shape, format_conditions, is_within, next_document, fdt_plan}
 use Rattle.stored_fields.specs.Stores.{IsStore, windowed}
-use Rattle.stored_fields.specs.Writing.{IsStorableDocument, AreStorable, HasFields, document_bytes, documents_bytes, fdt_bytes, places_from, fdx_bytes}
+use Rattle.stored_fields.specs.Writing.{IsStorableDocument, AreStorable, document_bytes, documents_bytes, fdt_bytes, places_from, fdx_bytes}
 use Rattle.stored_fields.proofs.StepLemmas.{record_at-was, due_was, file_was}
 use Rattle.std.specs.Prelude.{All}
 use Rattle.stored_fields.proofs.WriteLemmas.{IsField}
@@ -107,7 +107,6 @@ spells_documents window fields places passed (z ∷ zs) front c d all split long
           ∙ ap (λ (t : List ℕ). t ++ d.rest) (sym (documents_cons one.it rest.more));
       placed = ap (λ (w : ℤ). w ∷ zs) (sym (one.wanted_is ∙ wanted_is)) ∙ ap (λ (ys : List ℤ). pos c.place ∷ ys) (rest.placed ∙ ap (λ (n : ℕ). map pos (places_from n rest.more)) behind);
     }
-
   where
     named_each : (k m : ℕ) → m ≡ k + 1 → (it : Document) (more : List Document) → All (IsField (is_within window k) fields) it → ((i : ℕ) (o : Document) → i < length more → is_within window (m + i) ≡ true → HasFields fields (get_or more i o))
         → (i : ℕ) (o : Document) → i < suc (length more) → is_within window (k + i) ≡ true → HasFields fields (get_or (it ∷ more) i o)

@@ -16,11 +16,11 @@ use Rattle.lu_grammar.specs.Plans.{done, and_then, one, times, each, read_file}
 use Rattle.lu_grammar.proofs.Writers.{Writes, Writes-due, Writes-done, Writes-and_then, Writes-none, read_file-Writes}
 use Rattle.stored_fields.specs.declared.layout.TheConstants.{FORMAT, HEADER_BYTES}
 use Rattle.stored_fields.specs.Format.{format_shape}
-use Rattle.stored_fields.specs.Values.{Document}
+use Rattle.stored_fields.specs.Values.{Document, HasFields}
 use Rattle.stored_fields.specs.Places.{is_past, header_conditions, is_misplaced, place_conditions, places_kind, fdx_plan}
 use Rattle.stored_fields.specs.Documents.{format, count, count_of, header_shape, format_conditions, count_shape, start_conditions, values_kind, is_within, document_at, next_document, fdt_plan}
 use Rattle.stored_fields.specs.Stores.{windowed}
-use Rattle.stored_fields.specs.Writing.{IsStorableDocument, AreStorable, HasFields, value_bytes, document_bytes, documents_bytes, fdt_bytes, places_from, fdx_bytes, IsCheckable}
+use Rattle.stored_fields.specs.Writing.{IsStorableDocument, AreStorable, value_bytes, document_bytes, documents_bytes, fdt_bytes, places_from, fdx_bytes, IsCheckable}
 use Rattle.stored_fields.proofs.PlaceLemmas.{last_push}
 use Rattle.stored_fields.proofs.WriteLemmas.{IsField, writes_one, writes_values}
 

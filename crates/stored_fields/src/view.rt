@@ -99,7 +99,7 @@ impl<'a> StoredView<'a> {
         self.window.count
     }
 
-    /// The values of a document, by its number in the segment, from 0.
+    /// The values of a document, by its number in the segment, from 0. It goes there without walking the documents before.
     pub fn doc(&self, number: u32) -> StoredDoc<'a>
         requires { number < length self.now }
         ensures { result ≡ get_or self.now number [] }

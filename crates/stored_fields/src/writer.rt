@@ -21,12 +21,15 @@ pub struct StoredFiles {
     pub fdt: Bytes,
 }
 
-/// Writes stored documents, one after another, and of each its values in order. Contracts see the documents so far, and how
+/// Writes stored documents (format page, "Stored documents"), one after another, and of each its values in order. Contracts see the documents so far, and how
 /// many values the last of them lacks. A call that finds no memory leaves the writer as it was.
 #[derive(Drop)]
 pub struct StoredWriter {
+    /// `.fdx` so far.
     fdx: Vec<u8>,
+    /// `.fdt` so far.
     fdt: Vec<u8>,
+    /// How many values the last document lacks.
     lacks: u32,
 }
 
@@ -52,7 +55,8 @@ impl StoredWriter {
         Ok(StoredWriter { fdx, fdt, lacks: 0 })
     }
 
-    /// Starts a document of so many values.
+    /// Starts a document of so many values, below 2^31. The document before it has all of its values.
+    /// An `Err` leaves the writer as it was.
     pub fn begin(&mut self, count: u32) -> Result<(), OutOfMemory>
         requires complete { self.old.lacks ≡ 0 }
         requires few { count < 2 ^ 31 }
@@ -74,7 +78,7 @@ impl StoredWriter {
         }
     }
 
-    /// Adds a text to the last document.
+    /// Adds a text of fewer than 2^31 bytes to the last document, which lacks a value. An `Err` leaves the writer as it was.
     pub fn put_text(&mut self, field: u32, tokenized: bool, text: &str) -> Result<(), OutOfMemory>
         requires lacking { 0 < self.old.lacks }
         requires field { field < 2 ^ 31 }
@@ -89,7 +93,7 @@ impl StoredWriter {
         })
     }
 
-    /// Adds bytes to the last document.
+    /// Adds fewer than 2^31 bytes to the last document, which lacks a value. An `Err` leaves the writer as it was.
     pub fn put_binary(
         &mut self,
         field: u32,
@@ -109,7 +113,7 @@ impl StoredWriter {
         })
     }
 
-    /// The two files. Takes no memory.
+    /// The two files, whose last document has all of its values. Takes no memory.
     pub fn finish(self) -> StoredFiles
         requires { self.lacks ≡ 0 }
         ensures fdx { result.fdx ≡ fdx_bytes self.documents }

@@ -1,8 +1,6 @@
 -- One more document, and one more value of the last.
-use Rattle.std.proofs.Common.{◌≡◌, ℕ, zero, suc, ◌+◌, ◌-◌, ◌*◌, ◌^◌, ◌<◌, ◌≤◌, List, [], ◌∷◌, ◌++◌, length, drop, Result, Ok, Err, refl, sym, ap, subst, ◌∙◌, arith, append_assoc, pos}
-use Rattle.std.specs.Prelude.{All}
+use Rattle.std.proofs.Common.{◌≡◌, ℕ, suc, ◌+◌, ◌-◌, ◌*◌, ◌^◌, ◌<◌, List, [], ◌∷◌, ◌++◌, length, drop, Result, refl, sym, ap, subst, ◌∙◌, arith, append_assoc, pos}
 use Rattle.std.specs.List.{flat_map}
-use Rattle.std.specs.Int.{w64, to_be_bytes}
 use Rattle.std.proofs.lemmas.List.{append-nil, length-append}
 use Rattle.std.proofs.lemmas.List.Elements.{All-push}
 use Rattle.lu_grammar.specs.Bytes.{Cursor}
@@ -32,7 +30,7 @@ places_begun place [] = ap (λ (n : ℕ). n ∷ []) (let e : place ≡ place + 0
 places_begun place (d ∷ []) = refl
 places_begun place (d ∷ e ∷ ds) =
     ap (λ (t : List ℕ). place ∷ t) (places_begun (place + length (document_bytes 0 d)) (e ∷ ds)
-        ∙ ap (λ (n : ℕ). places_from (place + length (document_bytes 0 d)) (e ∷ ds) ++ n ∷ []) (omega (arith, length-append (document_bytes 0 d) (documents_bytes 0 (e ∷ ds)))))
+    ∙ ap (λ (n : ℕ). places_from (place + length (document_bytes 0 d)) (e ∷ ds) ++ n ∷ []) (omega (arith, length-append (document_bytes 0 d) (documents_bytes 0 (e ∷ ds)))))
 
 -- ---- one more value of the last document
 
@@ -99,7 +97,7 @@ written_is fdx fdt lacks documents places values storable =
     let rest : drop HEADER_BYTES fdt ≡ documents_bytes lacks documents ++ [] = ap (drop HEADER_BYTES) values ∙ sym (append-nil (documents_bytes lacks documents)) in
     ap (λ (r : Result (List Document × Cursor) Broken). read_or_none r)
     (ap (λ (n : ℕ). read_plan (begun_documents n lacks) (at HEADER_BYTES (drop HEADER_BYTES fdt))) total ∙ ap (λ (t : List ℕ). read_plan (begun_documents (length documents) lacks) (at HEADER_BYTES t)) rest
-        ∙ (writes_documents lacks documents HEADER_BYTES storable).reads [])
+    ∙ (writes_documents lacks documents HEADER_BYTES storable).reads [])
 
 pub is_writing : (fdx fdt : List ℕ) (lacks : ℕ) (documents : List Document) → fdx ≡ fdx_bytes documents → fdt ≡ fdt_bytes lacks documents → AreStorable lacks documents → IsWriting fdx fdt lacks
 is_writing fdx fdt lacks documents places values storable =
@@ -154,5 +152,13 @@ stored_held fdx fdt fdt_new lacks v writing some new values =
     let place : List ℕ → List ℕ = λ ps. flat_map (λ p. spelling int64 (pos p)) ps in
     holds fdx fdt_new (lacks - 1) (in_last v ds) (writing.places ∙ ap (λ (ps : List ℕ). spelling int32 FORMAT ++ place ps) (sym (places_stored HEADER_BYTES v ds)))
     (values ∙ ap (λ (t : List ℕ). t ++ value_bytes v) (writing.values ∙ ap (λ (n : ℕ). fdt_bytes n ds) back) ∙ append_assoc (spelling int32 FORMAT) (documents_bytes (suc (lacks - 1)) ds) (value_bytes v)
-        ∙ ap (λ (t : List ℕ). spelling int32 FORMAT ++ t) (sym (bytes_stored (lacks - 1) v ds storable)))
+    ∙ ap (λ (t : List ℕ). spelling int32 FORMAT ++ t) (sym (bytes_stored (lacks - 1) v ds storable)))
     (storable_stored (lacks - 1) v ds storable new)
+
+-- ---- for callers
+
+-- one more value of the last document, where that one is known
+pub in_last-append : (v : StoredField) (documents : List Document) (d : Document) → in_last v (documents ++ d ∷ []) ≡ documents ++ (d ++ v ∷ []) ∷ []
+in_last-append v [] d = refl
+in_last-append v (e ∷ []) d = refl
+in_last-append v (e ∷ f ∷ ds) d = ap (λ (t : List Document). e ∷ t) (in_last-append v (f ∷ ds) d)

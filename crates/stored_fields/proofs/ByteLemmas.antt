@@ -1,5 +1,5 @@
 -- What is written are bytes.
-use Rattle.std.proofs.Common.{◌≡◌, ℕ, zero, suc, ◌+◌, ◌-◌, ◌*◌, ◌/◌, ◌%◌, ◌^◌, ◌<◌, ◌≤◌, Bool, true, false, ltb, cond, List, [], ◌∷◌, ◌++◌, length, get_or, refl, sym, ap, subst, ◌∙◌, arith, inl, inr, pos}
+use Rattle.std.proofs.Common.{◌≡◌, ℕ, zero, suc, ◌+◌, ◌/◌, ◌%◌, ◌^◌, ◌<◌, Bool, true, false, ltb, List, [], ◌∷◌, ◌++◌, length, refl, sym, subst, arith, inl, inr, pos}
 use Rattle.std.specs.Prelude.{All, ◌&&◌}
 use Rattle.std.specs.List.{flat_map}
 use Rattle.std.specs.Str.{IsUtf8}
@@ -12,7 +12,7 @@ use Rattle.lu_grammar.specs.Bytes.{IsBytes}
 use Rattle.lu_grammar.specs.Parts.{int32, int64, num, groups, spelling}
 use Rattle.stored_fields.specs.declared.layout.TheConstants.{FORMAT, HEADER_BYTES}
 use Rattle.stored_fields.specs.Values.{StoredField, Document}
-use Rattle.stored_fields.specs.Writing.{IsStorableValue, IsStorable, IsStorableDocument, AreStorable, bits_of, content_bytes, value_bytes, document_bytes, documents_bytes, fdt_bytes, places_from, fdx_bytes}
+use Rattle.stored_fields.specs.Writing.{IsStorableValue, IsStorable, AreStorable, bits_of, content_bytes, value_bytes, document_bytes, documents_bytes, fdt_bytes, places_from, fdx_bytes}
 use Rattle.stored_fields.proofs.WriteLemmas.{all_head, all_tail, bits_fit}
 use Rattle.stored_fields.proofs.ReadBackLemmas.{documents_cons, storable_cons}
 

@@ -1,5 +1,5 @@
 -- The two files of written documents are a store of these documents.
-use Rattle.std.proofs.Common.{◌≡◌, ℕ, List, length, refl, subst, ap, ◌∙◌, sym}
+use Rattle.std.proofs.Common.{◌≡◌, ℕ, List, length, refl, subst, ap, ◌∙◌}
 use Rattle.lu_types.specs.declared.stored.Window.{Window}
 use Rattle.lu_grammar.proofs.Files.{Reads-from}
 use Rattle.stored_fields.specs.Values.{Document}
@@ -26,6 +26,8 @@ written_store fields window documents storable h =
 pub finished : (fdx fdt : List ℕ) (lacks : ℕ) (w : Written) → written_in fdx fdt lacks ≡ w → w.lacks ≡ 0 → IsWriting fdx fdt lacks → (fdx ≡ fdx_bytes w.documents) × (fdt ≡ fdt_bytes 0 w.documents) × AreStorable 0 w.documents
 finished fdx fdt lacks w is complete h =
     let none : lacks ≡ 0 = ap (λ (x : Written). x.lacks) is ∙ complete in
-    let same = ap (λ (x : Written). x.documents) is in
-    (h.places ∙ ap fdx_bytes same, h.values ∙ ap (λ (n : ℕ). fdt_bytes n (written_in fdx fdt lacks).documents) none ∙ ap (fdt_bytes 0) same,
-        subst (AreStorable 0) same (subst (λ (n : ℕ). AreStorable n (written_in fdx fdt lacks).documents) none h.storable))
+    let same = ap (λ (x : Written). x.documents) is in (
+      h.places ∙ ap fdx_bytes same,
+      h.values ∙ ap (λ (n : ℕ). fdt_bytes n (written_in fdx fdt lacks).documents) none ∙ ap (fdt_bytes 0) same,
+      subst (AreStorable 0) same (subst (λ (n : ℕ). AreStorable n (written_in fdx fdt lacks).documents) none h.storable),
+    )

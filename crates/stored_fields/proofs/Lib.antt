@@ -11,3 +11,5 @@ pub mod BegunLemmas
 pub mod ReadBackLemmas
 pub mod ByteLemmas
 pub mod LawLemmas
+pub mod OnlyLemmas
+pub mod OnlyFiles

@@ -1,5 +1,5 @@
 -- What the writer gives is read as the documents that it was handed.
-use Rattle.std.proofs.Common.{◌≡◌, ℕ, zero, suc, ◌+◌, ◌-◌, ◌*◌, ◌^◌, ◌<◌, ◌≤◌, Bool, true, false, not, ltb, List, [], ◌∷◌, ◌++◌, length, map, get_or, Option, Some, None, Result, Ok, Err, refl, sym, ap, subst, ◌∙◌, arith, append_assoc, ℤ, pos, inl, inr, drop}
+use Rattle.std.proofs.Common.{◌≡◌, ℕ, zero, suc, ◌+◌, ◌-◌, ◌^◌, ◌<◌, ◌≤◌, Bool, true, false, ltb, List, [], ◌∷◌, ◌++◌, length, map, get_or, Option, Some, None, Ok, refl, sym, ap, subst, ◌∙◌, arith, append_assoc, ℤ, pos, inl, inr, drop}
 use Rattle.std.specs.Prelude.{All, ◌&&◌, nat_le, nat_lt, FitsSigned}
 use Rattle.std.specs.List.{flat_map, last_or}
 use Rattle.std.specs.Int.{w32, w64}
@@ -12,15 +12,15 @@ use Rattle.std.proofs.lemmas.List.{append-nil, length-append, get_or-take, get_o
 use Rattle.lu_types.specs.declared.stored.Window.{Window}
 use Rattle.lu_grammar.specs.Parts.{int32, int64, num, groups, spelling}
 use Rattle.lu_grammar.specs.Records.{first_broken}
-use Rattle.lu_grammar.specs.Plans.{done, due, and_then, one, times, each, read_file}
+use Rattle.lu_grammar.specs.Plans.{done, and_then, one, times, each, read_file}
 use Rattle.lu_grammar.proofs.Writers.{Writes, Writes-due, Writes-done, Writes-and_then, Writes-none, read_file-Writes}
 use Rattle.stored_fields.specs.declared.layout.TheConstants.{FORMAT, HEADER_BYTES}
 use Rattle.stored_fields.specs.Format.{format_shape}
-use Rattle.stored_fields.specs.Values.{StoredField, Document}
+use Rattle.stored_fields.specs.Values.{Document, HasFields}
 use Rattle.stored_fields.specs.Places.{is_past, header_conditions, is_misplaced, place_conditions, places_kind, fdx_plan}
-use Rattle.stored_fields.specs.Documents.{Record, format, count, count_of, header_shape, format_conditions, count_shape, is_elsewhere, start_conditions, values_kind, is_within, document_at, next_document, fdt_plan}
+use Rattle.stored_fields.specs.Documents.{format, count, count_of, header_shape, format_conditions, count_shape, start_conditions, values_kind, is_within, document_at, next_document, fdt_plan}
 use Rattle.stored_fields.specs.Stores.{windowed}
-use Rattle.stored_fields.specs.Writing.{IsStorable, IsStorableDocument, AreStorable, HasFields, value_bytes, document_bytes, documents_bytes, fdt_bytes, places_from, fdx_bytes, IsCheckable}
+use Rattle.stored_fields.specs.Writing.{IsStorableDocument, AreStorable, value_bytes, document_bytes, documents_bytes, fdt_bytes, places_from, fdx_bytes, IsCheckable}
 use Rattle.stored_fields.proofs.PlaceLemmas.{last_push}
 use Rattle.stored_fields.proofs.WriteLemmas.{IsField, writes_one, writes_values}
 
@@ -80,7 +80,7 @@ writes_places (p ∷ ps) front place h =
     let rest : AreWellPlaced (last_or None (front ++ pos p ∷ [])) ps = subst (λ (o : Option ℤ). AreWellPlaced o ps) (sym (last_push None front (pos p))) h.2 in
     subst (λ (zs : List ℤ). Writes (times places_kind (suc (length ps)) front) place (spelling int64 (pos p) ++ flat_map (λ q. spelling int64 (pos q)) ps) zs) (append_assoc front (pos p ∷ []) (map pos ps))
     (Writes-and_then (one places_kind front) (times places_kind (length ps)) place (spelling int64 (pos p)) (flat_map (λ q. spelling int64 (pos q)) ps) (front ++ pos p ∷ []) ((front ++ pos p ∷ []) ++ map pos ps) first
-        (writes_places ps (front ++ pos p ∷ []) (place + length (spelling int64 (pos p))) rest))
+    (writes_places ps (front ++ pos p ∷ []) (place + length (spelling int64 (pos p))) rest))
 
 -- the places of written documents
 abbrev pub places_of : List Document → List ℤ
@@ -120,7 +120,7 @@ writes_document asked fields wanted front d place is storable there =
     (n, [], storable.0, sym (append-nil (spelling num n)), (refl, refl)) good body
 
 -- the element behind so many
-at_length : {A : Type 0} (xs : List A) (y : A) (ys : List A) (d : A) (n : ℕ) → length xs ≡ n → get_or (xs ++ y ∷ ys) n d ≡ y
+pub at_length : {A : Type 0} (xs : List A) (y : A) (ys : List A) (d : A) (n : ℕ) → length xs ≡ n → get_or (xs ++ y ∷ ys) n d ≡ y
 at_length {A} xs y ys d n is = ap (λ (k : ℕ). get_or (xs ++ y ∷ ys) k d) (sym is) ∙ go xs
   where
     go : (xs : List A) → get_or (xs ++ y ∷ ys) (length xs) d ≡ y
@@ -147,8 +147,8 @@ writes_all window fields places (d ∷ ds) front passed place is long storable n
     λ i lt holds. named (suc i) (omega arith) (ap (is_within window) (let e : length front + suc i ≡ length (front ++ d ∷ []) + i = omega (arith, length-append front (d ∷ [])) in e) ∙ holds) in
     subst (λ (t : List ℕ). Writes (each (next_document window fields places) (suc (length ds)) front) place t (front ++ d ∷ ds)) (sym (documents_cons d ds))
     (subst (λ (all : List Document). Writes (each (next_document window fields places) (suc (length ds)) front) place (document_bytes 0 d ++ documents_bytes 0 ds) all) (append_assoc front (d ∷ []) ds)
-        (Writes-and_then (next_document window fields places front) (each (next_document window fields places) (length ds)) place (document_bytes 0 d) (documents_bytes 0 ds) (front ++ d ∷ []) ((front ++ d ∷ []) ++ ds) first
-            (writes_all window fields places ds (front ++ d ∷ []) (passed ++ pos place ∷ []) (place + length (document_bytes 0 d)) behind longer parts.1 later)))
+    (Writes-and_then (next_document window fields places front) (each (next_document window fields places) (length ds)) place (document_bytes 0 d) (documents_bytes 0 ds) (front ++ d ∷ []) ((front ++ d ∷ []) ++ ds) first
+    (writes_all window fields places ds (front ++ d ∷ []) (passed ++ pos place ∷ []) (place + length (document_bytes 0 d)) behind longer parts.1 later)))
 
 -- the fields of a document in the window are there
 named_within : (fields : ℕ) (window : Window) (documents : List Document) → IsCheckable fields window documents → (i : ℕ) → is_within window i ≡ true → HasFields fields (get_or documents i [])
@@ -185,6 +185,7 @@ fdt_writes fields window documents storable h =
 -- both files are read as the documents
 pub read_back : (fields : ℕ) (window : Window) (documents : List Document) → AreStorable 0 documents → IsCheckable fields window documents
     → (read_file (fdx_plan (length documents) window) (fdx_bytes documents) ≡ Ok (places_of documents)) × (read_file (fdt_plan window fields (places_of documents)) (fdt_bytes 0 documents) ≡ Ok documents)
-read_back fields window documents storable h =
-    (read_file-Writes (fdx_plan (length documents) window) (fdx_bytes documents) (places_of documents) (fdx_writes window documents h.short h.within),
-        read_file-Writes (fdt_plan window fields (places_of documents)) (fdt_bytes 0 documents) documents (fdt_writes fields window documents storable h))
+read_back fields window documents storable h = (
+  read_file-Writes (fdx_plan (length documents) window) (fdx_bytes documents) (places_of documents) (fdx_writes window documents h.short h.within),
+  read_file-Writes (fdt_plan window fields (places_of documents)) (fdt_bytes 0 documents) documents (fdt_writes fields window documents storable h),
+)

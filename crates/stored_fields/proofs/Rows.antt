@@ -1,9 +1,11 @@
 -- Worked rows on the definitions: what reading answers at chosen bytes.
-use Rattle.std.proofs.Common.{◌≡◌, ℕ, true, false, List, [], ◌∷◌, ◌++◌, Result, Ok, Err, refl, pos, ℤ}
-use Rattle.std.specs.Prelude.{codes}
+use Rattle.std.proofs.Common.{◌≡◌, ℕ, true, false, List, [], ◌∷◌, ◌++◌, Result, Ok, Err, refl, pos, ℤ, map, take}
+use Rattle.std.specs.Prelude.{codes, replicate}
 use Rattle.std.specs.Str.{is_utf8, chars}
 use Rattle.lu_types.specs.declared.stored.Stored.TheVariants.{Text, Binary}
 use Rattle.lu_types.specs.declared.stored.Window.{Window}
+use Rattle.lu_grammar.specs.Parts.{groups}
+use Rattle.stored_fields.specs.Writing.{fdx_bytes, fdt_bytes}
 use Rattle.lu_grammar.specs.Reading.{read, read_groups}
 use Rattle.lu_grammar.specs.Records.{record_at}
 use Rattle.lu_grammar.specs.Plans.{each, Broken, read_plan, read_file}
@@ -101,3 +103,26 @@ fdt_place = refl
 fdt_format : documents (0 ∷ 0 ∷ 0 ∷ 1 ∷ []) ≡ broken 0 43
 unfolding read read_plan record_at each
 fdt_format = refl
+
+-- ---- each file, cut at every length
+
+fdx_cuts : map (λ n. places (take n fdx)) (0 ∷ 1 ∷ 2 ∷ 3 ∷ 4 ∷ 5 ∷ 6 ∷ 7 ∷ 8 ∷ 9 ∷ 10 ∷ 11 ∷ []) ≡ replicate 4 (broken 0 1) ++ replicate 8 (broken 4 1)
+unfolding read read_plan record_at each
+fdx_cuts = refl
+
+fdt_cuts : map (λ n. documents (take n (fdt 0 1))) (0 ∷ 1 ∷ 2 ∷ 3 ∷ 4 ∷ 5 ∷ 6 ∷ 7 ∷ 8 ∷ 9 ∷ 10 ∷ 11 ∷ 12 ∷ 13 ∷ 14 ∷ 15 ∷ 16 ∷ 17 ∷ 18 ∷ []) ≡ replicate 4 (broken 0 1) ++ broken 4 1 ∷ replicate 14 (broken 5 1)
+unfolding read read_groups read_plan record_at each is_utf8 chars lib.Utf8.encode
+fdt_cuts = refl
+
+-- ---- what is written
+
+hello : List Document
+hello = (record { field = 0; tokenized = true; value = Text (codes "hello world") } ∷ []) ∷ []
+
+written_fdx : fdx_bytes hello ≡ fdx
+unfolding hello
+written_fdx = refl
+
+written_fdt : fdt_bytes 0 hello ≡ fdt 0 1
+unfolding hello groups
+written_fdt = refl

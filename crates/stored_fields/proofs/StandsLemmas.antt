@@ -48,7 +48,7 @@ pub record Stands (fdt : List ℕ) (wanted : ℤ) (values : Document) : Type 0 w
   pub values_there : values_at number from ≡ Ok values
 
 -- the place was the one that was wanted
-not_elsewhere : (place : ℕ) (wanted : ℤ) → first_broken (start_conditions wanted place) ≡ None → pos place ≡ wanted
+pub not_elsewhere : (place : ℕ) (wanted : ℤ) → first_broken (start_conditions wanted place) ≡ None → pos place ≡ wanted
 not_elsewhere place wanted e = go (int_eq (pos place) wanted) refl e
   where
     go : (b : Bool) → int_eq (pos place) wanted ≡ b → first_broken (record { rule = 44; broken = not b } ∷ []) ≡ None → pos place ≡ wanted

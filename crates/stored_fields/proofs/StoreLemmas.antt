@@ -13,7 +13,9 @@ use Rattle.lu_grammar.specs.Plans.{read_file}
 use Rattle.lu_grammar.proofs.Plans.{ok_of, err_is_not_ok}
 use Rattle.lu_grammar.proofs.Records.{at, same_pair}
 use Rattle.lu_grammar.proofs.Files.{Reads-from, FirstFault-from}
-use Rattle.stored_fields.specs.Values.{Document}
+use Rattle.std.specs.Prelude.{All}
+use Rattle.stored_fields.proofs.OnlyFiles.{windowed_named}
+use Rattle.stored_fields.specs.Values.{Document, HasFields}
 use Rattle.stored_fields.specs.Places.{fdx_plan}
 use Rattle.stored_fields.specs.Documents.{fdt_plan}
 use Rattle.stored_fields.specs.Stores.{value_or, places_in, documents_in, windowed, IsStore, IsFirstFault, IsSound}
@@ -105,3 +107,11 @@ document_values fdt wanted values there c left next is e =
     let p = same_pair left there.number next there.from (sym e ∙ ap (read_part num) (same_cursor fdt c there.here there.on is) ∙ there.counted) in
     let all : values_at left next ≡ ok_of values = ap (λ (n : ℕ). values_at n next) p.0 ∙ ap (values_at there.number) p.1 ∙ there.values_there in
     (settled [] values (values_at left next) all, ap (value_or []) all)
+
+-- the documents in the window have the fields that were asked of them
+pub windowed_fields : (fields total : ℕ) (window : Window) (fdx fdt : List ℕ) → IsSound fields total window fdx fdt → All (HasFields fields) (windowed window (documents_in fields total window fdx fdt))
+windowed_fields fields total window fdx fdt s =
+    let all = documents_in fields total window fdx fdt in
+    let has = has_places total window fdx (places_in total window fdx) s.places in
+    let stand = all_stand window fields (places_in total window fdx) fdt all s.bytes s.documents in
+    windowed_named window fields (places_in total window fdx) fdt all s.bytes s.documents (omega (arith, has.within, has.many, stand.many))

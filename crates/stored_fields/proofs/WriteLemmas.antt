@@ -1,19 +1,19 @@
 -- What the one spelling of stored documents is read as.
-use Rattle.std.proofs.Common.{◌≡◌, ℕ, zero, suc, ◌+◌, ◌-◌, ◌*◌, ◌^◌, ◌<◌, ◌≤◌, Bool, true, false, not, cond, List, [], ◌∷◌, ◌++◌, length, drop, get_or, Option, Some, None, Result, Ok, Err, refl, sym, ap, subst, ◌∙◌, arith, append_assoc, ℤ, pos}
-use Rattle.std.specs.Prelude.{◌&&◌, nat_lt, nat_le, All}
+use Rattle.std.proofs.Common.{◌≡◌, ℕ, suc, ◌+◌, ◌-◌, ◌<◌, Bool, true, false, List, [], ◌∷◌, ◌++◌, length, None, refl, sym, ap, subst, arith, append_assoc}
+use Rattle.std.specs.Prelude.{◌&&◌, nat_le, All}
 use Rattle.std.specs.List.{flat_map}
 use Rattle.std.proofs.lemmas.Bool.{lt-leb}
-use Rattle.std.proofs.lemmas.List.{append-nil, length-append}
+use Rattle.std.proofs.lemmas.List.{append-nil}
 use Rattle.lu_types.specs.declared.stored.Stored.{Stored}
 use Rattle.lu_types.specs.declared.stored.Stored.TheVariants.{Text, Binary}
-use Rattle.lu_grammar.specs.Parts.{num, byte, bytes, text, spelling, IsValue}
-use Rattle.lu_grammar.specs.Records.{Shape, whole, part, followed, Condition, first_broken, Spells}
-use Rattle.lu_grammar.specs.Plans.{Plan, done, due, and_then, Kind, one, times, each}
+use Rattle.lu_grammar.specs.Parts.{num, text, spelling}
+use Rattle.lu_grammar.specs.Records.{Shape, whole, followed, first_broken, Spells}
+use Rattle.lu_grammar.specs.Plans.{done, and_then, Kind, one, times, each}
 use Rattle.lu_grammar.proofs.Records.{Spells-followed}
 use Rattle.lu_grammar.proofs.Writers.{Writes, Writes-due, Writes-done, Writes-and_then, Writes-none}
 use Rattle.stored_fields.specs.declared.value.TheConstants.{TOKENIZED, BINARY}
 use Rattle.stored_fields.specs.Values.{StoredField, Document, Entry, has_bit, content, entry_shape, stored}
-use Rattle.stored_fields.specs.Documents.{Record, count, value, count_of, count_shape, value_shape, value_conditions, entry_conditions, has_other_bit, with_value, values_kind}
+use Rattle.stored_fields.specs.Documents.{count, value, count_of, count_shape, value_shape, value_conditions, has_other_bit, with_value, values_kind}
 use Rattle.stored_fields.specs.Writing.{IsStorableValue, IsStorable, bits_of, content_bytes, value_bytes, document_bytes, documents_bytes, AreStorable, IsStorableDocument, begun_document, begun_documents}
 
 -- ---- one value
@@ -111,7 +111,7 @@ writes_values asked fields (v ∷ vs) front place storable there =
     subst (λ (s : Document). Writes (one kind front) place (value_bytes v) s) state (writes_one kind front place (value (entry v)) (value_bytes v) (spells_value v (all_head IsStorable v vs storable)) (value_is_good asked fields v (all_head (IsField asked fields) v vs there))) in
     subst (λ (s : Document). Writes (times kind (suc (length vs)) front) place (value_bytes v ++ flat_map value_bytes vs) s) (append_assoc front (v ∷ []) vs)
     (Writes-and_then (one kind front) (times kind (length vs)) place (value_bytes v) (flat_map value_bytes vs) (front ++ v ∷ []) ((front ++ v ∷ []) ++ vs) first
-        (writes_values asked fields vs (front ++ v ∷ []) (place + length (value_bytes v)) (all_tail IsStorable v vs storable) (all_tail (IsField asked fields) v vs there)))
+    (writes_values asked fields vs (front ++ v ∷ []) (place + length (value_bytes v)) (all_tail IsStorable v vs storable) (all_tail (IsField asked fields) v vs there)))
 
 -- ---- the documents as the writer holds them
 
@@ -131,7 +131,7 @@ writes_begun lacks values place storable =
 pub writes_documents : (lacks : ℕ) (documents : List Document) (place : ℕ) → AreStorable lacks documents → Writes (begun_documents (length documents) lacks) place (documents_bytes lacks documents) documents
 unfolding begun_documents
 writes_documents lacks [] place storable = Writes-done place []
-writes_documents lacks (d ∷ []) place storable = 
+writes_documents lacks (d ∷ []) place storable =
     subst (λ (t : List ℕ). Writes (begun_documents 1 lacks) place t (d ∷ [])) (append-nil (document_bytes lacks d))
     (Writes-and_then (begun_document lacks) (λ d. done (d ∷ [])) place (document_bytes lacks d) [] d (d ∷ []) (writes_begun lacks d place storable) (Writes-done (place + length (document_bytes lacks d)) (d ∷ [])))
 writes_documents lacks (d ∷ e ∷ ds) place storable =
@@ -139,5 +139,5 @@ writes_documents lacks (d ∷ e ∷ ds) place storable =
     let n = length ds in
     Writes-and_then (begun_document 0) (λ d. and_then (begun_documents (suc n) lacks) (λ ds. done (d ∷ ds))) place (document_bytes 0 d) (documents_bytes lacks (e ∷ ds)) d (d ∷ e ∷ ds) (writes_begun 0 d place storable.0)
     (subst (λ (t : List ℕ). Writes (and_then (begun_documents (suc n) lacks) (λ ds. done (d ∷ ds))) here t (d ∷ e ∷ ds)) (append-nil (documents_bytes lacks (e ∷ ds)))
-        (Writes-and_then (begun_documents (suc n) lacks) (λ ds. done (d ∷ ds)) here (documents_bytes lacks (e ∷ ds)) [] (e ∷ ds) (d ∷ e ∷ ds) (writes_documents lacks (e ∷ ds) here storable.1)
-            (Writes-done (here + length (documents_bytes lacks (e ∷ ds))) (d ∷ e ∷ ds))))
+    (Writes-and_then (begun_documents (suc n) lacks) (λ ds. done (d ∷ ds)) here (documents_bytes lacks (e ∷ ds)) [] (e ∷ ds) (d ∷ e ∷ ds) (writes_documents lacks (e ∷ ds) here storable.1)
+    (Writes-done (here + length (documents_bytes lacks (e ∷ ds))) (d ∷ e ∷ ds))))

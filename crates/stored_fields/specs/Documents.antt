@@ -16,7 +16,7 @@ pub data Record : Type 0 where
   count : ℕ → Record
   value : Entry → Record
 
--- a format number
+-- the header
 abbrev pub header_shape : Shape Record
 header_shape = followed format_shape (λ z. whole (format z))
 
@@ -49,6 +49,7 @@ value_shape = followed entry_shape (λ entry. whole (value entry))
 abbrev pub entry_conditions : Bool → ℕ → ℕ → ℕ → List Condition
 entry_conditions asked fields field bits = record { rule = STORED_FIELD; broken = asked && nat_le fields field } ∷ record { rule = STORED_BITS; broken = has_other_bit bits } ∷ []
 
+-- the same of a record that is a value
 abbrev pub value_conditions : Bool → ℕ → Record → List Condition
 value_conditions asked fields (value entry) = entry_conditions asked fields entry.field entry.bits
 value_conditions asked fields _ = []

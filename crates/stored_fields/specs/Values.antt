@@ -1,5 +1,5 @@
 -- Stored values, and how one is spelled.
-use Rattle.std.specs.Prelude.{ℕ, Bool, true, false, not, ◌==◌, List, bit_and}
+use Rattle.std.specs.Prelude.{ℕ, Bool, true, false, not, ◌==◌, List, bit_and, ◌<◌, All}
 use Rattle.lu_types.specs.declared.stored.Stored.{Stored}
 use Rattle.lu_types.specs.declared.stored.Stored.TheVariants.{Text, Binary}
 use Rattle.lu_grammar.specs.Parts.{byte, num, bytes, text}
@@ -15,6 +15,10 @@ pub record StoredField : Type 0 where
 -- the values of a document, in order
 abbrev pub Document : Type 0
 Document = List StoredField
+
+-- the fields of all values of a document are among so many
+abbrev pub HasFields : ℕ → Document → Type 0
+HasFields fields values = All (λ v. v.field < fields) values
 
 -- a value as it stands in `.fdt`, with its bits
 pub record Entry : Type 0 where

@@ -1,5 +1,5 @@
 -- The one spelling of stored documents, as the writer gives it.
-use Rattle.std.specs.Prelude.{◌≡◌, ◌≢◌, ℕ, zero, suc, ◌+◌, ◌-◌, ◌^◌, ◌<◌, ◌≤◌, Bool, true, false, cond, if◌then◌else◌, ◌==◌, List, [], ◌∷◌, ◌++◌, length, drop, pos, All, Result, Ok, Err}
+use Rattle.std.specs.Prelude.{◌≡◌, ℕ, zero, suc, ◌+◌, ◌-◌, ◌^◌, ◌<◌, ◌≤◌, Bool, false, cond, List, [], ◌∷◌, ◌++◌, length, drop, pos, All, Result, Ok, Err}
 use Rattle.std.specs.List.{flat_map}
 use Rattle.lu_types.specs.declared.stored.Stored.{Stored}
 use Rattle.lu_types.specs.declared.stored.Stored.TheVariants.{Text, Binary}
@@ -9,7 +9,7 @@ use Rattle.lu_grammar.specs.Bytes.{Cursor}
 use Rattle.lu_grammar.specs.Plans.{Plan, done, due, and_then, times, Broken, read_plan}
 use Rattle.stored_fields.specs.declared.layout.TheConstants.{FORMAT, HEADER_BYTES}
 use Rattle.stored_fields.specs.declared.value.TheConstants.{TOKENIZED, BINARY}
-use Rattle.stored_fields.specs.Values.{StoredField, Document}
+use Rattle.stored_fields.specs.Values.{StoredField, Document, HasFields}
 use Rattle.stored_fields.specs.Documents.{Record, count_of, count_shape, values_kind}
 use Rattle.stored_fields.specs.Stores.{total_of, windowed}
 
@@ -33,10 +33,6 @@ abbrev pub AreStorable : ℕ → List Document → Type 0
 AreStorable lacks [] = lacks ≡ 0
 AreStorable lacks (d ∷ []) = IsStorableDocument lacks d
 AreStorable lacks (d ∷ e ∷ ds) = IsStorableDocument 0 d × AreStorable lacks (e ∷ ds)
-
--- the fields of all values of a document are among so many
-abbrev pub HasFields : ℕ → Document → Type 0
-HasFields fields values = All (λ v. v.field < fields) values
 
 -- ---- how it is written
 

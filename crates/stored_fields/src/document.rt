@@ -10,7 +10,9 @@ use std::marker::Model;
 /// The stored values of a document that are left to read, in order. Contracts see them as a list. No call takes memory.
 #[derive(Drop)]
 pub struct StoredDoc<'a> {
+    /// Where the next value stands.
     pub(crate) here: Cur<'a>,
+    /// How many values are left.
     pub(crate) left: u32,
 }
 

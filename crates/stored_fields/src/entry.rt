@@ -12,8 +12,11 @@ use lu_prims::{Bad, Cur};
 /// A stored value with its bits.
 #[derive(Drop)]
 pub struct EntryRef<'a> {
+    /// The number of its field.
     pub field: u32,
+    /// Its bits, as they stand.
     pub bits: u8,
+    /// What it is.
     pub value: ValueRef<'a>,
 }
 

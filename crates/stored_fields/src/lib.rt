@@ -16,3 +16,6 @@ pub use document::StoredDoc;
 pub use value::{StoredRef, ValueRef};
 pub use view::{StoredView, stored_total};
 pub use writer::{StoredFiles, StoredWriter};
+
+#[cfg(test)]
+mod tests;

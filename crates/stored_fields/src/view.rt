@@ -1,5 +1,6 @@
 //! The stored documents of a segment: checked once, and then lent (format page, "Stored documents").
-ghost use Rattle.std.specs.Prelude.{◌≡◌, ◌+◌, ◌^◌, ◌<◌, [], length, get_or, IfOk, MatchResult};
+ghost use Rattle.std.specs.Prelude.{◌≡◌, ◌+◌, ◌^◌, ◌<◌, [], length, get_or, IfOk, MatchResult, All};
+ghost use Rattle.stored_fields.specs.Values.{HasFields};
 ghost use Rattle.stored_fields.specs.Stores.{total_of, IsStore, IsFirstFault};
 
 use crate::document::StoredDoc;
@@ -61,6 +62,7 @@ impl<'a> StoredView<'a> {
             (λ view. IsStore fdx.now fdt.now fields documents (record { offset = 0; count = documents }) view)
             (λ fault. IsFirstFault fdx.now fdt.now fields documents (record { offset = 0; count = documents }) fault) }
         ensures count { IfOk result (λ view. length view ≡ documents) }
+        ensures named { IfOk result (λ view. All (HasFields fields) view) }
     {
         let window = Window {
             offset: 0,
@@ -85,6 +87,7 @@ impl<'a> StoredView<'a> {
             (λ view. IsStore fdx.now fdt.now fields (total_of fdx.now) window view)
             (λ fault. IsFirstFault fdx.now fdt.now fields (total_of fdx.now) window fault) }
         ensures count { IfOk result (λ view. length view ≡ window.count) }
+        ensures named { IfOk result (λ view. All (HasFields fields) view) }
     {
         check_store(fdx, fdt, fields, stored_total(fdx), window)
     }
@@ -96,7 +99,7 @@ impl<'a> StoredView<'a> {
         self.window.count
     }
 
-    /// The values of a document, by its number in the segment, from 0.
+    /// The values of a document, by its number in the segment, from 0. It goes there without walking the documents before.
     pub fn doc(&self, number: u32) -> StoredDoc<'a>
         requires { number < length self.now }
         ensures { result ≡ get_or self.now number [] }
@@ -123,6 +126,7 @@ fn check_store<'a>(
         (λ view. IsStore fdx.now fdt.now fields total window view)
         (λ fault. IsFirstFault fdx.now fdt.now fields total window fault) }
     ensures count { IfOk result (λ view. length view ≡ window.count) }
+    ensures named { IfOk result (λ view. All (HasFields fields) view) }
 {
     if let Err(fault) = check_places(fdx, total, window) {
         return Err(fault);

@@ -8,6 +8,7 @@ ghost use Rattle.stored_fields.specs.Writing.{IsStorable, bits_of, content_bytes
 use crate::layout::FORMAT;
 use crate::value::{BINARY, StoredRef, TOKENIZED, ValueRef};
 use lu_prims::{OutOfMemory, put_i32, put_i64, put_text, put_vint};
+use lu_types::Bytes;
 use std::alloc::Global;
 use std::marker::Model;
 
@@ -15,17 +16,20 @@ use std::marker::Model;
 #[derive(Debug, Drop)]
 pub struct StoredFiles {
     /// The places of the documents.
-    pub fdx: Vec<u8>,
+    pub fdx: Bytes,
     /// The documents.
-    pub fdt: Vec<u8>,
+    pub fdt: Bytes,
 }
 
-/// Writes stored documents, one after another, and of each its values in order. Contracts see the documents so far, and how
+/// Writes stored documents (format page, "Stored documents"), one after another, and of each its values in order. Contracts see the documents so far, and how
 /// many values the last of them lacks. A call that finds no memory leaves the writer as it was.
 #[derive(Drop)]
 pub struct StoredWriter {
+    /// `.fdx` so far.
     fdx: Vec<u8>,
+    /// `.fdt` so far.
     fdt: Vec<u8>,
+    /// How many values the last document lacks.
     lacks: u32,
 }
 
@@ -51,7 +55,8 @@ impl StoredWriter {
         Ok(StoredWriter { fdx, fdt, lacks: 0 })
     }
 
-    /// Starts a document of so many values.
+    /// Starts a document of so many values, below 2^31. The document before it has all of its values.
+    /// An `Err` leaves the writer as it was.
     pub fn begin(&mut self, count: u32) -> Result<(), OutOfMemory>
         requires complete { self.old.lacks ≡ 0 }
         requires few { count < 2 ^ 31 }
@@ -73,13 +78,8 @@ impl StoredWriter {
         }
     }
 
-    /// Adds a text to the last document.
-    pub fn put_text(
-        &mut self,
-        field: u32,
-        tokenized: bool,
-        text: &str,
-    ) -> Result<(), OutOfMemory>
+    /// Adds a text of fewer than 2^31 bytes to the last document, which lacks a value. An `Err` leaves the writer as it was.
+    pub fn put_text(&mut self, field: u32, tokenized: bool, text: &str) -> Result<(), OutOfMemory>
         requires lacking { 0 < self.old.lacks }
         requires field { field < 2 ^ 31 }
         requires short { length text.now < 2 ^ 31 }
@@ -93,7 +93,7 @@ impl StoredWriter {
         })
     }
 
-    /// Adds bytes to the last document.
+    /// Adds fewer than 2^31 bytes to the last document, which lacks a value. An `Err` leaves the writer as it was.
     pub fn put_binary(
         &mut self,
         field: u32,
@@ -113,15 +113,18 @@ impl StoredWriter {
         })
     }
 
-    /// The two files. Takes no memory.
+    /// The two files, whose last document has all of its values. Takes no memory.
     pub fn finish(self) -> StoredFiles
         requires { self.lacks ≡ 0 }
-        ensures fdx { result.fdx.items ≡ fdx_bytes self.documents }
-        ensures fdt { result.fdt.items ≡ fdt_bytes 0 self.documents }
+        ensures fdx { result.fdx ≡ fdx_bytes self.documents }
+        ensures fdt { result.fdt ≡ fdt_bytes 0 self.documents }
         ensures storable { AreStorable 0 self.documents }
     {
         let StoredWriter { fdx, fdt, lacks: _ } = self;
-        StoredFiles { fdx, fdt }
+        StoredFiles {
+            fdx: Bytes::new(fdx),
+            fdt: Bytes::new(fdt),
+        }
     }
 
     /// Adds a value to the last document.

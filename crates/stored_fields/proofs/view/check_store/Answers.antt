@@ -1,4 +1,4 @@
-use Rattle.stored_fields.proofs.StoreLemmas.{sound, is_store, fdx_first_fault, fdt_first_fault, windowed_many}
+use Rattle.stored_fields.proofs.StoreLemmas.{sound, is_store, fdx_first_fault, fdt_first_fault, windowed_many, windowed_fields}
 use Rattle.stored_fields.proofs.view.check_store.Goals as goal
 
 pub returns-in-Err-clause-files : goal.returns-in-Err-clause-files
@@ -19,4 +19,9 @@ returns-clause-files c =
 pub returns-clause-count : goal.returns-clause-count
 returns-clause-count c =
     windowed_many c.args.fields c.args.total c.args.window c.args.fdx.now c.args.fdt.now
+    (sound c.args.fields c.args.total c.args.window c.args.fdx.now c.args.fdt.now (λ i. (c.type_inv.fdt i).fits) c.in_default.ensures c.in_default-check_documents.ensures)
+
+pub returns-clause-named : goal.returns-clause-named
+returns-clause-named c =
+    windowed_fields c.args.fields c.args.total c.args.window c.args.fdx.now c.args.fdt.now
     (sound c.args.fields c.args.total c.args.window c.args.fdx.now c.args.fdt.now (λ i. (c.type_inv.fdt i).fits) c.in_default.ensures c.in_default-check_documents.ensures)

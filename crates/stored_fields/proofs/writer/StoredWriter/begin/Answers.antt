@@ -1,4 +1,4 @@
-use Rattle.std.proofs.Common.{◌≡◌, ◌++◌, rules, length, pos, ap, ◌∙◌, sym}
+use Rattle.std.proofs.Common.{◌≡◌, ◌++◌, rules, length, pos, ap, ◌∙◌}
 use Rattle.lu_grammar.specs.Parts.{int64, spelling}
 use Rattle.stored_fields.specs.Writing.{Written, begun}
 use Rattle.stored_fields.proofs.BegunLemmas.{begun_held}

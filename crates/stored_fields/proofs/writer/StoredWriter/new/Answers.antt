@@ -1,5 +1,5 @@
 use Rattle.std.proofs.Common.{rules}
-use Rattle.stored_fields.proofs.BegunLemmas.{Holds, none_held, written}
+use Rattle.stored_fields.proofs.BegunLemmas.{none_held}
 use Rattle.stored_fields.proofs.writer.StoredWriter.new.Goals as goal
 
 pub invariant_of-result : goal.invariant_of-result

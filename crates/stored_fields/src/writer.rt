@@ -21,8 +21,8 @@ pub struct StoredFiles {
     pub fdt: Bytes,
 }
 
-/// Writes stored documents (format page, "Stored documents"), one after another, and of each its values in order. Contracts see the documents so far, and how
-/// many values the last of them lacks. A call that finds no memory leaves the writer as it was.
+/// Writes stored documents (format page, "Stored documents"), one after another, and of each its values in order. Contracts see
+/// the documents so far, and how many values the last of them lacks. A call that finds no memory leaves the writer as it was.
 #[derive(Drop)]
 pub struct StoredWriter {
     /// `.fdx` so far.

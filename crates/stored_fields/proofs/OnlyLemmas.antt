@@ -15,7 +15,8 @@ use Rattle.lu_grammar.proofs.Records.{TakesRecord, ShapeJudges, read_shape-judge
 use Rattle.lu_grammar.proofs.Plans.{ok_of}
 use Rattle.lu_grammar.proofs.Loops.{read_plan-and_then, then_ok, one-was}
 use Rattle.stored_fields.specs.declared.value.TheConstants.{TOKENIZED, BINARY}
-use Rattle.stored_fields.specs.Values.{StoredField, Document, Entry, has_bit, content, stored}
+use Rattle.lu_types.specs.Bits.{has_bit}
+use Rattle.stored_fields.specs.Values.{StoredField, Document, Entry, content, stored}
 use Rattle.stored_fields.specs.Documents.{Record, value, value_shape, has_other_bit, entry_conditions, value_conditions, with_value, values_kind, count_of, count_shape, start_conditions, document_at}
 use Rattle.stored_fields.specs.Writing.{IsStorable, IsStorableDocument, bits_of, value_bytes, document_bytes}
 use Rattle.stored_fields.proofs.StepLemmas.{record_at-was, due_was}

@@ -12,7 +12,8 @@ use Rattle.lu_grammar.specs.Plans.{done, and_then, Kind, one, times, each}
 use Rattle.lu_grammar.proofs.Records.{Spells-followed}
 use Rattle.lu_grammar.proofs.Writers.{Writes, Writes-due, Writes-done, Writes-and_then, Writes-none}
 use Rattle.stored_fields.specs.declared.value.TheConstants.{TOKENIZED, BINARY}
-use Rattle.stored_fields.specs.Values.{StoredField, Document, Entry, has_bit, content, entry_shape, stored}
+use Rattle.lu_types.specs.Bits.{has_bit}
+use Rattle.stored_fields.specs.Values.{StoredField, Document, Entry, content, entry_shape, stored}
 use Rattle.stored_fields.specs.Documents.{count, value, count_of, count_shape, value_shape, value_conditions, has_other_bit, with_value, values_kind}
 use Rattle.stored_fields.specs.Writing.{IsStorableValue, IsStorable, bits_of, content_bytes, value_bytes, document_bytes, documents_bytes, AreStorable, IsStorableDocument, begun_document, begun_documents}
 

@@ -1,7 +1,8 @@
 -- Stored values, and how one is spelled.
-use Rattle.std.specs.Prelude.{ℕ, Bool, true, false, not, ◌==◌, List, bit_and, ◌<◌, All}
+use Rattle.std.specs.Prelude.{ℕ, Bool, true, false, List, ◌<◌, All}
 use Rattle.lu_types.specs.declared.stored.Stored.{Stored}
 use Rattle.lu_types.specs.declared.stored.Stored.TheVariants.{Text, Binary}
+use Rattle.lu_types.specs.Bits.{has_bit}
 use Rattle.lu_grammar.specs.Parts.{byte, num, bytes, text}
 use Rattle.lu_grammar.specs.Records.{Shape, whole, part, followed}
 use Rattle.stored_fields.specs.declared.value.TheConstants.{TOKENIZED, BINARY}
@@ -25,10 +26,6 @@ pub record Entry : Type 0 where
   pub field : ℕ
   pub bits : ℕ
   pub value : Stored
-
--- one of the bits is set
-abbrev pub has_bit : ℕ → ℕ → Bool
-has_bit bit bits = not (bit_and bits bit == 0)
 
 -- so many bytes where the value is binary, and a text where it is not
 abbrev pub content : Bool → Shape Stored

@@ -2,9 +2,10 @@
 ghost use Rattle.std.specs.Prelude.{◌≡◌, [], ◌∷◌, MatchOption};
 ghost use Rattle.stored_fields.specs.Entries.{stored_field};
 
-use crate::entry::{has_bit, next_entry};
+use crate::entry::next_entry;
 use crate::value::{StoredRef, TOKENIZED};
 use lu_prims::Cur;
+use lu_types::bits::has_bit;
 use std::marker::Model;
 
 /// The stored values of a document that are left to read, in order. Contracts see them as a list. No call takes memory.
@@ -43,7 +44,7 @@ impl<'a> StoredDoc<'a> {
                 self.left -= 1;
                 Some(StoredRef {
                     field: entry.field,
-                    tokenized: has_bit(entry.bits, TOKENIZED),
+                    tokenized: has_bit(TOKENIZED, entry.bits),
                     value: entry.value,
                 })
             }

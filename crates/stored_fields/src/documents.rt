@@ -5,18 +5,17 @@ ghost use Rattle.lu_grammar.specs.Parts.{int64};
 ghost use Rattle.lu_grammar.specs.Reading.{read};
 ghost use Rattle.lu_grammar.specs.Records.{first_broken};
 ghost use Rattle.lu_grammar.specs.Plans.{read_file};
-ghost use Rattle.stored_fields.specs.Values.{has_bit};
 ghost use Rattle.stored_fields.specs.Places.{fdx_plan};
 ghost use Rattle.stored_fields.specs.Documents.{count, header_shape, format_conditions, count_shape, is_elsewhere, start_conditions, value_shape, entry_conditions, value_conditions, is_within, fdt_plan};
 ghost use Rattle.stored_fields.specs.Stores.{places_in};
 ghost use Rattle.stored_fields.specs.Steps.{Gives, Passes, PassesDocument, Judges};
 
 use crate::entry::next_entry;
-use crate::faults::{rule_of, spot};
+use crate::faults::spot;
 use crate::layout::{HEADER_BYTES, PLACE_BYTES, is_other_format};
 use crate::value::{BINARY, TOKENIZED};
 use lu_prims::Cur;
-use lu_types::rules::{FDT_FORMAT, FDT_PLACE, STORED_BITS, STORED_FIELD, TRAILING};
+use lu_types::rules::{FDT_FORMAT, FDT_PLACE, STORED_BITS, STORED_FIELD, TRAILING, rule_of};
 use lu_types::{FileKind, Spot, Window};
 
 /// The place in `.fdt` of a document, by its number in the store.

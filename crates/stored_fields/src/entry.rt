@@ -1,13 +1,14 @@
 //! One stored value as it stands in `.fdt` (format page, "Stored documents").
 ghost use Rattle.std.specs.Prelude.{◌≡◌, ℕ, ◌<◌, ◌^◌};
 ghost use Rattle.lu_grammar.specs.Parts.{num, bytes, text};
-ghost use Rattle.stored_fields.specs.Values.{has_bit, content, entry_shape};
+ghost use Rattle.stored_fields.specs.Values.{content, entry_shape};
 ghost use Rattle.std.specs.Prelude.{true};
 ghost use Rattle.stored_fields.specs.Entries.{value_of, entry_of};
 ghost use Rattle.stored_fields.specs.Steps.{Finds};
 
 use crate::value::{BINARY, ValueRef};
 use lu_prims::{Bad, Cur};
+use lu_types::bits::has_bit;
 
 /// A stored value with its bits.
 #[derive(Drop)]
@@ -18,13 +19,6 @@ pub struct EntryRef<'a> {
     pub bits: u8,
     /// What it is.
     pub value: ValueRef<'a>,
-}
-
-/// Whether one of the bits is set.
-pub fn has_bit(bits: u8, bit: u8) -> bool
-    ensures { result ≡ has_bit bit bits }
-{
-    bits & bit != 0
 }
 
 /// The value behind the bits: so many bytes, or a text.
@@ -61,7 +55,7 @@ pub fn next_entry<'a>(here: &mut Cur<'a>) -> Result<EntryRef<'a>, Bad>
         Err(bad) => Err(bad),
         Ok(field) => match here.u8() {
             Err(bad) => Err(bad),
-            Ok(bits) => match next_content(here, has_bit(bits, BINARY)) {
+            Ok(bits) => match next_content(here, has_bit(BINARY, bits)) {
                 Err(bad) => Err(bad),
                 Ok(value) => Ok(EntryRef { field, bits, value }),
             },

@@ -6,10 +6,10 @@ ghost use Rattle.stored_fields.specs.Places.{header_conditions, place_shape, pla
 ghost use Rattle.lu_types.specs.declared.kind.FileKind.TheVariants.{Fdx};
 ghost use Rattle.stored_fields.specs.Steps.{Gives, Passes, Judges};
 
-use crate::faults::{rule_of, spot};
+use crate::faults::spot;
 use crate::layout::{GREATEST_PLACE, HEADER_BYTES, is_other_format};
 use lu_prims::Cur;
-use lu_types::rules::{FDX_FORMAT, FDX_PLACE, STORE_RANGE, TRAILING};
+use lu_types::rules::{FDX_FORMAT, FDX_PLACE, STORE_RANGE, TRAILING, rule_of};
 use lu_types::{FileKind, Spot, Window};
 
 /// Which rule the header breaks first.

@@ -1,0 +1,71 @@
+-- The entries of a term: what each stands for, and what it must meet.
+use Rattle.std.specs.Prelude.{ℕ, ◌+◌, ◌/◌, Bool, not, List, [], ◌∷◌, ◌++◌, length, Option, Some, None, nat_lt, nat_le, ◌==◌, ◌&&◌, if◌then◌else◌}
+use Rattle.lu_types.specs.declared.rules.TheConstants.{FREQ_START, DOC_ORDER, DOC_RANGE, FREQ}
+use Rattle.lu_grammar.specs.Records.{Condition}
+use Rattle.lu_grammar.specs.Plans.{Plan, Kind, times}
+use Rattle.freq_skips.specs.Records.{Term, Record, entry, level_length, datum, entry_shape}
+
+-- a document that has the term: its number, how often the term stands in it, the document of the entry before (0 for the first), and the place where the entry starts
+pub record Posting : Type 0 where
+  pub doc : ℕ
+  pub freq : ℕ
+  pub before : ℕ
+  pub place : ℕ
+
+-- no posting
+abbrev pub no_posting : Posting
+no_posting = record { doc = 0; freq = 0; before = 0; place = 0 }
+
+-- what the entries so far stand for: the document of the last (0 where there is none), and the postings
+pub record Passed : Type 0 where
+  pub doc : ℕ
+  pub postings : List Posting
+
+abbrev pub no_entry : Passed
+no_entry = record { doc = 0; postings = [] }
+
+-- how far the document is above the one before
+abbrev pub gap : Term → ℕ → ℕ
+gap t delta = if t.rules.omit_tf then delta else delta / 2
+
+-- the stated frequency, or else 1
+abbrev pub frequency : Option ℕ → ℕ
+frequency None = 1
+frequency (Some n) = n
+
+-- the posting of an entry that stands at a place, after a document
+abbrev pub posting_of : Term → ℕ → ℕ → Record → Posting
+posting_of t last place (entry delta stated) = record { doc = last + gap t delta; freq = frequency stated; before = last; place = place }
+posting_of t last place (level_length n) = no_posting
+posting_of t last place (datum d) = no_posting
+
+-- a frequency is stated and below 2
+abbrev pub is_low : Option ℕ → Bool
+is_low None = nat_lt 1 0
+is_low (Some n) = nat_lt n 2
+
+-- what is asked of an entry at a place, the first of its term or not, after a document
+abbrev pub entry_conditions : Term → Bool → ℕ → ℕ → Record → List Condition
+entry_conditions t first last place (entry delta stated) =
+    (record { rule = FREQ_START; broken = first && not (place == t.info.freq) })
+    ∷ (record { rule = DOC_ORDER; broken = not first && (gap t delta == 0) })
+    ∷ (record { rule = DOC_RANGE; broken = nat_le t.rules.documents (last + gap t delta) })
+    ∷ (record { rule = FREQ; broken = is_low stated })
+    ∷ []
+entry_conditions t first last place (level_length n) = []
+entry_conditions t first last place (datum d) = []
+
+-- the entries so far with one more
+abbrev pub with_posting : Passed → Posting → Passed
+with_posting s p = record { doc = p.doc; postings = s.postings ++ p ∷ [] }
+
+abbrev pub entry_kind : Term → Kind Passed Record
+entry_kind t = record {
+  shape = λ s. entry_shape t;
+  conditions = λ s place r. entry_conditions t (length s.postings == 0) s.doc place r;
+  after = λ s place r. with_posting s (posting_of t s.doc place r);
+}
+
+-- so many entries, one for each document of the term
+abbrev pub entries : Term → Plan Passed Record
+entries t = times (entry_kind t) t.info.doc_freq no_entry

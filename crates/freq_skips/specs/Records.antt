@@ -1,0 +1,65 @@
+-- The records of `.frq`: entries, lengths of skip levels, and skip data.
+use Rattle.std.specs.Prelude.{ℕ, ◌+◌, ◌%◌, Bool, not, Option, Some, None, length, nat_lt, ◌==◌, ◌&&◌}
+use Rattle.lu_types.specs.declared.term.TermInfo.{TermInfo}
+use Rattle.freq_skips.specs.declared.rules.TermRules.{TermRules}
+use Rattle.lu_grammar.specs.Parts.{Part, Value, vint, num, vlong, spelling}
+use Rattle.lu_grammar.specs.Records.{Shape, whole, part, optional}
+
+-- a term: what the dictionary says of it, and what its records are read by
+pub record Term : Type 0 where
+  pub info : TermInfo
+  pub rules : TermRules
+
+-- a skip datum as it stands: the skipped documents, the payload length where it is stated, the skipped bytes of `.frq` and of `.prx`, and the child pointer where there is one
+pub record Skip : Type 0 where
+  pub doc : ℕ
+  pub payload : Option ℕ
+  pub freq : ℕ
+  pub prox : ℕ
+  pub child : Option ℕ
+
+-- an entry with its delta and its frequency where that is stated; the length of a skip level; or a skip datum
+pub data Record : Type 0 where
+  entry : ℕ → Option ℕ → Record
+  level_length : ℕ → Record
+  datum : Skip → Record
+
+-- one part by itself
+abbrev pub alone : (p : Part) → Shape (Value p)
+alone p = part p (λ v. whole v)
+
+-- a number that is odd
+abbrev pub is_odd : ℕ → Bool
+is_odd n = n % 2 == 1
+
+-- the frequency follows an even delta, in a field that keeps frequencies
+abbrev pub states_frequency : Term → ℕ → Bool
+states_frequency t delta = not t.rules.omit_tf && not (is_odd delta)
+
+-- the payload length follows an odd number of skipped documents, in a field with payloads
+abbrev pub states_payload : Term → ℕ → Bool
+states_payload t doc = t.rules.payloads && is_odd doc
+
+abbrev pub entry_shape : Term → Shape Record
+entry_shape t = part vint (λ delta. optional (states_frequency t delta) (alone num) (λ stated. whole (entry delta stated)))
+
+abbrev pub length_shape : Shape Record
+length_shape = part vlong (λ n. whole (level_length n))
+
+-- a datum has a child pointer where its level is not the lowest
+abbrev pub datum_shape : Term → ℕ → Shape Record
+datum_shape t level = part vint (λ doc. optional (states_payload t doc) (alone num) (λ payload. part num (λ freq. part num (λ prox.
+    optional (nat_lt 0 level) (alone vlong) (λ child. whole (datum (record { doc = doc; payload = payload; freq = freq; prox = prox; child = child })))))))
+
+-- how many bytes a number takes that may be there
+abbrev pub optional_length : (p : Part) → Option (Value p) → ℕ
+optional_length p None = 0
+optional_length p (Some v) = length (spelling p v)
+
+-- how many bytes a datum takes up to its child pointer
+abbrev pub length_to_child : Skip → ℕ
+length_to_child d = length (spelling vint d.doc) + optional_length num d.payload + length (spelling num d.freq) + length (spelling num d.prox)
+
+-- how many bytes a datum takes
+abbrev pub datum_length : Skip → ℕ
+datum_length d = length_to_child d + optional_length vlong d.child

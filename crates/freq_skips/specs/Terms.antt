@@ -1,0 +1,24 @@
+-- A term's part of `.frq`, and the whole file.
+use Rattle.std.specs.Prelude.{ℕ, List, [], drop}
+use Rattle.lu_grammar.specs.Bytes.{Cursor}
+use Rattle.lu_grammar.specs.Plans.{Plan, done, and_then, in_turn}
+use Rattle.freq_skips.specs.Records.{Term, Record}
+use Rattle.freq_skips.specs.Entries.{Posting, entries}
+use Rattle.freq_skips.specs.Levels.{Point, level_count, levels}
+
+-- what a term's part stands for: its postings, and where the data of each skip level lead, the lowest level first
+pub record TermData : Type 0 where
+  pub postings : List Posting
+  pub levels : List (List Point)
+
+-- the entries of a term, and then its skip levels
+abbrev pub term_plan : Term → Plan TermData Record
+term_plan t = and_then (entries t) (λ s. and_then (levels t s.postings (level_count t) []) (λ points. done (record { postings = s.postings; levels = points })))
+
+-- the file: the terms in turn
+abbrev pub frq_plan : List Term → Plan (Unit {0}) Record
+frq_plan terms = in_turn term_plan terms
+
+-- a place in some bytes
+abbrev pub place_in : List ℕ → ℕ → Cursor
+place_in bytes place = record { place = place; rest = drop place bytes }

@@ -1,9 +1,12 @@
 -- The entries of a term: what each stands for, and what it must meet.
-use Rattle.std.specs.Prelude.{ℕ, ◌+◌, ◌/◌, Bool, not, List, [], ◌∷◌, ◌++◌, length, Option, Some, None, nat_lt, nat_le, ◌==◌, ◌&&◌, if◌then◌else◌}
+use Rattle.std.specs.Prelude.{ℕ, ◌+◌, ◌/◌, Bool, not, ◌≡◌, List, [], ◌∷◌, ◌++◌, length, Result, Ok, Err, Option, Some, None, nat_lt, nat_le, ◌==◌, ◌&&◌, if◌then◌else◌, slice_index_or, map}
 use Rattle.lu_types.specs.declared.rules.TheConstants.{FREQ_START, DOC_ORDER, DOC_RANGE, FREQ}
+use Rattle.lu_grammar.specs.Bytes.{Cursor}
 use Rattle.lu_grammar.specs.Records.{Condition}
-use Rattle.lu_grammar.specs.Plans.{Plan, Kind, times}
-use Rattle.freq_skips.specs.Records.{Term, Record, entry, level_length, datum, entry_shape}
+use Rattle.lu_grammar.specs.Plans.{Plan, Kind, times, Broken, read_plan}
+use Rattle.freq_skips.specs.declared.rules.Term.{Term}
+use Rattle.freq_skips.specs.declared.entry.Entry.{Entry}
+use Rattle.freq_skips.specs.Records.{Record, entry, level_length, datum, entry_shape}
 
 -- a document that has the term: its number, how often the term stands in it, the document of the entry before (0 for the first), and the place where the entry starts
 pub record Posting : Type 0 where
@@ -69,3 +72,41 @@ entry_kind t = record {
 -- so many entries, one for each document of the term
 abbrev pub entries : Term → Plan Passed Record
 entries t = times (entry_kind t) t.info.doc_freq no_entry
+
+-- what reading the entries answered, where they are good
+abbrev pub read_postings : Result (Passed × Cursor) Broken → List Posting
+read_postings (Ok x) = x.0.postings
+read_postings (Err b) = []
+
+-- the postings of a term whose entries are good and start here
+abbrev pub postings_from : Term → Cursor → List Posting
+postings_from t start = read_postings (read_plan (entries t) start)
+
+-- the entries of the term that start here are good, and end there
+pub record AreEntries (t : Term) (start end : Cursor) : Type 0 where
+  pub passed : Passed
+  pub reads : read_plan (entries t) start ≡ Ok (passed, end)
+
+-- the entries of the term that start here are good
+abbrev pub AreGoodFrom : Term → Cursor → Type 0
+AreGoodFrom t start = (end : Cursor) × AreEntries t start end
+
+-- from this start on so many entries are good; the last has this document, and the cursor is behind them
+pub record Stands (t : Term) (start : Cursor) (index doc : ℕ) (here : Cursor) : Type 0 where
+  pub passed : Passed
+  pub reads : read_plan (times (entry_kind t) index no_entry) start ≡ Ok (passed, here)
+  pub last : passed.doc ≡ doc
+  pub count : length passed.postings ≡ index
+
+-- the entry that stands next is the posting with this number
+pub record IsNext (t : Term) (start : Cursor) (index : ℕ) (p : Posting) (next : Cursor) : Type 0 where
+  pub stands : Stands t start (index + 1) p.doc next
+  pub posting : (end : Cursor) → AreEntries t start end → slice_index_or (postings_from t start) index no_posting ≡ p
+
+-- the document of a posting, and how often the term stands in it
+abbrev pub entry_of : Posting → Entry
+entry_of p = record { doc = p.doc; freq = p.freq }
+
+-- the entries of a term whose entries are good and start here
+abbrev pub entries_from : Term → Cursor → List Entry
+entries_from t start = map entry_of (postings_from t start)

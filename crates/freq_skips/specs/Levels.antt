@@ -4,7 +4,8 @@ use Rattle.lu_types.specs.declared.rules.TheConstants.{SKIP_START, SKIP_DOC, SKI
 use Rattle.lu_grammar.specs.Parts.{vlong, spelling}
 use Rattle.lu_grammar.specs.Records.{Condition}
 use Rattle.lu_grammar.specs.Plans.{Plan, done, due, and_then, Kind, times}
-use Rattle.freq_skips.specs.Records.{Term, Skip, Record, entry, level_length, datum, length_shape, datum_shape, length_to_child, datum_length}
+use Rattle.freq_skips.specs.declared.rules.Term.{Term}
+use Rattle.freq_skips.specs.Records.{Skip, Record, entry, level_length, datum, length_shape, datum_shape, length_to_child, datum_length}
 use Rattle.freq_skips.specs.Entries.{Posting, no_posting}
 
 -- the greatest number up to the most for which the power of the base is at most n, or 0

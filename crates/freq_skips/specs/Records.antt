@@ -1,14 +1,10 @@
 -- The records of `.frq`: entries, lengths of skip levels, and skip data.
-use Rattle.std.specs.Prelude.{ℕ, ◌+◌, ◌%◌, Bool, not, Option, Some, None, length, nat_lt, ◌==◌, ◌&&◌}
-use Rattle.lu_types.specs.declared.term.TermInfo.{TermInfo}
-use Rattle.freq_skips.specs.declared.rules.TermRules.{TermRules}
+use Rattle.std.specs.Prelude.{◌≡◌, ℕ, ◌+◌, ◌%◌, Bool, not, Option, Some, None, length, Result, Ok, Err, nat_lt, ◌==◌, ◌&&◌}
+use Rattle.freq_skips.specs.declared.rules.Term.{Term}
 use Rattle.lu_grammar.specs.Parts.{Part, Value, vint, num, vlong, spelling}
-use Rattle.lu_grammar.specs.Records.{Shape, whole, part, optional}
-
--- a term: what the dictionary says of it, and what its records are read by
-pub record Term : Type 0 where
-  pub info : TermInfo
-  pub rules : TermRules
+use Rattle.lu_grammar.specs.declared.bad.Bad.{Bad}
+use Rattle.lu_grammar.specs.Bytes.{Cursor}
+use Rattle.lu_grammar.specs.Records.{Shape, whole, part, optional, read_shape}
 
 -- a skip datum as it stands: the skipped documents, the payload length where it is stated, the skipped bytes of `.frq` and of `.prx`, and the child pointer where there is one
 pub record Skip : Type 0 where
@@ -63,3 +59,8 @@ length_to_child d = length (spelling vint d.doc) + optional_length num d.payload
 -- how many bytes a datum takes
 abbrev pub datum_length : Skip → ℕ
 datum_length d = length_to_child d + optional_length vlong d.child
+
+-- what a call answers of a part that is there where the test holds: what follows it is read at the new place; or the part is not read
+abbrev pub GivesPart : Bool → (p : Part) → Cursor → Cursor → Result (Option (Value p)) Bad → Type 0
+GivesPart test p old new (Ok found) = (next : Option (Value p) → Shape Record) → read_shape (optional test (alone p) next) old ≡ read_shape (next found) new
+GivesPart test p old new (Err bad) = (next : Option (Value p) → Shape Record) → read_shape (optional test (alone p) next) old ≡ Err bad

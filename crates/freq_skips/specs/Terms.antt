@@ -1,8 +1,12 @@
 -- A term's part of `.frq`, and the whole file.
-use Rattle.std.specs.Prelude.{ℕ, List, [], drop}
+use Rattle.std.specs.Prelude.{◌≡◌, ◌≤◌, ℕ, List, [], length, drop}
+use Rattle.lu_types.specs.declared.term.TermInfo.{TermInfo}
+use Rattle.freq_skips.specs.declared.rules.TermRules.{TermRules}
 use Rattle.lu_grammar.specs.Bytes.{Cursor}
 use Rattle.lu_grammar.specs.Plans.{Plan, done, and_then, in_turn}
-use Rattle.freq_skips.specs.Records.{Term, Record}
+use Rattle.freq_skips.specs.declared.rules.Term.{Term}
+use Rattle.lu_grammar.specs.Meaning.{ReadsTo}
+use Rattle.freq_skips.specs.Records.{Record}
 use Rattle.freq_skips.specs.Entries.{Posting, entries}
 use Rattle.freq_skips.specs.Levels.{Point, level_count, levels}
 
@@ -22,3 +26,13 @@ frq_plan terms = in_turn term_plan terms
 -- a place in some bytes
 abbrev pub place_in : List ℕ → ℕ → Cursor
 place_in bytes place = record { place = place; rest = drop place bytes }
+
+abbrev pub term_of : TermInfo → TermRules → Term
+term_of info rules = record { info = info; rules = rules }
+
+-- the term stands in the file: from its place on all of its records are good
+pub record IsGoodTerm (info : TermInfo) (rules : TermRules) (frq : List ℕ) : Type 0 where
+  pub within : info.freq ≤ length frq
+  pub value : TermData
+  pub end : Cursor
+  pub reads : ReadsTo (term_plan (term_of info rules)) (place_in frq info.freq) value end

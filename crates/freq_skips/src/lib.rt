@@ -1,6 +1,11 @@
 //! Entries and skip data of the terms of a segment, the file `.frq`: written, checked exactly, and read in order.
 #![tactic(auto)]
 
+mod entries;
+mod entry;
+mod passing;
 mod rules;
 
+pub use entries::Entries;
+pub use entry::Entry;
 pub use rules::TermRules;

@@ -6,9 +6,10 @@ use Rattle.lu_grammar.specs.Bytes.{Cursor, start_of}
 use Rattle.lu_grammar.specs.Reading.{read, read_groups}
 use Rattle.lu_grammar.specs.Records.{record_at}
 use Rattle.lu_grammar.specs.Plans.{each, read_plan, Broken}
+use Rattle.freq_skips.specs.declared.datum.Point.{Point}
 use Rattle.freq_skips.specs.declared.rules.Term.{Term}
 use Rattle.freq_skips.specs.Entries.{Posting}
-use Rattle.freq_skips.specs.Levels.{Point, greatest_power, levels}
+use Rattle.freq_skips.specs.Levels.{greatest_power, levels}
 use Rattle.freq_skips.specs.Terms.{TermData, term_plan}
 
 term : Bool → ℕ → ℕ → ℕ → ℕ → Term

@@ -6,10 +6,11 @@ use Rattle.lu_grammar.specs.Meaning.{ReadsTo}
 use Rattle.lu_grammar.proofs.Records.{same_pair}
 use Rattle.lu_grammar.proofs.Plans.{ok_of, read_plan-ReadsTo}
 use Rattle.lu_grammar.proofs.Loops.{read_plan-and_then, then_ok}
+use Rattle.freq_skips.specs.declared.datum.Point.{Point}
 use Rattle.freq_skips.specs.declared.rules.Term.{Term}
 use Rattle.freq_skips.specs.Records.{Record}
 use Rattle.freq_skips.specs.Entries.{Posting, Passed, entries, postings_from, AreEntries}
-use Rattle.freq_skips.specs.Levels.{Point, level_count, levels}
+use Rattle.freq_skips.specs.Levels.{level_count, levels}
 use Rattle.freq_skips.specs.Terms.{TermData, term_plan}
 use Rattle.freq_skips.proofs.EntryLemmas.{postings_from-is}
 

@@ -1,11 +1,15 @@
 -- The skip levels of a term: which data each has, to which entries they belong, and what they must meet.
-use Rattle.std.specs.Prelude.{ℕ, zero, suc, ◌+◌, ◌-◌, ◌*◌, ◌/◌, ◌%◌, ◌^◌, Bool, not, List, [], ◌∷◌, ◌++◌, length, Option, Some, None, nat_le, ◌==◌, ◌&&◌, if◌then◌else◌, slice_index_or}
+use Rattle.std.specs.Prelude.{◌≡◌, ◌≤◌, Result, Ok, ℕ, zero, suc, ◌+◌, ◌-◌, ◌*◌, ◌/◌, ◌%◌, ◌^◌, Bool, not, List, [], ◌∷◌, ◌++◌, length, Option, Some, None, nat_le, ◌==◌, ◌&&◌, if◌then◌else◌, slice_index_or}
 use Rattle.lu_types.specs.declared.rules.TheConstants.{SKIP_START, SKIP_DOC, SKIP_FREQ, SKIP_OMIT, SKIP_CHILD, SKIP_LENGTH}
 use Rattle.lu_grammar.specs.Parts.{vlong, spelling}
 use Rattle.lu_grammar.specs.Records.{Condition}
-use Rattle.lu_grammar.specs.Plans.{Plan, done, due, and_then, Kind, times}
+use Rattle.lu_grammar.specs.Bytes.{Cursor}
+use Rattle.lu_grammar.specs.Plans.{Plan, done, due, and_then, Kind, times, read_plan}
 use Rattle.freq_skips.specs.declared.rules.Term.{Term}
-use Rattle.freq_skips.specs.Records.{Skip, Record, entry, level_length, datum, length_shape, datum_shape, length_to_child, datum_length}
+use Rattle.freq_skips.specs.declared.datum.Skip.{Skip}
+use Rattle.freq_skips.specs.declared.datum.Wanted.{Wanted}
+use Rattle.freq_skips.specs.declared.datum.Point.{Point}
+use Rattle.freq_skips.specs.Records.{Record, entry, level_length, datum, length_shape, datum_shape, length_to_child, datum_length}
 use Rattle.freq_skips.specs.Entries.{Posting, no_posting}
 
 -- the greatest number up to the most for which the power of the base is at most n, or 0
@@ -29,15 +33,7 @@ data_count t level = t.info.doc_freq / stride t level
 abbrev pub posting_at : Term → ℕ → List Posting → ℕ → Posting
 posting_at t level postings m = slice_index_or postings (m * stride t level - 1) no_posting
 
--- where a datum leads: the sums of what is skipped along the level, the payload length carried there, its child pointer (0 where it has none), and the place where it starts
-pub record Point : Type 0 where
-  pub doc : ℕ
-  pub freq : ℕ
-  pub prox : ℕ
-  pub payload : ℕ
-  pub child : ℕ
-  pub place : ℕ
-
+-- before the first datum
 abbrev pub no_point : Point
 no_point = record { doc = 0; freq = 0; prox = 0; payload = 0; child = 0; place = 0 }
 
@@ -84,14 +80,6 @@ skip_start t first place = record { rule = SKIP_START; broken = first && not (pl
 -- how many documents a datum skips
 abbrev pub skipped : Term → ℕ → ℕ
 skipped t doc = if t.rules.payloads then doc / 2 else doc
-
--- what the datum due on a level is to be: the first record of the skip data or not, the document and the place of the entry that it belongs to, its place as the level above has it, and the length of the level
-pub record Wanted : Type 0 where
-  pub first : Bool
-  pub doc : ℕ
-  pub freq : ℕ
-  pub child : Option ℕ
-  pub size : Option ℕ
 
 -- what is wanted of the datum with this number
 abbrev pub wanted : Term → List Posting → Level → ℕ → Wanted
@@ -172,3 +160,23 @@ level_plan t postings (suc n) above = due length_shape (length_conditions t (lev
 unfoldable pub levels : Term → List Posting → ℕ → List (List Point) → Plan (List (List Point)) Record
 levels t postings zero above = done above
 levels t postings (suc n) above = and_then (level_plan t postings n above) (λ s. levels t postings n (s.points ∷ above))
+
+-- the sums of so many data are below so many times 2^32
+pub record IsSmall (count : ℕ) (p : Point) : Type 0 where
+  pub doc : p.doc ≤ count * 2 ^ 32
+  pub freq : p.freq ≤ count * 2 ^ 32
+  pub prox : p.prox ≤ count * 2 ^ 32
+
+-- on a level that starts here so many data are good; the last leads there, and the cursor is behind them
+pub record Follows (t : Term) (postings : List Posting) (l : Level) (start : Cursor) (count : ℕ) (last : Point) (here : Cursor) : Type 0 where
+  pub along : Along
+  pub reads : read_plan (times (datum_kind t postings l) count no_datum) start ≡ Ok (along, here)
+  pub last_is : along.last ≡ last
+  pub number : length along.points ≡ count
+  pub begins : level_start along.points here.place ≡ start.place
+
+-- all data of the level that starts here are good, and these are they
+pub record AreData (t : Term) (postings : List Posting) (l : Level) (start : Cursor) (points : List Point) (end : Cursor) : Type 0 where
+  pub along : Along
+  pub reads : read_plan (level_data t postings l) start ≡ Ok (along, end)
+  pub points_are : along.points ≡ points

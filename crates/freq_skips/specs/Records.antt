@@ -1,18 +1,11 @@
 -- The records of `.frq`: entries, lengths of skip levels, and skip data.
 use Rattle.std.specs.Prelude.{◌≡◌, ℕ, ◌+◌, ◌%◌, Bool, not, Option, Some, None, length, Result, Ok, Err, nat_lt, ◌==◌, ◌&&◌}
 use Rattle.freq_skips.specs.declared.rules.Term.{Term}
+use Rattle.freq_skips.specs.declared.datum.Skip.{Skip}
 use Rattle.lu_grammar.specs.Parts.{Part, Value, vint, num, vlong, spelling}
 use Rattle.lu_grammar.specs.declared.bad.Bad.{Bad}
 use Rattle.lu_grammar.specs.Bytes.{Cursor}
 use Rattle.lu_grammar.specs.Records.{Shape, whole, part, optional, read_shape}
-
--- a skip datum as it stands: the skipped documents, the payload length where it is stated, the skipped bytes of `.frq` and of `.prx`, and the child pointer where there is one
-pub record Skip : Type 0 where
-  pub doc : ℕ
-  pub payload : Option ℕ
-  pub freq : ℕ
-  pub prox : ℕ
-  pub child : Option ℕ
 
 -- an entry with its delta and its frequency where that is stated; the length of a skip level; or a skip datum
 pub data Record : Type 0 where

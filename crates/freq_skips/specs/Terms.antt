@@ -1,6 +1,7 @@
 -- A term's part of `.frq`, and the whole file.
 use Rattle.std.specs.Prelude.{◌≡◌, ◌≤◌, ℕ, List, [], length, drop}
 use Rattle.lu_types.specs.declared.term.TermInfo.{TermInfo}
+use Rattle.freq_skips.specs.declared.datum.Point.{Point}
 use Rattle.freq_skips.specs.declared.rules.TermRules.{TermRules}
 use Rattle.lu_grammar.specs.Bytes.{Cursor}
 use Rattle.lu_grammar.specs.Plans.{Plan, done, and_then, in_turn}
@@ -8,7 +9,7 @@ use Rattle.freq_skips.specs.declared.rules.Term.{Term}
 use Rattle.lu_grammar.specs.Meaning.{ReadsTo}
 use Rattle.freq_skips.specs.Records.{Record}
 use Rattle.freq_skips.specs.Entries.{Posting, entries}
-use Rattle.freq_skips.specs.Levels.{Point, level_count, levels}
+use Rattle.freq_skips.specs.Levels.{level_count, levels}
 
 -- what a term's part stands for: its postings, and where the data of each skip level lead, the lowest level first
 pub record TermData : Type 0 where

@@ -1,8 +1,9 @@
 //! One entry: its parts, and what it must meet.
-ghost use Rattle.std.specs.Prelude.{◌≡◌, ℕ, ◌+◌, ◌/◌, ◌%◌, ◌^◌, ◌<◌, ◌==◌, ◌&&◌, not, nat_le, MatchResult, Ok, Err, None, if◌then◌else◌};
+ghost use Rattle.std.specs.Prelude.{◌≡◌, ℕ, ◌+◌, ◌/◌, ◌%◌, ◌^◌, ◌<◌, ◌==◌, ◌&&◌, not, nat_le, IfOk, MatchResult, Ok, Err, None, if◌then◌else◌};
+ghost use Rattle.lu_grammar.specs.Bytes.{IsBytes};
 ghost use Rattle.lu_grammar.specs.Parts.{num};
 ghost use Rattle.lu_grammar.specs.Records.{read_shape, record_at, first_broken, rule_of};
-ghost use Rattle.freq_skips.specs.Records.{Record, GivesPart, entry, entry_shape, states_frequency, is_odd as is_odd_number};
+ghost use Rattle.freq_skips.specs.Records.{Record, GivesPart, optional_length, entry, entry_shape, states_frequency, is_odd as is_odd_number};
 ghost use Rattle.freq_skips.specs.Entries.{entry_conditions, gap as gap_of, posting_of, frequency, is_low};
 
 use crate::rules::Term;
@@ -28,7 +29,8 @@ pub fn is_odd(n: u32) -> bool
 
 /// A num that stands where the test holds.
 pub fn optional_num(cur: &mut Cur<'_>, test: bool) -> Result<Option<u32>, Bad>
-    ensures { GivesPart test num cur.old cur.new result }
+    ensures gives { GivesPart test num cur.old cur.new result }
+    ensures place { IsBytes cur.old.rest → IfOk result (λ found. (cur.new.place ≡ cur.old.place + optional_length num found) × IsBytes cur.new.rest) }
 {
     if !test {
         return Ok(None);

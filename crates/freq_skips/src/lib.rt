@@ -1,6 +1,7 @@
 //! Entries and skip data of the terms of a segment, the file `.frq`: written, checked exactly, and read in order.
 #![tactic(auto)]
 
+mod datum;
 mod entries;
 mod entry;
 mod passing;

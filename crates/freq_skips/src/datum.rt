@@ -1,5 +1,6 @@
 //! One skip datum: its parts, and what it must meet.
-ghost use Rattle.std.specs.Prelude.{◌≡◌, ℕ, ◌+◌, ◌-◌, ◌*◌, ◌/◌, ◌^◌, ◌<◌, ◌≤◌, ◌==◌, ◌&&◌, not, length, IfOk, MatchResult, Ok, Err, if◌then◌else◌};
+ghost use Rattle.std.specs.Prelude.{◌≡◌, ℕ, ◌+◌, ◌-◌, ◌*◌, ◌/◌, ◌^◌, ◌<◌, ◌≤◌, ◌==◌, ◌&&◌, not, length, IfOk, IfSome, MatchOption, MatchResult, Ok, Err, if◌then◌else◌};
+ghost use Rattle.lu_grammar.specs.declared.bad.Bad.{Bad};
 ghost use Rattle.lu_grammar.specs.Bytes.{IsBytes};
 ghost use Rattle.lu_grammar.specs.Parts.{vint, num, vlong, spelling};
 ghost use Rattle.lu_grammar.specs.Records.{read_shape, record_at, first_broken, rule_of};
@@ -198,5 +199,48 @@ fn point_after(term: &Term, last: &Point, place: usize, skip: &Skip) -> Point
         payload: payload_or(last.payload, skip.payload),
         child: child_or_zero(skip.child),
         place,
+    }
+}
+
+/// The datum that stands here, of which this is wanted, in a level that starts there, after a point; or the first rule that
+/// it breaks.
+pub fn next_datum(cur: &mut Cur<'_>, term: &Term, level: u32, wanted: &Wanted, start: usize, last: &Point) -> Result<Point, u16>
+    requires bytes { IsBytes cur.old.rest }
+    requires start_before { start ≤ cur.old.place }
+    requires doc_small { last.now.doc < 2 ^ 63 }
+    requires freq_small { last.now.freq < 2 ^ 63 }
+    requires prox_small { last.now.prox < 2 ^ 63 }
+    ensures read { MatchResult result
+        (λ point. (r : Record) × (record_at (datum_shape term.now level) (datum_conditions term.now wanted.now start last.now cur.old.place) cur.old ≡ Ok (r, cur.new))
+            × (point_of term.now last.now cur.old.place r ≡ point))
+        (λ rule. record_at (datum_shape term.now level) (datum_conditions term.now wanted.now start last.now cur.old.place) cur.old ≡ Err rule) }
+    ensures bytes { IfOk result (λ point. IsBytes cur.new.rest × (cur.old.place ≤ cur.new.place)) }
+    ensures point { IfOk result (λ point. (point.place ≡ cur.old.place) × (point.doc ≤ last.now.doc + 2 ^ 32) × (point.freq ≤ last.now.freq + 2 ^ 32) × (point.prox ≤ last.now.prox + 2 ^ 32)) }
+{
+    let place = cur.place();
+    let (skip, child) = match datum_parts(cur, term, level) {
+        Err(bad) => return Err(rule_of_bad(bad)),
+        Ok(parts) => parts,
+    };
+    match datum_broken(term, wanted, start, last, place, &skip, child, cur.place()) {
+        Some(rule) => Err(rule),
+        None => Ok(point_after(term, last, place, &skip)),
+    }
+}
+
+/// Where the next datum leads of a level whose data are good, after a point.
+pub fn good_datum(cur: &mut Cur<'_>, term: &Term, level: u32, last: &Point) -> Option<Point>
+    requires doc_small { last.now.doc < 2 ^ 63 }
+    requires freq_small { last.now.freq < 2 ^ 63 }
+    requires prox_small { last.now.prox < 2 ^ 63 }
+    ensures read { MatchOption result
+        ((bad : Bad) × (read_shape (datum_shape term.now level) cur.old ≡ Err bad))
+        (λ point. (r : Record) × (read_shape (datum_shape term.now level) cur.old ≡ Ok (r, cur.new)) × (point_of term.now last.now cur.old.place r ≡ point)) }
+    ensures point { IfSome result (λ point. (point.place ≡ cur.old.place) × (point.doc ≤ last.now.doc + 2 ^ 32) × (point.freq ≤ last.now.freq + 2 ^ 32) × (point.prox ≤ last.now.prox + 2 ^ 32)) }
+{
+    let place = cur.place();
+    match datum_parts(cur, term, level) {
+        Err(_bad) => None,
+        Ok(parts) => Some(point_after(term, last, place, &parts.0)),
     }
 }

@@ -1,0 +1,91 @@
+-- So many data of a level are good, and are read again.
+use Rattle.std.proofs.Common.{◌≡◌, ℕ, suc, add-one, ◌+◌, ◌-◌, ◌*◌, ◌/◌, ◌<◌, ◌≤◌, List, [], ◌∷◌, ◌++◌, length, get_or, Option, Result, Ok, Err, refl, sym, ap, subst, ◌∙◌, append_assoc, arith}
+use Rattle.std.specs.Prelude.{slice_index_or}
+use Rattle.std.proofs.lemmas.List.{length-append, append-nil}
+use Rattle.std.proofs.Math.Seq.{get_or-append_seam}
+use Rattle.lu_grammar.specs.Bytes.{Cursor}
+use Rattle.lu_grammar.specs.Records.{record_at}
+use Rattle.lu_grammar.specs.Plans.{Broken, Kind, times, read_plan}
+use Rattle.lu_grammar.proofs.Plans.{ok_of, err_is_not_ok}
+use Rattle.lu_grammar.proofs.Loops.{each-none, each-rest, times-more, times-fault, times-again, times-keeps}
+use Rattle.freq_skips.specs.declared.rules.Term.{Term}
+use Rattle.freq_skips.specs.declared.datum.Point.{Point}
+use Rattle.freq_skips.specs.declared.datum.Wanted.{Wanted}
+use Rattle.freq_skips.specs.Records.{Record, datum_shape}
+use Rattle.freq_skips.specs.Entries.{Posting}
+use Rattle.freq_skips.specs.Levels.{Along, no_datum, no_point, Level, level_start, wanted, datum_conditions, point_of, datum_kind, data_count, level_data, Follows, AreData}
+
+-- what is asked of the datum that stands next
+abbrev pub datum_at : Term → Level → Wanted → ℕ → Point → Cursor → Result (Record × Cursor) ℕ
+datum_at t l w start last here = record_at (datum_shape t l.number) (datum_conditions t w start last here.place) here
+
+pub Follows-none : (t : Term) (postings : List Posting) (l : Level) (start : Cursor) → Follows t postings l start 0 no_point start
+Follows-none t postings l start = record { along = no_datum; reads = each-none _ no_datum start; last_is = refl; number = refl; begins = refl }
+
+-- the same, by the state
+kind_at : (t : Term) (postings : List Posting) (l : Level) (start : Cursor) (count : ℕ) (last : Point) (here : Cursor) (h : Follows t postings l start count last here)
+    → record_at ((datum_kind t postings l).shape h.along) ((datum_kind t postings l).conditions h.along here.place) here ≡ datum_at t l (wanted t postings l (suc count)) start.place last here
+kind_at t postings l start count last here h =
+    ap (λ (n : ℕ). datum_at t l (wanted t postings l (suc n)) (level_start h.along.points here.place) h.along.last here) h.number
+    ∙ ap (λ (n : ℕ). datum_at t l (wanted t postings l (suc count)) n h.along.last here) h.begins
+    ∙ ap (λ (p : Point). datum_at t l (wanted t postings l (suc count)) start.place p here) h.last_is
+
+-- one datum more starts the level only where it is the first
+level_start-push : (points : List Point) (p : Point) (place : ℕ) → level_start (points ++ p ∷ []) place ≡ level_start points p.place
+level_start-push [] p place = refl
+level_start-push (q ∷ qs) p place = refl
+
+pub Follows-more : (t : Term) (postings : List Posting) (l : Level) (start : Cursor) (count : ℕ) (last : Point) (here : Cursor) (r : Record) (p : Point) (next : Cursor) → Follows t postings l start count last here
+    → datum_at t l (wanted t postings l (suc count)) start.place last here ≡ Ok (r, next) → point_of t last here.place r ≡ p → p.place ≡ here.place → Follows t postings l start (count + 1) p next
+Follows-more t postings l start count last here r p next h e is at =
+    let q = point_of t h.along.last here.place r in
+    let same : q ≡ p = ap (λ (o : Point). point_of t o here.place r) h.last_is ∙ is in
+    record {
+      along = (datum_kind t postings l).after h.along here.place r;
+      reads = times-more (datum_kind t postings l) count no_datum start h.along here r next h.reads (kind_at t postings l start count last here h ∙ e);
+      last_is = same;
+      number = omega (arith, length-append h.along.points (q ∷ []), h.number);
+      begins = level_start-push h.along.points q next.place ∙ ap (λ (n : ℕ). level_start h.along.points n) (ap (λ (o : Point). o.place) same ∙ at) ∙ h.begins;
+    }
+
+pub Follows-fault : (t : Term) (postings : List Posting) (l : Level) (start : Cursor) (count : ℕ) (last : Point) (here : Cursor) (rule : ℕ) → Follows t postings l start count last here → count < data_count t l.number
+    → datum_at t l (wanted t postings l (suc count)) start.place last here ≡ Err rule → read_plan (level_data t postings l) start ≡ Err (record { offset = here.place; rule = rule })
+Follows-fault t postings l start count last here rule h lt e =
+    times-fault (datum_kind t postings l) count (data_count t l.number) no_datum start h.along here rule lt h.reads (kind_at t postings l start count last here h ∙ e)
+
+-- where all data are good the next one is, whenever the first so many are read again
+pub Follows-again : (t : Term) (postings : List Posting) (l : Level) (start : Cursor) (points : List Point) (end : Cursor) (count : ℕ) (last : Point) (here : Cursor) → AreData t postings l start points end
+    → Follows t postings l start count last here → count < data_count t l.number → (r : Record) × (next : Cursor) × (datum_at t l (wanted t postings l (suc count)) start.place last here ≡ Ok (r, next))
+Follows-again t postings l start points end count last here all h lt =
+    let again = times-again (datum_kind t postings l) count (data_count t l.number) no_datum start h.along here (all.along, end) lt all.reads h.reads in
+    (again.0, again.1, sym (kind_at t postings l start count last here h) ∙ again.2)
+
+-- these data, and then others
+abbrev BeginsWith : List Point → Along → Type 0
+BeginsWith front s = (back : List Point) × (s.points ≡ front ++ back)
+
+keeps_front : (t : Term) (postings : List Posting) (l : Level) (front : List Point) (s : Along) (c : Cursor) (r : Record) (d : Cursor) → BeginsWith front s
+    → record_at ((datum_kind t postings l).shape s) ((datum_kind t postings l).conditions s c.place) c ≡ Ok (r, d) → BeginsWith front ((datum_kind t postings l).after s c.place r)
+keeps_front t postings l front s c r d h e =
+    let p = point_of t s.last c.place r in (h.0 ++ p ∷ [], ap (λ (x : List Point). x ++ p ∷ []) h.1 ∙ append_assoc front h.0 (p ∷ []))
+
+points_begin : (t : Term) (postings : List Posting) (l : Level) (start : Cursor) (points : List Point) (end : Cursor) (count : ℕ) (last : Point) (here : Cursor) (all : AreData t postings l start points end)
+    (h : Follows t postings l start count last here) → count ≤ data_count t l.number → BeginsWith h.along.points all.along
+points_begin t postings l start points end count last here all h le =
+    times-keeps (datum_kind t postings l) (BeginsWith h.along.points) (keeps_front t postings l h.along.points) (data_count t l.number - count) h.along here all.along end ([], sym (append-nil h.along.points))
+    (sym (each-rest _ count (data_count t l.number) no_datum start h.along here le h.reads) ∙ all.reads)
+
+-- a datum that is read again is the point with its number
+pub point-is : (t : Term) (postings : List Posting) (l : Level) (start : Cursor) (points : List Point) (end : Cursor) (count : ℕ) (last : Point) (here : Cursor) (r : Record) (p : Point) (next : Cursor)
+    → AreData t postings l start points end → Follows t postings l start count last here → count < data_count t l.number
+    → datum_at t l (wanted t postings l (suc count)) start.place last here ≡ Ok (r, next) → point_of t last here.place r ≡ p → p.place ≡ here.place → slice_index_or points count no_point ≡ p
+unfolding Follows-more
+point-is t postings l start points end count last here r p next all h lt e is at =
+    let more = Follows-more t postings l start count last here r p next h e is at in
+    let begins = points_begin t postings l start points end (count + 1) p next all more (omega arith) in
+    let q = point_of t h.along.last here.place r in
+    let are : points ≡ h.along.points ++ q ∷ begins.0 = sym all.points_are ∙ begins.1 ∙ append_assoc h.along.points (q ∷ []) begins.0 in
+    ap (λ (x : List Point). get_or x count no_point) are
+    ∙ ap (λ (n : ℕ). get_or (h.along.points ++ q ∷ begins.0) n no_point) (sym h.number)
+    ∙ get_or-append_seam h.along.points q begins.0 no_point
+    ∙ ap (λ (o : Point). point_of t o here.place r) h.last_is ∙ is

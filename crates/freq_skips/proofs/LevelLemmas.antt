@@ -1,10 +1,12 @@
 -- So many data of a level are good, and are read again.
-use Rattle.std.proofs.Common.{◌≡◌, ℕ, suc, add-one, ◌+◌, ◌-◌, ◌*◌, ◌/◌, ◌<◌, ◌≤◌, List, [], ◌∷◌, ◌++◌, length, get_or, Option, Result, Ok, Err, refl, sym, ap, subst, ◌∙◌, append_assoc, arith}
+use Rattle.std.proofs.Common.{◌≡◌, ℕ, suc, add-one, ◌+◌, ◌-◌, ◌*◌, ◌/◌, ◌<◌, ◌≤◌, List, [], ◌∷◌, ◌++◌, length, get_or, Option, Some, None, Result, Ok, Err, refl, sym, ap, subst, ◌∙◌, append_assoc, arith}
 use Rattle.std.specs.Prelude.{slice_index_or}
 use Rattle.std.proofs.lemmas.List.{length-append, append-nil}
 use Rattle.std.proofs.Math.Seq.{get_or-append_seam}
 use Rattle.lu_grammar.specs.Bytes.{Cursor}
-use Rattle.lu_grammar.specs.Records.{record_at}
+use Rattle.lu_grammar.specs.declared.bad.Bad.{Bad}
+use Rattle.lu_grammar.specs.Records.{Shape, Condition, first_broken, unless_broken, judged, read_shape, record_at}
+use Rattle.lu_grammar.proofs.Records.{ok_pair, same_pair}
 use Rattle.lu_grammar.specs.Plans.{Broken, Kind, times, read_plan}
 use Rattle.lu_grammar.proofs.Plans.{ok_of, err_is_not_ok}
 use Rattle.lu_grammar.proofs.Loops.{each-none, each-rest, times-more, times-fault, times-again, times-keeps}
@@ -13,7 +15,7 @@ use Rattle.freq_skips.specs.declared.datum.Point.{Point}
 use Rattle.freq_skips.specs.declared.datum.Wanted.{Wanted}
 use Rattle.freq_skips.specs.Records.{Record, datum_shape}
 use Rattle.freq_skips.specs.Entries.{Posting}
-use Rattle.freq_skips.specs.Levels.{Along, no_datum, no_point, Level, level_start, wanted, datum_conditions, point_of, datum_kind, data_count, level_data, Follows, AreData}
+use Rattle.freq_skips.specs.Levels.{Along, no_datum, no_point, Level, level_start, wanted, datum_conditions, point_of, datum_kind, data_count, level_data, Follows, AreData, Passes}
 
 -- what is asked of the datum that stands next
 abbrev pub datum_at : Term → Level → Wanted → ℕ → Point → Cursor → Result (Record × Cursor) ℕ
@@ -89,3 +91,42 @@ point-is t postings l start points end count last here r p next all h lt e is at
     ∙ ap (λ (n : ℕ). get_or (h.along.points ++ q ∷ begins.0) n no_point) (sym h.number)
     ∙ get_or-append_seam h.along.points q begins.0 no_point
     ∙ ap (λ (o : Point). point_of t o here.place r) h.last_is ∙ is
+
+-- a good record was read
+record_at-was : {R : Type 0} (shape : Shape R) (conditions : R → List Condition) (c : Cursor) (r : R) (d : Cursor) → record_at shape conditions c ≡ ok_pair r d → read_shape shape c ≡ Ok (r, d)
+unfolding record_at
+record_at-was {R} shape conditions c r d e = go (read_shape shape c) e
+  where
+    kept : (x : R × Cursor) (o : Option ℕ) → unless_broken x o ≡ ok_pair r d → ok_of {E = Bad} x ≡ Ok (r, d)
+    kept x None h = let p = same_pair x.0 r x.1 d h in ap (λ (a : R). ok_pair {E = Bad} a x.1) p.0 ∙ ap (λ (b : Cursor). ok_pair r b) p.1
+    kept x (Some rule) h = absurd (err_is_not_ok h)
+    go : (x : Result (R × Cursor) Bad) → judged conditions x ≡ ok_pair r d → x ≡ Ok (r, d)
+    go (Ok x) h = kept x (first_broken (conditions x.0)) h
+    go (Err bad) h = absurd (err_is_not_ok h)
+
+pub Passes-read : (t : Term) (postings : List Posting) (l : Level) (start : Cursor) (points : List Point) (end : Cursor) (count : ℕ) (last : Point) (here : Cursor) (r : Record) (p : Point) (next : Cursor)
+    → read_shape (datum_shape t l.number) here ≡ Ok (r, next) → point_of t last here.place r ≡ p → p.place ≡ here.place → AreData t postings l start points end → Follows t postings l start count last here → count < data_count t l.number
+    → Passes t postings l start points count p next
+Passes-read t postings l start points end count last here r p next read is at all h lt = go (Follows-again t postings l start points end count last here all h lt)
+  where
+    go : ((s : Record) × (to : Cursor) × (datum_at t l (wanted t postings l (suc count)) start.place last here ≡ Ok (s, to))) → Passes t postings l start points count p next
+    go (s, to, e) =
+        let was = record_at-was (datum_shape t l.number) _ here s to e in
+        let same = same_pair r s next to (sym read ∙ was) in
+        let good : datum_at t l (wanted t postings l (suc count)) start.place last here ≡ Ok (r, next) = e ∙ ap (λ (a : Record). ok_pair a to) (sym same.0) ∙ ap (λ (b : Cursor). ok_pair r b) (sym same.1) in
+        record {
+          follows = Follows-more t postings l start count last here r p next h good is at;
+          point = point-is t postings l start points end count last here r p next all h lt good is at;
+        }
+
+-- and that none fails to be read
+pub never_unread : (t : Term) (postings : List Posting) (l : Level) (start : Cursor) (points : List Point) (end : Cursor) (count : ℕ) (last : Point) (here : Cursor) (bad : Bad) → read_shape (datum_shape t l.number) here ≡ Err bad
+    → AreData t postings l start points end → Follows t postings l start count last here → count < data_count t l.number → ⊥
+never_unread t postings l start points end count last here bad read all h lt = go (Follows-again t postings l start points end count last here all h lt)
+  where
+    go : ((s : Record) × (to : Cursor) × (datum_at t l (wanted t postings l (suc count)) start.place last here ≡ Ok (s, to))) → ⊥
+    go (s, to, e) = err_is_not_ok (sym read ∙ record_at-was (datum_shape t l.number) _ here s to e)
+
+-- what is asked of the datum by numbers that are equal
+pub datum_at-as : (t : Term) (l : Level) (v w : Wanted) (m n : ℕ) (last : Point) (here : Cursor) → w ≡ v → m ≡ n → datum_at t l v m last here ≡ datum_at t l w n last here
+datum_at-as t l v w m n last here e f = ap (λ (u : Wanted). datum_at t l u m last here) (sym e) ∙ ap (λ (k : ℕ). datum_at t l w k last here) f

@@ -180,3 +180,8 @@ pub record AreData (t : Term) (postings : List Posting) (l : Level) (start : Cur
   pub along : Along
   pub reads : read_plan (level_data t postings l) start ≡ Ok (along, end)
   pub points_are : along.points ≡ points
+
+-- what reading a datum again shows, where all of its level are good
+pub record Passes (t : Term) (postings : List Posting) (l : Level) (start : Cursor) (points : List Point) (count : ℕ) (p : Point) (next : Cursor) : Type 0 where
+  pub follows : Follows t postings l start (count + 1) p next
+  pub point : slice_index_or points count no_point ≡ p

@@ -4,6 +4,7 @@
 mod datum;
 mod entries;
 mod entry;
+mod following;
 mod passing;
 mod rules;
 

@@ -6,7 +6,7 @@ use Rattle.lu_grammar.specs.Records.{Condition}
 use Rattle.lu_grammar.specs.Plans.{Plan, Kind, times, Broken, read_plan}
 use Rattle.freq_skips.specs.declared.rules.Term.{Term}
 use Rattle.freq_skips.specs.declared.entry.Entry.{Entry}
-use Rattle.freq_skips.specs.Records.{Record, entry, level_length, datum, entry_shape}
+use Rattle.freq_skips.specs.Records.{Record, delta_of, stated_of, entry_shape}
 
 -- a document that has the term: its number, how often the term stands in it, the document of the entry before (0 for the first), and the place where the entry starts
 pub record Posting : Type 0 where
@@ -38,9 +38,7 @@ frequency (Some n) = n
 
 -- the posting of an entry that stands at a place, after a document
 abbrev pub posting_of : Term → ℕ → ℕ → Record → Posting
-posting_of t last place (entry delta stated) = record { doc = last + gap t delta; freq = frequency stated; before = last; place = place }
-posting_of t last place (level_length n) = no_posting
-posting_of t last place (datum d) = no_posting
+posting_of t last place r = record { doc = last + gap t (delta_of r); freq = frequency (stated_of r); before = last; place = place }
 
 -- a frequency is stated and below 2
 abbrev pub is_low : Option ℕ → Bool
@@ -49,14 +47,12 @@ is_low (Some n) = nat_lt n 2
 
 -- what is asked of an entry at a place, the first of its term or not, after a document
 abbrev pub entry_conditions : Term → Bool → ℕ → ℕ → Record → List Condition
-entry_conditions t first last place (entry delta stated) =
+entry_conditions t first last place r =
     (record { rule = FREQ_START; broken = first && not (place == t.info.freq) })
-    ∷ (record { rule = DOC_ORDER; broken = not first && (gap t delta == 0) })
-    ∷ (record { rule = DOC_RANGE; broken = nat_le t.rules.documents (last + gap t delta) })
-    ∷ (record { rule = FREQ; broken = is_low stated })
+    ∷ (record { rule = DOC_ORDER; broken = not first && (gap t (delta_of r) == 0) })
+    ∷ (record { rule = DOC_RANGE; broken = nat_le t.rules.documents (last + gap t (delta_of r)) })
+    ∷ (record { rule = FREQ; broken = is_low (stated_of r) })
     ∷ []
-entry_conditions t first last place (level_length n) = []
-entry_conditions t first last place (datum d) = []
 
 -- the entries so far with one more
 abbrev pub with_posting : Passed → Posting → Passed

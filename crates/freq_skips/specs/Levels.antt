@@ -9,7 +9,7 @@ use Rattle.freq_skips.specs.declared.rules.Term.{Term}
 use Rattle.freq_skips.specs.declared.datum.Skip.{Skip}
 use Rattle.freq_skips.specs.declared.datum.Wanted.{Wanted}
 use Rattle.freq_skips.specs.declared.datum.Point.{Point}
-use Rattle.freq_skips.specs.Records.{Record, entry, level_length, datum, length_shape, datum_shape, length_to_child, datum_length}
+use Rattle.freq_skips.specs.Records.{Record, length_of, skip_of, length_shape, datum_shape, length_to_child, datum_length}
 use Rattle.freq_skips.specs.Entries.{Posting, no_posting}
 
 -- the greatest number up to the most for which the power of the base is at most n, or 0
@@ -93,16 +93,14 @@ wanted t postings l m = record {
 
 -- what is asked of a datum, of which this is wanted, in a level that starts there, after a point, at a place
 abbrev pub datum_conditions : Term → Wanted → ℕ → Point → ℕ → Record → List Condition
-datum_conditions t w start last place (datum d) =
+datum_conditions t w start last place r =
     (skip_start t w.first place)
-    ∷ (record { rule = SKIP_DOC; broken = not (last.doc + skipped t d.doc == w.doc) })
-    ∷ (record { rule = SKIP_FREQ; broken = not (last.freq + d.freq == w.freq) })
-    ∷ (record { rule = SKIP_OMIT; broken = t.rules.omit_tf && not (d.prox == 0) })
-    ∷ (record { rule = SKIP_CHILD; broken = differs w.child (place + length_to_child d - start) })
-    ∷ (record { rule = SKIP_LENGTH; broken = differs w.size (place + datum_length d - start) })
+    ∷ (record { rule = SKIP_DOC; broken = not (last.doc + skipped t (skip_of r).doc == w.doc) })
+    ∷ (record { rule = SKIP_FREQ; broken = not (last.freq + (skip_of r).freq == w.freq) })
+    ∷ (record { rule = SKIP_OMIT; broken = t.rules.omit_tf && not ((skip_of r).prox == 0) })
+    ∷ (record { rule = SKIP_CHILD; broken = differs w.child (place + length_to_child (skip_of r) - start) })
+    ∷ (record { rule = SKIP_LENGTH; broken = differs w.size (place + datum_length (skip_of r) - start) })
     ∷ []
-datum_conditions t w start last place (entry delta stated) = []
-datum_conditions t w start last place (level_length n) = []
 
 -- a number that may be there, or else another
 abbrev pub number_or : ℕ → Option ℕ → ℕ
@@ -111,16 +109,14 @@ number_or n (Some m) = m
 
 -- where a datum leads
 abbrev pub point_of : Term → Point → ℕ → Record → Point
-point_of t last place (datum d) = record {
-  doc = last.doc + skipped t d.doc;
-  freq = last.freq + d.freq;
-  prox = last.prox + d.prox;
-  payload = number_or last.payload d.payload;
-  child = number_or 0 d.child;
+point_of t last place r = record {
+  doc = last.doc + skipped t (skip_of r).doc;
+  freq = last.freq + (skip_of r).freq;
+  prox = last.prox + (skip_of r).prox;
+  payload = number_or last.payload (skip_of r).payload;
+  child = number_or 0 (skip_of r).child;
   place = place;
 }
-point_of t last place (entry delta stated) = no_point
-point_of t last place (level_length n) = no_point
 
 -- the data so far with one more
 abbrev pub with_point : Along → Point → Along
@@ -141,12 +137,6 @@ level_data t postings l = times (datum_kind t postings l) (data_count t l.number
 abbrev pub length_conditions : Term → Level → ℕ → Record → List Condition
 length_conditions t l place r = skip_start t (length l.above == 0) place ∷ []
 
--- the length that stands in a record
-abbrev pub stated_length : Record → ℕ
-stated_length (level_length n) = n
-stated_length (entry delta stated) = 0
-stated_length (datum d) = 0
-
 abbrev pub level_of : ℕ → Option ℕ → List (List Point) → Level
 level_of number stated above = record { number = number; stated = stated; above = above }
 
@@ -154,7 +144,7 @@ level_of number stated above = record { number = number; stated = stated; above 
 abbrev pub level_plan : Term → List Posting → ℕ → List (List Point) → Plan Along Record
 level_plan t postings zero above = level_data t postings (level_of 0 None above)
 level_plan t postings (suc n) above = due length_shape (length_conditions t (level_of (suc n) None above))
-    (λ place r. level_data t postings (level_of (suc n) (Some (stated_length r)) above))
+    (λ place r. level_data t postings (level_of (suc n) (Some (length_of r)) above))
 
 -- so many levels from the highest down, after those above, the nearest first
 unfoldable pub levels : Term → List Posting → ℕ → List (List Point) → Plan (List (List Point)) Record

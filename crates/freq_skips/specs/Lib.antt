@@ -2,3 +2,4 @@ pub mod Records
 pub mod Entries
 pub mod Levels
 pub mod Terms
+pub mod Walking

@@ -13,6 +13,34 @@ pub data Record : Type 0 where
   level_length : ℕ → Record
   datum : Skip → Record
 
+-- the delta of an entry
+abbrev pub delta_of : Record → ℕ
+delta_of (entry delta stated) = delta
+delta_of (level_length n) = 0
+delta_of (datum d) = 0
+
+-- its frequency, where that is stated
+abbrev pub stated_of : Record → Option ℕ
+stated_of (entry delta stated) = stated
+stated_of (level_length n) = None
+stated_of (datum d) = None
+
+-- the length of a level
+abbrev pub length_of : Record → ℕ
+length_of (entry delta stated) = 0
+length_of (level_length n) = n
+length_of (datum d) = 0
+
+-- nothing skipped
+abbrev pub no_skip : Skip
+no_skip = record { doc = 0; payload = None; freq = 0; prox = 0; child = None }
+
+-- a skip datum
+abbrev pub skip_of : Record → Skip
+skip_of (entry delta stated) = no_skip
+skip_of (level_length n) = no_skip
+skip_of (datum d) = d
+
 -- one part by itself
 abbrev pub alone : (p : Part) → Shape (Value p)
 alone p = part p (λ v. whole v)

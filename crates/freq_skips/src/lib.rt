@@ -5,6 +5,7 @@ mod datum;
 mod entries;
 mod entry;
 mod following;
+mod level;
 mod passing;
 mod rules;
 

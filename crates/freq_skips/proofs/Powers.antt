@@ -1,0 +1,72 @@
+-- Powers of the skip interval, and quotients by it.
+use Rattle.std.proofs.Common.{◌≡◌, ◌≢◌, ℕ, zero, suc, add-one, ◌+◌, ◌*◌, ◌/◌, ◌%◌, ◌^◌, ◌<◌, ◌≤◌, ◌⊎◌, inl, inr, true, false, refl, sym, ap, subst, ◌∙◌, arith}
+use Rattle.std.specs.Prelude.{nat_le}
+use Rattle.std.proofs.lemmas.Bool.{cases_eq, cases_lt}
+use Rattle.std.proofs.lemmas.Bool.Decides.{nat_tests}
+use Rattle.std.proofs.lemmas.Nat.{div-add-mod', mul-lt}
+use Rattle.std.proofs.Math.Nat.{pow-le-pow_right, pow-suc, one-le-pow, div-eq_of_lt-le, div-div-eq-div-mul, le-div_iff_mul-le, div-mul-le_self, div-lt_iff_lt-mul, mod-lt}
+use Rattle.freq_skips.specs.Levels.{greatest_power}
+
+if_low : (base n k : ℕ) → base ^ suc k ≤ n → greatest_power base n (suc k) ≡ suc k
+unfolding greatest_power
+if_low base n k le = let e : nat_le (base ^ suc k) n ≡ true = grind (arith, nat_tests) in rw e refl
+
+if_high : (base n k : ℕ) → n < base ^ suc k → greatest_power base n (suc k) ≡ greatest_power base n k
+unfolding greatest_power
+if_high base n k lt = let e : nat_le (base ^ suc k) n ≡ false = grind (arith, nat_tests) in rw e refl
+
+-- the power up to which all are low, and from which on all are high
+pub greatest_power-is : (base n most count : ℕ) → 0 < base → count ≤ most → ((count ≡ 0) ⊎ (base ^ count ≤ n)) → ((count ≡ most) ⊎ (n < base ^ suc count)) → greatest_power base n most ≡ count
+unfolding greatest_power
+greatest_power-is base n zero count pos le low high = omega arith
+greatest_power-is base n (suc k) count pos le low high = elim (cases_eq count (suc k)) [
+    | inl e ↦ elim low [
+      | inl none ↦ absurd (omega arith)
+      | inr lo ↦ if_low base n k (subst (λ (c : ℕ). base ^ c ≤ n) e lo) ∙ sym e
+    ]
+    | inr ne ↦ elim high [
+      | inl e ↦ absurd (ne e)
+      | inr hi ↦
+          let up : base ^ suc count ≤ base ^ suc k = pow-le-pow_right pos (omega arith) in
+          if_high base n k (omega arith) ∙ greatest_power-is base n k count pos (omega arith) low (inr hi)
+    ]
+  ]
+
+-- the next quotient is one more only at a multiple
+pub quotient-next : (k s : ℕ) → 0 < s → (k + 1) % s ≡ 0 → suc k / s ≡ k / s + 1
+quotient-next k s pos e = go ((k + 1) / s) refl (div-add-mod' (k + 1) s)
+  where
+    go : (q : ℕ) → (k + 1) / s ≡ q → (k + 1) / s * s + (k + 1) % s ≡ k + 1 → suc k / s ≡ k / s + 1
+    go zero is all = let z : (k + 1) / s * s ≡ zero * s = ap (λ (n : ℕ). n * s) is in absurd (omega arith)
+    go (suc p) is all =
+        let z : (k + 1) / s * s ≡ suc p * s = ap (λ (n : ℕ). n * s) is in
+        let below : k / s ≡ p = div-eq_of_lt-le s (omega arith) (omega arith) in
+        ap (λ (n : ℕ). n / s) (sym (add-one k)) ∙ is ∙ (omega arith)
+
+pub quotient-same : (k s : ℕ) → 0 < s → (k + 1) % s ≢ 0 → suc k / s ≡ k / s
+quotient-same k s pos ne = go ((k + 1) / s) refl (div-add-mod' (k + 1) s) (mod-lt (k + 1) pos)
+  where
+    go : (q : ℕ) → (k + 1) / s ≡ q → (k + 1) / s * s + (k + 1) % s ≡ k + 1 → (k + 1) % s < s → suc k / s ≡ k / s
+    go q is all lt =
+        let z : (k + 1) / s * s ≡ q * s = ap (λ (n : ℕ). n * s) is in
+        let here : k / s ≡ q = div-eq_of_lt-le s (omega arith) (omega arith) in
+        ap (λ (n : ℕ). n / s) (sym (add-one k)) ∙ is ∙ sym here
+
+-- where the next number is a multiple of s, and is not above D, its quotient is not above that of D
+pub quotient-below : (k s D : ℕ) → 0 < s → (k + 1) % s ≡ 0 → k < D → k / s < D / s
+quotient-below k s D pos e lt =
+    let next = quotient-next k s pos e in
+    let whole = div-mul-le_self (suc k) s in
+    let step = ap (λ (n : ℕ). n * s) next in
+    let up : (k / s + 1) * s ≤ D = omega arith in
+    let le : k / s + 1 ≤ D / s = (le-div_iff_mul-le pos).1 up in
+    omega arith
+
+-- a power above the quotient is, with one factor more, above the number
+pub power-high : (base n count power : ℕ) → 0 < base → power ≡ base ^ count → n / base < power → n < base ^ suc count
+power-high base n count power pos is lt =
+    let up = (div-lt_iff_lt-mul pos).0 lt in
+    subst (λ (k : ℕ). n < k) (ap (λ (p : ℕ). p * base) is ∙ sym (pow-suc base count)) up
+
+pub power-low : (base n count power : ℕ) → power ≡ base ^ count → (count ≡ 0) ⊎ (power ≤ n) → (count ≡ 0) ⊎ (base ^ count ≤ n)
+power-low base n count power is low = subst (λ (p : ℕ). (count ≡ 0) ⊎ (p ≤ n)) is low

@@ -1,0 +1,42 @@
+-- What the walks of the check keep: where they stand in the level above.
+use Rattle.std.specs.Prelude.{◌≡◌, ◌≤◌, ◌<◌, ◌^◌, ℕ, ◌/◌, List, [], ◌∷◌, Option, Some, None}
+use Rattle.lu_grammar.specs.Bytes.{Cursor}
+use Rattle.freq_skips.specs.declared.rules.Term.{Term}
+use Rattle.freq_skips.specs.declared.datum.Point.{Point}
+use Rattle.freq_skips.specs.declared.following.Following.{Following}
+use Rattle.freq_skips.specs.Entries.{Posting}
+use Rattle.freq_skips.specs.Levels.{level_of, Follows, AreData, IsSmall}
+use Rattle.freq_skips.specs.Terms.{place_in}
+
+-- a walk along a level whose data are good has passed one for every so many data of the level below
+pub record FollowsPoints (t : Term) (postings : List Posting) (level : ℕ) (points : List Point) (rest : List (List Point)) (passed : ℕ) (f : Following) : Type 0 where
+  pub stated : Option ℕ
+  pub begin : Cursor
+  pub end : Cursor
+  pub all : AreData t postings (level_of level stated rest) begin points end
+  pub follows : Follows t postings (level_of level stated rest) begin f.count f.last f.cur
+  pub number : f.count ≡ passed / t.rules.skip_interval
+
+-- the walk along the level above, where there is one
+abbrev pub FollowsAbove : Term → List Posting → ℕ → List (List Point) → ℕ → Option Following → Type 0
+FollowsAbove t postings level [] passed None = Unit {0}
+FollowsAbove t postings level [] passed (Some f) = ⊥
+FollowsAbove t postings level (points ∷ rest) passed None = ⊥
+FollowsAbove t postings level (points ∷ rest) passed (Some f) = FollowsPoints t postings level points rest passed f
+
+-- its sums are small
+abbrev pub IsSmallAbove : ℕ → Option Following → Type 0
+IsSmallAbove passed None = Unit {0}
+IsSmallAbove passed (Some f) = IsSmall f.count f.last × (f.count ≤ passed)
+
+-- the data of the level above start here and are good, where there is one
+pub record StandPoints (t : Term) (postings : List Posting) (level : ℕ) (points : List Point) (rest : List (List Point)) (frq : List ℕ) (place : ℕ) : Type 0 where
+  pub stated : Option ℕ
+  pub end : Cursor
+  pub all : AreData t postings (level_of level stated rest) (place_in frq place) points end
+
+abbrev pub StandAbove : Term → List Posting → ℕ → List (List Point) → List ℕ → Option ℕ → Type 0
+StandAbove t postings level [] frq None = Unit {0}
+StandAbove t postings level [] frq (Some place) = ⊥
+StandAbove t postings level (points ∷ rest) frq None = ⊥
+StandAbove t postings level (points ∷ rest) frq (Some place) = StandPoints t postings level points rest frq place

@@ -1,15 +1,18 @@
 -- The walk along the level above.
 use Rattle.std.proofs.Common.{◌≡◌, ◌≢◌, ℕ, suc, add-one, sub-one, ◌+◌, ◌-◌, ◌*◌, ◌/◌, ◌%◌, ◌^◌, ◌<◌, ◌≤◌, eqb, true, false, List, [], ◌∷◌, length, Option, Some, None, refl, sym, ap, subst, ◌∙◌, arith}
+use Rattle.std.specs.Option.{option_map}
 use Rattle.std.specs.Prelude.{slice_index_or, if◌then◌else◌}
 use Rattle.std.proofs.lemmas.Bool.{eq-eqb, ne_eqb}
-use Rattle.std.proofs.Math.Nat.{pow-suc, div-div-eq-div-mul}
+use Rattle.std.proofs.Math.Nat.{pow-suc, div-div-eq-div-mul, zero-div}
 use Rattle.lu_grammar.specs.Bytes.{Cursor}
 use Rattle.freq_skips.specs.declared.rules.Term.{Term}
 use Rattle.freq_skips.specs.declared.datum.Point.{Point}
 use Rattle.freq_skips.specs.declared.following.Following.{Following}
 use Rattle.freq_skips.specs.Entries.{Posting}
 use Rattle.freq_skips.specs.Levels.{no_point, level_of, child_above, data_count, stride, Follows, AreData, Passes}
-use Rattle.freq_skips.specs.Walking.{FollowsPoints, FollowsAbove}
+use Rattle.freq_skips.specs.Terms.{place_in}
+use Rattle.freq_skips.specs.Walking.{FollowsPoints, FollowsAbove, IsSmallAbove, StandAbove}
+use Rattle.freq_skips.proofs.LevelLemmas.{Follows-none}
 use Rattle.freq_skips.proofs.Powers.{quotient-next, quotient-same, quotient-below}
 
 -- a level has as many data as the one below has multiples of the interval
@@ -49,19 +52,46 @@ above-passes t postings level n points passed o f g is at two e lt takes h = go 
   where
     s : ℕ
     s = t.rules.skip_interval
+
     go : (points : List (List Point)) → FollowsAbove t postings level points passed (Some f) → (Some g.last.child ≡ child_above t points (suc passed)) × FollowsAbove t postings level points (suc passed) (Some g)
     go [] h = absurd h
     go (ps ∷ rest) h =
         let test : eqb (suc passed % t.rules.skip_interval) 0 ≡ true = eq-eqb _ _ (ap (λ (n : ℕ). n % t.rules.skip_interval) (sym (add-one passed)) ∙ e) in
         let taken = takes h.stated rest h.begin ps h.end h.all h.follows (above-has t postings level n ps rest passed f at two e lt h) in
         let next = quotient-next passed t.rules.skip_interval (omega arith) e in
-        let index : suc passed / t.rules.skip_interval - 1 ≡ f.count = omega (arith, next, h.number) in
-        (rw test (ap (λ (p : Point). Some p.child) (sym taken.0.point) ∙ ap (λ (k : ℕ). Some (slice_index_or ps k no_point).child) (sym index)),
-         record {
-           stated = h.stated;
-           begin = h.begin;
-           end = h.end;
-           all = h.all;
-           follows = subst (λ (k : ℕ). Follows t postings (level_of level h.stated rest) h.begin k g.last g.cur) (sym taken.1) taken.0.follows;
-           number = omega (arith, next, h.number, taken.1);
-         })
+        let index : suc passed / t.rules.skip_interval - 1 ≡ f.count = omega (arith, next, h.number) in (
+          rw test (ap (λ (p : Point). Some p.child) (sym taken.0.point) ∙ ap (λ (k : ℕ). Some (slice_index_or ps k no_point).child) (sym index)),
+          record {
+            stated = h.stated;
+            begin = h.begin;
+            end = h.end;
+            all = h.all;
+            follows = subst (λ (k : ℕ). Follows t postings (level_of level h.stated rest) h.begin k g.last g.cur) (sym taken.1) taken.0.follows;
+            number = omega (arith, next, h.number, taken.1);
+          },
+        )
+
+-- before the first datum
+pub above-starts : (t : Term) (postings : List Posting) (level : ℕ) (points : List (List Point)) (frq : List ℕ) (o : Option ℕ) (r : Option Following)
+    → r ≡ option_map (λ place. record { cur = place_in frq place; count = 0; last = no_point }) o → StandAbove t postings level points frq o → FollowsAbove t postings level points 0 r
+above-starts t postings level points frq o r is h = subst (λ (x : Option Following). FollowsAbove t postings level points 0 x) (sym is) (go points o h)
+  where
+    go : (points : List (List Point)) (o : Option ℕ) → StandAbove t postings level points frq o → FollowsAbove t postings level points 0 (option_map (λ place. record { cur = place_in frq place; count = 0; last = no_point }) o)
+    go [] None h = tt
+    go [] (Some place) h = absurd h
+    go (ps ∷ rest) None h = absurd h
+    go (ps ∷ rest) (Some place) h = record {
+      stated = h.stated;
+      begin = place_in frq place;
+      end = h.end;
+      all = h.all;
+      follows = Follows-none t postings (level_of level h.stated rest) (place_in frq place);
+      number = sym (zero-div t.rules.skip_interval);
+    }
+
+pub above-small : (o : Option ℕ) (frq : List ℕ) (r : Option Following) → r ≡ option_map (λ place. record { cur = place_in frq place; count = 0; last = no_point }) o → IsSmallAbove 0 r
+above-small o frq r is = subst (λ (x : Option Following). IsSmallAbove 0 x) (sym is) (go o)
+  where
+    go : (o : Option ℕ) → IsSmallAbove 0 (option_map (λ place. record { cur = place_in frq place; count = 0; last = no_point }) o)
+    go None = tt
+    go (Some place) = (record { doc = omega arith; freq = omega arith; prox = omega arith }, omega arith)

@@ -15,7 +15,7 @@ use Rattle.freq_skips.specs.declared.datum.Point.{Point}
 use Rattle.freq_skips.specs.declared.datum.Wanted.{Wanted}
 use Rattle.freq_skips.specs.Records.{Record, datum_shape}
 use Rattle.freq_skips.specs.Entries.{Posting}
-use Rattle.freq_skips.specs.Levels.{Along, no_datum, no_point, Level, level_start, wanted, datum_conditions, point_of, datum_kind, data_count, level_data, Follows, AreData, Passes}
+use Rattle.freq_skips.specs.Levels.{Along, no_datum, no_point, Level, level_start, wanted, datum_conditions, point_of, datum_kind, data_count, level_data, Follows, AreData, AreGoodData, Passes}
 
 -- what is asked of the datum that stands next
 abbrev pub datum_at : Term → Level → Wanted → ℕ → Point → Cursor → Result (Record × Cursor) ℕ
@@ -100,6 +100,7 @@ record_at-was {R} shape conditions c r d e = go (read_shape shape c) e
     kept : (x : R × Cursor) (o : Option ℕ) → unless_broken x o ≡ ok_pair r d → ok_of {E = Bad} x ≡ Ok (r, d)
     kept x None h = let p = same_pair x.0 r x.1 d h in ap (λ (a : R). ok_pair {E = Bad} a x.1) p.0 ∙ ap (λ (b : Cursor). ok_pair r b) p.1
     kept x (Some rule) h = absurd (err_is_not_ok h)
+
     go : (x : Result (R × Cursor) Bad) → judged conditions x ≡ ok_pair r d → x ≡ Ok (r, d)
     go (Ok x) h = kept x (first_broken (conditions x.0)) h
     go (Err bad) h = absurd (err_is_not_ok h)
@@ -130,3 +131,7 @@ never_unread t postings l start points end count last here bad read all h lt = g
 -- what is asked of the datum by numbers that are equal
 pub datum_at-as : (t : Term) (l : Level) (v w : Wanted) (m n : ℕ) (last : Point) (here : Cursor) → w ≡ v → m ≡ n → datum_at t l v m last here ≡ datum_at t l w n last here
 datum_at-as t l v w m n last here e f = ap (λ (u : Wanted). datum_at t l u m last here) (sym e) ∙ ap (λ (k : ℕ). datum_at t l w k last here) f
+
+-- all data are read
+pub Follows-all : (t : Term) (postings : List Posting) (l : Level) (start : Cursor) (count : ℕ) (last : Point) (here : Cursor) → Follows t postings l start count last here → count ≡ data_count t l.number → AreGoodData t postings l start here
+Follows-all t postings l start count last here h all = record { along = h.along; reads = ap (λ (n : ℕ). read_plan (times (datum_kind t postings l) n no_datum) start) (sym all) ∙ h.reads }

@@ -1,5 +1,8 @@
 -- How far reading moves.
-use Rattle.std.proofs.Common.{◌≡◌, ℕ, ◌+◌, length, drop, List, Result, Ok, sym, ap, subst, ◌∙◌}
+use Rattle.std.proofs.Common.{◌≡◌, ℕ, ◌+◌, ◌≤◌, ◌++◌, length, drop, List, Result, Ok, sym, ap, subst, ◌∙◌, arith}
+use Rattle.std.proofs.lemmas.List.{length-append, length-drop, drop-drop}
+use Rattle.std.proofs.Math.Seq.{drop-append_seam}
+use Rattle.freq_skips.specs.Terms.{place_in}
 use Rattle.lu_grammar.specs.declared.bad.Bad.{Bad}
 use Rattle.lu_grammar.specs.Bytes.{IsBytes, Cursor, moved}
 use Rattle.lu_grammar.specs.Parts.{Part, Value, spelling}
@@ -26,3 +29,15 @@ read_part-place p c v d fits e = go (then_ok (read p c.rest) (λ x. ok_pair {E =
 pub IsBytes-after : {V R : Type 0} (plan : Plan V R) (c : Cursor) (v : V) (d : Cursor) → IsBytes c.rest → read_plan plan c ≡ Ok (v, d) → IsBytes d.rest
 IsBytes-after plan c v d fits e =
     let h = reads-read_plan plan c v d fits e in IsBytes-back (bytes_of h.records) c.rest d.rest h.front fits
+
+-- what follows in the bytes
+drop-front : (front more bs : List ℕ) (n : ℕ) → drop n bs ≡ front ++ more → n ≤ length bs → (more ≡ drop (n + length front) bs) × (n + length front ≤ length bs)
+drop-front front more bs n e le =
+    (sym (drop-append_seam front more) ∙ ap (drop (length front)) (sym e) ∙ drop-drop (length front) n bs, omega (arith, ap length e, length-drop n bs, length-append front more))
+
+-- the place behind what was read is a place in the bytes
+pub place_in-after : {V R : Type 0} (plan : Plan V R) (frq : List ℕ) (at : ℕ) (v : V) (d : Cursor) → IsBytes frq → at ≤ length frq → read_plan plan (place_in frq at) ≡ Ok (v, d) → (d ≡ place_in frq d.place) × (d.place ≤ length frq)
+place_in-after plan frq at v d fits le e =
+    let h = reads-read_plan plan (place_in frq at) v d (IsBytes-drop at frq fits) e in
+    let f = drop-front (bytes_of h.records) d.rest frq at h.front le in
+    (ap (λ (bs : List ℕ). record { place = d.place; rest = bs }) (f.0 ∙ ap (λ (n : ℕ). drop n frq) (sym h.place)), omega (arith, f.1, h.place))

@@ -1,10 +1,10 @@
 -- Powers of the skip interval, and quotients by it.
-use Rattle.std.proofs.Common.{◌≡◌, ◌≢◌, ℕ, zero, suc, add-one, ◌+◌, ◌*◌, ◌/◌, ◌%◌, ◌^◌, ◌<◌, ◌≤◌, ◌⊎◌, inl, inr, true, false, refl, sym, ap, subst, ◌∙◌, arith}
+use Rattle.std.proofs.Common.{◌≡◌, ◌≢◌, ℕ, zero, suc, add-one, ◌+◌, ◌-◌, ◌*◌, ◌/◌, ◌%◌, ◌^◌, ◌<◌, ◌≤◌, ◌⊎◌, inl, inr, true, false, refl, sym, ap, subst, ◌∙◌, arith}
 use Rattle.std.specs.Prelude.{nat_le}
 use Rattle.std.proofs.lemmas.Bool.{cases_eq, cases_lt}
 use Rattle.std.proofs.lemmas.Bool.Decides.{nat_tests}
 use Rattle.std.proofs.lemmas.Nat.{div-add-mod', mul-lt}
-use Rattle.std.proofs.Math.Nat.{pow-le-pow_right, pow-suc, one-le-pow, div-eq_of_lt-le, div-div-eq-div-mul, le-div_iff_mul-le, div-mul-le_self, div-lt_iff_lt-mul, mod-lt}
+use Rattle.std.proofs.Math.Nat.{pow-le-pow_right, pow-suc, one-le-pow, div-eq_of_lt-le, div-div-eq-div-mul, le-div_iff_mul-le, div-mul-le_self, div-lt_iff_lt-mul, mod-lt, mul-le-mul_left, mul_comm}
 use Rattle.freq_skips.specs.Levels.{greatest_power}
 
 if_low : (base n k : ℕ) → base ^ suc k ≤ n → greatest_power base n (suc k) ≡ suc k
@@ -20,17 +20,17 @@ pub greatest_power-is : (base n most count : ℕ) → 0 < base → count ≤ mos
 unfolding greatest_power
 greatest_power-is base n zero count pos le low high = omega arith
 greatest_power-is base n (suc k) count pos le low high = elim (cases_eq count (suc k)) [
-    | inl e ↦ elim low [
-      | inl none ↦ absurd (omega arith)
-      | inr lo ↦ if_low base n k (subst (λ (c : ℕ). base ^ c ≤ n) e lo) ∙ sym e
-    ]
-    | inr ne ↦ elim high [
-      | inl e ↦ absurd (ne e)
-      | inr hi ↦
-          let up : base ^ suc count ≤ base ^ suc k = pow-le-pow_right pos (omega arith) in
-          if_high base n k (omega arith) ∙ greatest_power-is base n k count pos (omega arith) low (inr hi)
-    ]
+  | inl e ↦ elim low [
+    | inl none ↦ absurd (omega arith)
+    | inr lo ↦ if_low base n k (subst (λ (c : ℕ). base ^ c ≤ n) e lo) ∙ sym e
   ]
+  | inr ne ↦ elim high [
+    | inl e ↦ absurd (ne e)
+    | inr hi ↦
+        let up : base ^ suc count ≤ base ^ suc k = pow-le-pow_right pos (omega arith) in
+        if_high base n k (omega arith) ∙ greatest_power-is base n k count pos (omega arith) low (inr hi)
+  ]
+]
 
 -- the next quotient is one more only at a multiple
 pub quotient-next : (k s : ℕ) → 0 < s → (k + 1) % s ≡ 0 → suc k / s ≡ k / s + 1
@@ -70,3 +70,20 @@ power-high base n count power pos is lt =
 
 pub power-low : (base n count power : ℕ) → power ≡ base ^ count → (count ≡ 0) ⊎ (power ≤ n) → (count ≡ 0) ⊎ (base ^ count ≤ n)
 power-low base n count power is low = subst (λ (p : ℕ). (count ≡ 0) ⊎ (p ≤ n)) is low
+
+pub power-pos : (base n : ℕ) → 2 ≤ base → 0 < base ^ n
+power-pos base n two = one-le-pow n base (omega arith)
+
+-- the next multiple of a stride is above all that were passed
+pub stride-next : (passed n stride index : ℕ) → 0 < stride → index ≡ suc passed * stride - 1 → n ≤ passed * stride → n ≤ index
+stride-next passed n stride index pos is le = omega arith
+
+pub stride-passed : (passed n stride index : ℕ) → index ≡ suc passed * stride - 1 → n ≡ index → n ≤ suc passed * stride
+stride-passed passed n stride index is same = omega arith
+
+-- a stride is at least 2
+pub stride-two : (base n : ℕ) → 2 ≤ base → 2 ≤ base ^ suc n
+stride-two base n two =
+    let one = power-pos base n two in
+    let up : base * 1 ≤ base ^ n * base = subst (λ (k : ℕ). base * 1 ≤ k) (mul_comm base (base ^ n)) (mul-le-mul_left base one) in
+    subst (λ (k : ℕ). 2 ≤ k) (sym (pow-suc base n)) (omega arith)

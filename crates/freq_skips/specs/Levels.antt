@@ -175,3 +175,8 @@ pub record AreData (t : Term) (postings : List Posting) (l : Level) (start : Cur
 pub record Passes (t : Term) (postings : List Posting) (l : Level) (start : Cursor) (points : List Point) (count : ℕ) (p : Point) (next : Cursor) : Type 0 where
   pub follows : Follows t postings l start (count + 1) p next
   pub point : slice_index_or points count no_point ≡ p
+
+-- all data of the level that starts here are good, and end there
+pub record AreGoodData (t : Term) (postings : List Posting) (l : Level) (start end : Cursor) : Type 0 where
+  pub along : Along
+  pub reads : read_plan (level_data t postings l) start ≡ Ok (along, end)

@@ -133,7 +133,16 @@ fn skips_positions(term: &Term, prox: u32) -> bool
 
 /// The first rule that a datum breaks, of which this is wanted, in a level that starts there, after a point; it stands at a
 /// place, and its child pointer and its end at others.
-fn datum_broken(term: &Term, wanted: &Wanted, start: usize, last: &Point, place: usize, skip: &Skip, child: usize, end: usize) -> Option<u16>
+fn datum_broken(
+    term: &Term,
+    wanted: &Wanted,
+    start: usize,
+    last: &Point,
+    place: usize,
+    skip: &Skip,
+    child: usize,
+    end: usize,
+) -> Option<u16>
     requires child_after { child ≡ place + length_to_child skip.now }
     requires end_after { end ≡ place + datum_length skip.now }
     requires start_before { start ≤ place }
@@ -204,7 +213,14 @@ fn point_after(term: &Term, last: &Point, place: usize, skip: &Skip) -> Point
 
 /// The datum that stands here, of which this is wanted, in a level that starts there, after a point; or the first rule that
 /// it breaks.
-pub fn next_datum(cur: &mut Cur<'_>, term: &Term, level: u32, wanted: &Wanted, start: usize, last: &Point) -> Result<Point, u16>
+pub fn next_datum(
+    cur: &mut Cur<'_>,
+    term: &Term,
+    level: u32,
+    wanted: &Wanted,
+    start: usize,
+    last: &Point,
+) -> Result<Point, u16>
     requires bytes { IsBytes cur.old.rest }
     requires start_before { start ≤ cur.old.place }
     requires doc_small { last.now.doc < 2 ^ 63 }
@@ -212,7 +228,7 @@ pub fn next_datum(cur: &mut Cur<'_>, term: &Term, level: u32, wanted: &Wanted, s
     requires prox_small { last.now.prox < 2 ^ 63 }
     ensures read { MatchResult result
         (λ point. (r : Record) × (record_at (datum_shape term.now level) (datum_conditions term.now wanted.now start last.now cur.old.place) cur.old ≡ Ok (r, cur.new))
-            × (point_of term.now last.now cur.old.place r ≡ point))
+        × (point_of term.now last.now cur.old.place r ≡ point))
         (λ rule. record_at (datum_shape term.now level) (datum_conditions term.now wanted.now start last.now cur.old.place) cur.old ≡ Err rule) }
     ensures bytes { IfOk result (λ point. IsBytes cur.new.rest × (cur.old.place ≤ cur.new.place)) }
     ensures point { IfOk result (λ point. (point.place ≡ cur.old.place) × (point.doc ≤ last.now.doc + 2 ^ 32) × (point.freq ≤ last.now.freq + 2 ^ 32) × (point.prox ≤ last.now.prox + 2 ^ 32)) }

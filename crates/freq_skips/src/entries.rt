@@ -30,13 +30,11 @@ impl<'a> Model for Entries<'a> {
 
     ghost view = { λ e. drop e.passing.index (entries_from e.term (place_in e.frq.now e.term.info.freq)) };
 
-    ghost invariant = {
-        λ e. record {
-            all : AreGoodFrom e.term (place_in e.frq.now e.term.info.freq);
-            stands : Stands e.term (place_in e.frq.now e.term.info.freq) e.passing.index e.passing.doc e.passing.cur;
-            within : e.passing.index ≤ e.term.info.doc_freq;
-        }
-    };
+    ghost invariant = { λ e. record {
+      all : AreGoodFrom e.term (place_in e.frq.now e.term.info.freq);
+      stands : Stands e.term (place_in e.frq.now e.term.info.freq) e.passing.index e.passing.doc e.passing.cur;
+      within : e.passing.index ≤ e.term.info.doc_freq;
+    } };
 }
 
 impl<'a> Entries<'a> {
@@ -53,7 +51,11 @@ impl<'a> Entries<'a> {
         Entries {
             frq,
             term,
-            passing: Passing { cur, index: 0, doc: 0 },
+            passing: Passing {
+                cur,
+                index: 0,
+                doc: 0,
+            },
         }
     }
 

@@ -8,7 +8,9 @@ ghost use Rattle.freq_skips.specs.Entries.{entry_conditions, gap as gap_of, post
 
 use crate::rules::Term;
 use lu_prims::{Bad, Cur};
-use lu_types::rules::{DOC_ORDER, DOC_RANGE, ENDS, FREQ, FREQ_START, LONG_NUMBER, NOT_UTF8, TOO_GREAT};
+use lu_types::rules::{
+    DOC_ORDER, DOC_RANGE, ENDS, FREQ, FREQ_START, LONG_NUMBER, NOT_UTF8, TOO_GREAT,
+};
 
 /// A document that has the term, and how often the term stands in it.
 #[derive(Clone, Copy, Debug, PartialEq, Eq)]
@@ -99,7 +101,14 @@ fn repeats(first: bool, gap: u32) -> bool
 }
 
 /// The first rule that an entry breaks at a place, after the document of the entry before.
-fn entry_broken(term: &Term, first: bool, last: u32, place: usize, delta: u32, stated: Option<u32>) -> Option<u16>
+fn entry_broken(
+    term: &Term,
+    first: bool,
+    last: u32,
+    place: usize,
+    delta: u32,
+    stated: Option<u32>,
+) -> Option<u16>
     ensures broken { result ≡ first_broken (entry_conditions term.now first last place (entry delta stated)) }
     ensures below { result ≡ None → last + gap_of term.now delta < 2 ^ 32 }
 {
@@ -136,7 +145,7 @@ pub fn rule_of_bad(bad: Bad) -> u16
 pub fn next_entry(cur: &mut Cur<'_>, term: &Term, first: bool, last: u32) -> Result<Entry, u16>
     ensures { MatchResult result
         (λ e. (r : Record) × (record_at (entry_shape term.now) (entry_conditions term.now first last cur.old.place) cur.old ≡ Ok (r, cur.new))
-            × (posting_of term.now last cur.old.place r ≡ record { doc = e.doc; freq = e.freq; before = last; place = cur.old.place }))
+        × (posting_of term.now last cur.old.place r ≡ record { doc = e.doc; freq = e.freq; before = last; place = cur.old.place }))
         (λ rule. record_at (entry_shape term.now) (entry_conditions term.now first last cur.old.place) cur.old ≡ Err rule) }
 {
     let place = cur.place();

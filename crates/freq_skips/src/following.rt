@@ -1,9 +1,9 @@
 //! A place among the data of a skip level, from which they are read one after another.
-ghost use Rattle.std.specs.Prelude.{◌≡◌, ℕ, suc, ◌+◌, ◌^◌, ◌<◌, ◌≤◌, List, Option, slice_index_or, OnOk, MatchResult, Ok, Err};
+ghost use Rattle.std.specs.Prelude.{◌≡◌, ℕ, suc, ◌+◌, ◌^◌, ◌<◌, ◌≤◌, List, Option, OnOk, MatchResult, Ok, Err};
 ghost use Rattle.lu_grammar.specs.Bytes.{IsBytes, Cursor};
 ghost use Rattle.lu_grammar.specs.Plans.{read_plan};
 ghost use Rattle.freq_skips.specs.Entries.{Posting};
-ghost use Rattle.freq_skips.specs.Levels.{no_point, level_of, wanted as is_wanted, data_count, level_data, Follows, AreData, Passes, IsSmall};
+ghost use Rattle.freq_skips.specs.Levels.{level_of, wanted as is_wanted, data_count, level_data, Follows, AreData, Passes, IsSmall};
 
 use crate::datum::{Point, Wanted, good_datum, next_datum};
 use crate::rules::Term;
@@ -18,7 +18,7 @@ pub struct Following<'a> {
 }
 
 /// Before the first datum.
-const NO_POINT: Point = Point {
+pub const NO_POINT: Point = Point {
     doc: 0,
     freq: 0,
     prox: 0,
@@ -28,19 +28,14 @@ const NO_POINT: Point = Point {
 };
 
 impl<'a> Following<'a> {
-    /// Before the first datum of a level.
-    pub fn start(cur: Cur<'a>) -> Following<'a>
-        ensures { result ≡ record { cur = cur.entry; count = 0; last = no_point } }
-    {
-        Following {
-            cur,
-            count: 0,
-            last: NO_POINT,
-        }
-    }
-
     /// Takes one datum more, of which this is wanted, in a level that starts there; or tells the first rule that it breaks.
-    pub fn check_next(&mut self, term: &Term, level: u32, wanted: &Wanted, start: usize) -> Result<(), u16>
+    pub fn check_next(
+        &mut self,
+        term: &Term,
+        level: u32,
+        wanted: &Wanted,
+        start: usize,
+    ) -> Result<(), u16>
         requires bytes { IsBytes self.old.cur.rest }
         requires start_before { start ≤ self.old.cur.place }
         requires small { IsSmall self.old.count self.old.last }
@@ -50,13 +45,13 @@ impl<'a> Following<'a> {
         ensures count { OnOk result (self.new.count ≡ self.old.count + 1) }
         ensures goes_on { MatchResult result
             (λ _. (postings : List Posting) (stated : Option ℕ) (above : List (List Point)) (begin : Cursor)
-                → begin.place ≡ start → wanted.now ≡ is_wanted term.now postings (level_of level stated above) (suc self.old.count)
-                → Follows term.now postings (level_of level stated above) begin self.old.count self.old.last self.old.cur
-                → Follows term.now postings (level_of level stated above) begin self.new.count self.new.last self.new.cur)
+            → begin.place ≡ start → wanted.now ≡ is_wanted term.now postings (level_of level stated above) (suc self.old.count)
+            → Follows term.now postings (level_of level stated above) begin self.old.count self.old.last self.old.cur
+            → Follows term.now postings (level_of level stated above) begin self.new.count self.new.last self.new.cur)
             (λ rule. (postings : List Posting) (stated : Option ℕ) (above : List (List Point)) (begin : Cursor)
-                → begin.place ≡ start → wanted.now ≡ is_wanted term.now postings (level_of level stated above) (suc self.old.count)
-                → Follows term.now postings (level_of level stated above) begin self.old.count self.old.last self.old.cur → self.old.count < data_count term.now level
-                → read_plan (level_data term.now postings (level_of level stated above)) begin ≡ Err (record { offset = self.old.cur.place; rule = rule })) }
+            → begin.place ≡ start → wanted.now ≡ is_wanted term.now postings (level_of level stated above) (suc self.old.count)
+            → Follows term.now postings (level_of level stated above) begin self.old.count self.old.last self.old.cur → self.old.count < data_count term.now level
+            → read_plan (level_data term.now postings (level_of level stated above)) begin ≡ Err (record { offset = self.old.cur.place; rule = rule })) }
     {
         match next_datum(&mut self.cur, term, level, wanted, start, &self.last) {
             Err(rule) => Err(rule),

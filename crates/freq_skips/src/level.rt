@@ -1,16 +1,17 @@
 //! The skip levels of a term, from the highest down.
-ghost use Rattle.std.specs.Prelude.{◌≡◌, ℕ, suc, ◌+◌, ◌-◌, ◌*◌, ◌/◌, ◌^◌, ◌<◌, ◌≤◌, ◌⊎◌, List, [], ◌∷◌, Option, length, None, ◌==◌, ◌&&◌, if◌then◌else◌, IfOk, OnOk, MatchResult, Ok, Err};
+ghost use Rattle.std.specs.Prelude.{◌≡◌, ℕ, suc, ◌+◌, ◌-◌, ◌*◌, ◌/◌, ◌^◌, ◌<◌, ◌≤◌, ◌⊎◌, List, [], ◌∷◌, Option, length, None, ◌==◌, ◌&&◌, if◌then◌else◌, IfOk, IfSome, OnOk, MatchResult, Ok, Err};
 ghost use Rattle.lu_grammar.specs.Bytes.{IsBytes, Cursor};
 ghost use Rattle.lu_grammar.specs.Plans.{read_plan};
 ghost use Rattle.lu_types.specs.declared.kind.FileKind.TheVariants.{Frq};
 ghost use Rattle.freq_skips.specs.declared.datum.Point.{Point};
 ghost use Rattle.freq_skips.specs.Entries.{Posting, postings_from, AreEntries, AreGoodFrom, Stands};
-ghost use Rattle.freq_skips.specs.Levels.{greatest_power as greatest_power_of, level_count as count_of_levels, level_of, wanted as is_wanted, data_count, stride as stride_of, level_data, child_above as child_of, AreData};
+ghost use Rattle.std.specs.Option.{option_map};
+ghost use Rattle.freq_skips.specs.Levels.{no_point, greatest_power as greatest_power_of, level_count as count_of_levels, level_of, wanted as is_wanted, data_count, stride as stride_of, level_data, child_above as child_of, AreGoodData};
 ghost use Rattle.freq_skips.specs.Terms.{place_in};
 ghost use Rattle.freq_skips.specs.Walking.{FollowsAbove, IsSmallAbove, StandAbove};
 
 use crate::datum::Wanted;
-use crate::following::Following;
+use crate::following::{Following, NO_POINT};
 use crate::passing::{Passing, fault_at};
 use crate::rules::Term;
 use lu_prims::Cur;
@@ -39,12 +40,21 @@ pub fn level_count(term: &Term) -> (u32, u64)
     ensures count { result.0 ≡ count_of_levels term.now }
     ensures power { result.1 ≡ term.now.rules.skip_interval ^ result.0 }
 {
-    greatest_power(term.rules.skip_interval, term.info.doc_freq, term.rules.max_levels)
+    greatest_power(
+        term.rules.skip_interval,
+        term.info.doc_freq,
+        term.rules.max_levels,
+    )
 }
 
 /// The child pointer that the level above, which has this number, holds for the datum that follows so many; its walk takes one
 /// datum for every so many of the level below.
-fn child_above(above: &mut Option<Following<'_>>, term: &Term, level: u32, passed: u32) -> Option<u64>
+fn child_above(
+    above: &mut Option<Following<'_>>,
+    term: &Term,
+    level: u32,
+    passed: u32,
+) -> Option<u64>
     requires interval { 2 ≤ term.now.rules.skip_interval }
     requires few { passed < 2 ^ 31 }
     requires small { IsSmallAbove passed above.old }
@@ -108,7 +118,13 @@ impl Level {
 
 /// What is wanted of the datum of a level that follows so many; the walk over the entries goes to the one that it belongs
 /// to, and the walk along the level above to the datum that leads to it, if one does.
-fn wanted_next(entries: &mut Passing<'_>, above: &mut Option<Following<'_>>, term: &Term, level: &Level, passed: u32) -> Wanted
+fn wanted_next(
+    entries: &mut Passing<'_>,
+    above: &mut Option<Following<'_>>,
+    term: &Term,
+    level: &Level,
+    passed: u32,
+) -> Wanted
     requires interval { 2 ≤ term.now.rules.skip_interval }
     requires stride { level.now.stride ≡ stride_of term.now level.now.number }
     requires within { passed < data_count term.now level.now.number }
@@ -116,12 +132,13 @@ fn wanted_next(entries: &mut Passing<'_>, above: &mut Option<Following<'_>>, ter
     requires few { passed < 2 ^ 31 }
     requires small { IsSmallAbove passed above.old }
     ensures small { IsSmallAbove (passed + 1) above.new }
+    ensures stands { (start end : Cursor) → AreEntries term.now start end → Stands term.now start entries.old.index entries.old.doc entries.old.cur → entries.old.index ≤ passed * level.now.stride
+        → Stands term.now start entries.new.index entries.new.doc entries.new.cur × (entries.new.index ≤ suc passed * level.now.stride) }
     ensures goes_on { (start end : Cursor) (points : List (List Point))
         → AreEntries term.now start end → Stands term.now start entries.old.index entries.old.doc entries.old.cur → entries.old.index ≤ passed * level.now.stride
         → FollowsAbove term.now (postings_from term.now start) (suc level.now.number) points passed above.old
         → (result ≡ is_wanted term.now (postings_from term.now start) (level_of level.now.number level.now.stated points) (suc passed))
-            × Stands term.now start entries.new.index entries.new.doc entries.new.cur × (entries.new.index ≤ suc passed * level.now.stride)
-            × FollowsAbove term.now (postings_from term.now start) (suc level.now.number) points (suc passed) above.new }
+        × FollowsAbove term.now (postings_from term.now start) (suc level.now.number) points (suc passed) above.new }
 {
     entries.pass_to(term, level.entry_index(term, passed));
     Wanted {
@@ -131,4 +148,74 @@ fn wanted_next(entries: &mut Passing<'_>, above: &mut Option<Following<'_>>, ter
         child: child_above(above, term, level.number + 1, passed),
         size: level.length_due(term, passed),
     }
+}
+
+/// How often a stride is in a number of entries.
+fn quotient(entries: u32, stride: u64) -> u32
+    requires { 2 ≤ stride }
+    ensures quotient { result ≡ entries / stride }
+    ensures few { result < 2 ^ 31 }
+{
+    (u64::from(entries) / stride) as u32
+}
+
+/// Before the first datum of the level above, where there is one.
+fn following_above(frq: &[u8], above: Option<usize>) -> Option<Following<'_>>
+    requires { IfSome above (λ place. place ≤ length frq.now) }
+    ensures { result ≡ option_map (λ place. record { cur = place_in frq.now place; count = 0; last = no_point }) above }
+{
+    match above {
+        None => None,
+        Some(place) => Some(Following {
+            cur: Cur::at(frq, place),
+            count: 0,
+            last: NO_POINT,
+        }),
+    }
+}
+
+/// Checks the data of a level that are to start at a place, of a term whose entries are good and start at another; the data
+/// of the level above, where there is one, are good and start at a third. Answers the place behind the data.
+fn check_data(
+    frq: &[u8],
+    at: usize,
+    entries: usize,
+    term: &Term,
+    level: &Level,
+    above: Option<usize>,
+) -> Result<usize, Spot>
+    requires interval { 2 ≤ term.now.rules.skip_interval }
+    requires stride { level.now.stride ≡ stride_of term.now level.now.number }
+    requires number { level.now.number + 1 < 2 ^ 32 }
+    requires at_within { at ≤ length frq.now }
+    requires entries_within { entries ≤ length frq.now }
+    requires above_within { IfSome above (λ place. place ≤ length frq.now) }
+    requires entries_good { AreGoodFrom term.now (place_in frq.now entries) }
+    ensures { (points : List (List Point)) → StandAbove term.now (postings_from term.now (place_in frq.now entries)) (suc level.now.number) points frq.now above
+        → MatchResult result
+        (λ end. AreGoodData term.now (postings_from term.now (place_in frq.now entries)) (level_of level.now.number level.now.stated points) (place_in frq.now at) (place_in frq.now end) × (end ≤ length frq.now))
+        (λ spot. (spot.kind ≡ Frq) × (read_plan (level_data term.now (postings_from term.now (place_in frq.now entries)) (level_of level.now.number level.now.stated points)) (place_in frq.now at)
+        ≡ Err (record { offset = spot.offset; rule = spot.rule }))) }
+{
+    let count = quotient(term.info.doc_freq, level.stride);
+    let mut passing = Passing {
+        cur: Cur::at(frq, entries),
+        index: 0,
+        doc: 0,
+    };
+    let mut above = following_above(frq, above);
+    let mut data = Following {
+        cur: Cur::at(frq, at),
+        count: 0,
+        last: NO_POINT,
+    };
+    while data.count < count {
+        let wanted = wanted_next(&mut passing, &mut above, term, level, data.count);
+        let place = data.cur.place();
+        match data.check_next(term, level.number, &wanted, at) {
+            Err(rule) => return Err(fault_at(place, rule)),
+            Ok(()) => {}
+        }
+    }
+    Ok(data.cur.place())
 }

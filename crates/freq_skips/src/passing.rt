@@ -35,10 +35,10 @@ impl<'a> Passing<'a> {
         requires { self.old.index < term.now.info.doc_freq }
         ensures { MatchResult result
             (λ e. (self.new.index ≡ self.old.index + 1) × (self.new.doc ≡ e.doc)
-                × ((start : Cursor) → Stands term.now start self.old.index self.old.doc self.old.cur
-                    → IsNext term.now start self.old.index (record { doc = e.doc; freq = e.freq; before = self.old.doc; place = self.old.cur.place }) self.new.cur))
+            × ((start : Cursor) → Stands term.now start self.old.index self.old.doc self.old.cur
+            → IsNext term.now start self.old.index (record { doc = e.doc; freq = e.freq; before = self.old.doc; place = self.old.cur.place }) self.new.cur))
             (λ rule. (start : Cursor) → Stands term.now start self.old.index self.old.doc self.old.cur
-                → read_plan (entries term.now) start ≡ Err (record { offset = self.old.cur.place; rule = rule })) }
+            → read_plan (entries term.now) start ≡ Err (record { offset = self.old.cur.place; rule = rule })) }
     {
         let limit = term.info.doc_freq;
         let entry = match next_entry(&mut self.cur, term, self.index == 0, self.doc) {
@@ -71,7 +71,11 @@ pub fn check_entries<'a>(cur: Cur<'a>, term: &Term) -> Result<Passing<'a>, Spot>
         (λ passing. AreEntries term.now cur.entry passing.cur)
         (λ spot. (spot.kind ≡ Frq) × (read_plan (entries term.now) cur.entry ≡ Err (record { offset = spot.offset; rule = spot.rule }))) }
 {
-    let mut passing = Passing { cur, index: 0, doc: 0 };
+    let mut passing = Passing {
+        cur,
+        index: 0,
+        doc: 0,
+    };
     while passing.index < term.info.doc_freq {
         let place = passing.cur.place();
         match passing.step(term) {

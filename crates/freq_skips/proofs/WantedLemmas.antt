@@ -28,7 +28,7 @@ no_walk-is t postings level [] passed (Some f) h = absurd h
 no_walk-is t postings level (ps ∷ rest) passed None h = absurd h
 no_walk-is t postings level (ps ∷ rest) passed (Some f) h = sym (ne_eqb (suc (length rest)) 0 (λ e. absurd (omega arith)))
 
-turned : (b c : Bool) → c ≡ not b → b ≡ not c
+pub turned : (b c : Bool) → c ≡ not b → b ≡ not c
 turned true c e = sym (ap not e)
 turned false c e = sym (ap not e)
 

@@ -1,11 +1,12 @@
 -- What the walks of the check keep: where they stand in the level above.
-use Rattle.std.specs.Prelude.{◌≡◌, ◌≤◌, ◌<◌, ◌^◌, ℕ, ◌/◌, List, [], ◌∷◌, Option, Some, None}
+use Rattle.std.specs.Prelude.{◌≡◌, ◌≤◌, ◌<◌, ◌^◌, ℕ, ◌/◌, List, [], ◌∷◌, Option, Some, None, Ok, length}
 use Rattle.lu_grammar.specs.Bytes.{Cursor}
+use Rattle.lu_grammar.specs.Plans.{read_plan}
 use Rattle.freq_skips.specs.declared.rules.Term.{Term}
 use Rattle.freq_skips.specs.declared.datum.Point.{Point}
 use Rattle.freq_skips.specs.declared.following.Following.{Following}
 use Rattle.freq_skips.specs.Entries.{Posting}
-use Rattle.freq_skips.specs.Levels.{level_of, Follows, AreData, IsSmall}
+use Rattle.freq_skips.specs.Levels.{Along, level_of, level_plan, level_count, levels, Follows, AreData, IsSmall}
 use Rattle.freq_skips.specs.Terms.{place_in}
 
 -- a walk along a level whose data are good has passed one for every so many data of the level below
@@ -40,3 +41,17 @@ StandAbove t postings level [] frq None = Unit {0}
 StandAbove t postings level [] frq (Some place) = ⊥
 StandAbove t postings level (points ∷ rest) frq None = ⊥
 StandAbove t postings level (points ∷ rest) frq (Some place) = StandPoints t postings level points rest frq place
+
+-- a level is good that is to start at a place: its data start at another, and it ends at a third
+pub record IsGoodLevel (t : Term) (postings : List Posting) (number : ℕ) (points : List (List Point)) (frq : List ℕ) (place begin end : ℕ) : Type 0 where
+  pub along : Along
+  pub reads : read_plan (level_plan t postings number points) (place_in frq place) ≡ Ok (along, place_in frq end)
+  pub data_stand : StandPoints t postings number along.points points frq begin
+  pub begin_within : begin ≤ length frq
+  pub end_within : end ≤ length frq
+
+-- the skip levels are good that are to start at a place, and end at another
+pub record AreGoodLevels (t : Term) (postings : List Posting) (frq : List ℕ) (place end : ℕ) : Type 0 where
+  pub points : List (List Point)
+  pub reads : read_plan (levels t postings (level_count t) []) (place_in frq place) ≡ Ok (points, place_in frq end)
+  pub end_within : end ≤ length frq

@@ -76,10 +76,11 @@ fn child_above(
 
 /// A level of a term: its number, from 0; how many entries one datum of it stands for; and the length of its data where that
 /// is stated.
+#[derive(Drop)]
 pub struct Level {
-    number: u32,
-    stride: u64,
-    stated: Option<u64>,
+    pub number: u32,
+    pub stride: u64,
+    pub stated: Option<u64>,
 }
 
 impl Level {
@@ -176,7 +177,7 @@ fn following_above(frq: &[u8], above: Option<usize>) -> Option<Following<'_>>
 
 /// Checks the data of a level that are to start at a place, of a term whose entries are good and start at another; the data
 /// of the level above, where there is one, are good and start at a third. Answers the place behind the data.
-fn check_data(
+pub fn check_data(
     frq: &[u8],
     at: usize,
     entries: usize,

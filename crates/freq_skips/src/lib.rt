@@ -6,6 +6,7 @@ mod entries;
 mod entry;
 mod following;
 mod level;
+mod levels;
 mod passing;
 mod rules;
 

@@ -65,6 +65,7 @@ fn level_length(frq: &[u8], at: usize, term: &Term, number: u32, highest: bool) 
 }
 
 /// Where the data of a level start, and where it ends.
+#[derive(Clone, Copy)]
 struct LevelPlaces {
     data: usize,
     end: usize,
@@ -99,4 +100,36 @@ fn check_level(frq: &[u8], at: usize, entries: usize, term: &Term, number: u32, 
         Err(spot) => Err(spot),
         Ok(end) => Ok(LevelPlaces { data, end }),
     }
+}
+
+/// Checks the skip levels of a term that are to start at a place, where its entries are good and start at another. Answers
+/// the place behind them.
+pub fn check_levels(frq: &[u8], at: usize, entries: usize, term: &Term) -> Result<usize, Spot>
+    requires interval { 2 ≤ term.now.rules.skip_interval }
+    requires at_within { at ≤ length frq.now }
+    requires entries_within { entries ≤ length frq.now }
+    requires entries_good { AreGoodFrom term.now (place_in frq.now entries) }
+    ensures { MatchResult result
+        (λ end. AreGoodLevels term.now (postings_from term.now (place_in frq.now entries)) frq.now at end)
+        (λ spot. (spot.kind ≡ Frq) × (read_plan (levels term.now (postings_from term.now (place_in frq.now entries)) (count_of_levels term.now) []) (place_in frq.now at)
+            ≡ Err (record { offset = spot.offset; rule = spot.rule }))) }
+{
+    let interval = u64::from(term.rules.skip_interval);
+    let (count, power) = level_count(term);
+    let mut number = count;
+    let mut stride = power;
+    let mut above = None;
+    let mut place = at;
+    while number > 0 {
+        number -= 1;
+        match check_level(frq, place, entries, term, number, stride, above) {
+            Err(spot) => return Err(spot),
+            Ok(places) => {
+                above = Some(places.data);
+                place = places.end;
+            }
+        }
+        stride /= interval;
+    }
+    Ok(place)
 }

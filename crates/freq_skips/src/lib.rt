@@ -1,6 +1,7 @@
 //! Entries and skip data of the terms of a segment, the file `.frq`: written, checked exactly, and read in order.
 #![tactic(auto)]
 
+mod check;
 mod datum;
 mod entries;
 mod entry;
@@ -10,6 +11,7 @@ mod levels;
 mod passing;
 mod rules;
 
+pub use check::check_term;
 pub use entries::Entries;
 pub use entry::Entry;
 pub use rules::TermRules;

@@ -3,10 +3,10 @@ use Rattle.std.specs.Prelude.{◌≡◌, ◌≤◌, ℕ, List, [], length, drop}
 use Rattle.lu_types.specs.declared.term.TermInfo.{TermInfo}
 use Rattle.freq_skips.specs.declared.datum.Point.{Point}
 use Rattle.freq_skips.specs.declared.rules.TermRules.{TermRules}
-use Rattle.lu_grammar.specs.Bytes.{Cursor}
+use Rattle.lu_grammar.specs.Bytes.{Cursor, start_of}
 use Rattle.lu_grammar.specs.Plans.{Plan, done, and_then, in_turn}
 use Rattle.freq_skips.specs.declared.rules.Term.{Term}
-use Rattle.lu_grammar.specs.Meaning.{ReadsTo}
+use Rattle.lu_grammar.specs.Meaning.{ReadsTo, FaultFrom}
 use Rattle.freq_skips.specs.Records.{Record}
 use Rattle.freq_skips.specs.Entries.{Posting, entries}
 use Rattle.freq_skips.specs.Levels.{level_count, levels}
@@ -37,3 +37,12 @@ pub record IsGoodTerm (info : TermInfo) (rules : TermRules) (frq : List ℕ) : T
   pub value : TermData
   pub end : Cursor
   pub reads : ReadsTo (term_plan (term_of info rules)) (place_in frq info.freq) value end
+
+-- the records of the term do not all stand there: the first that is not good is at this offset, and breaks this rule first
+pub record IsTermFault (t : Term) (from : Cursor) (offset rule : ℕ) : Type 0 where
+  pub fault : FaultFrom (term_plan t) from offset rule
+  pub unread : (value : TermData) (end : Cursor) → ReadsTo (term_plan t) from value end → ⊥
+
+-- the first records of a file are the terms in turn, and they end at a place
+abbrev pub AreTermsUpTo : List Term → List ℕ → ℕ → Type 0
+AreTermsUpTo terms frq place = ReadsTo (frq_plan terms) (start_of frq) tt (place_in frq place)

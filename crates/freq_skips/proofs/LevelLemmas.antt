@@ -10,6 +10,7 @@ use Rattle.lu_grammar.proofs.Records.{ok_pair, same_pair}
 use Rattle.lu_grammar.specs.Plans.{Broken, Kind, times, read_plan}
 use Rattle.lu_grammar.proofs.Plans.{ok_of, err_is_not_ok}
 use Rattle.lu_grammar.proofs.Loops.{each-none, each-rest, times-more, times-fault, times-again, times-keeps}
+use Rattle.freq_skips.proofs.ConditionLemmas.{record_at-kept, all_unbroken, same-of}
 use Rattle.freq_skips.specs.declared.rules.Term.{Term}
 use Rattle.freq_skips.specs.declared.datum.Point.{Point}
 use Rattle.freq_skips.specs.declared.datum.Wanted.{Wanted}
@@ -115,8 +116,13 @@ Passes-read t postings l start points end count last here r p next read is at al
         let was = record_at-was (datum_shape t l.number) _ here s to e in
         let same = same_pair r s next to (sym read ∙ was) in
         let good : datum_at t l (wanted t postings l (suc count)) start.place last here ≡ Ok (r, next) = e ∙ ap (λ (a : Record). ok_pair a to) (sym same.0) ∙ ap (λ (b : Cursor). ok_pair r b) (sym same.1) in
+        let w = wanted t postings l (suc count) in
+        let conditions = datum_conditions t w start.place last here.place in
+        let kept = all_unbroken (conditions r) (record_at-kept (datum_shape t l.number) conditions here r next good) in
         record {
           follows = Follows-more t postings l start count last here r p next h good is at;
+          doc = ap (λ (o : Point). o.doc) (sym is) ∙ same-of _ w.doc kept.1.0;
+          freq = ap (λ (o : Point). o.freq) (sym is) ∙ same-of _ w.freq kept.1.1.0;
           point = point-is t postings l start points end count last here r p next all h lt good is at;
         }
 

@@ -174,6 +174,8 @@ pub record AreData (t : Term) (postings : List Posting) (l : Level) (start : Cur
 -- what reading a datum again shows, where all of its level are good
 pub record Passes (t : Term) (postings : List Posting) (l : Level) (start : Cursor) (points : List Point) (count : ℕ) (p : Point) (next : Cursor) : Type 0 where
   pub follows : Follows t postings l start (count + 1) p next
+  pub doc : p.doc ≡ (wanted t postings l (suc count)).doc
+  pub freq : p.freq ≡ (wanted t postings l (suc count)).freq
   pub point : slice_index_or points count no_point ≡ p
 
 -- all data of the level that starts here are good, and end there

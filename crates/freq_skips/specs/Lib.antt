@@ -3,3 +3,4 @@ pub mod Entries
 pub mod Levels
 pub mod Terms
 pub mod Walking
+pub mod Walks

@@ -11,6 +11,7 @@ mod level;
 mod levels;
 mod passing;
 mod rules;
+mod walk;
 
 pub use check::check_term;
 pub use entries::Entries;

@@ -141,3 +141,9 @@ datum_at-as t l v w m n last here e f = ap (λ (u : Wanted). datum_at t l u m la
 -- all data are read
 pub Follows-all : (t : Term) (postings : List Posting) (l : Level) (start : Cursor) (count : ℕ) (last : Point) (here : Cursor) → Follows t postings l start count last here → count ≡ data_count t l.number → AreGoodData t postings l start here
 Follows-all t postings l start count last here h all = record { along = h.along; reads = ap (λ (n : ℕ). read_plan (times (datum_kind t postings l) n no_datum) start) (sym all) ∙ h.reads }
+
+-- where all are passed the cursor is at the end
+pub Follows-end : (t : Term) (postings : List Posting) (l : Level) (start : Cursor) (points : List Point) (end : Cursor) (count : ℕ) (last : Point) (here : Cursor) → AreData t postings l start points end → Follows t postings l start count last here
+    → count ≡ data_count t l.number → end ≡ here
+Follows-end t postings l start points end count last here all h is =
+    (same_pair all.along h.along end here (sym all.reads ∙ ap (λ (n : ℕ). read_plan (times (datum_kind t postings l) n no_datum) start) (sym is) ∙ h.reads)).1

@@ -4,7 +4,7 @@ use Rattle.std.specs.Prelude.{nat_le}
 use Rattle.std.proofs.lemmas.Bool.{cases_eq, cases_lt}
 use Rattle.std.proofs.lemmas.Bool.Decides.{nat_tests}
 use Rattle.std.proofs.lemmas.Nat.{div-add-mod', mul-lt}
-use Rattle.std.proofs.Math.Nat.{pow-le-pow_right, pow-suc, one-le-pow, div-eq_of_lt-le, div-div-eq-div-mul, le-div_iff_mul-le, div-mul-le_self, div-lt_iff_lt-mul, mod-lt, mul-le-mul_left, mul_comm}
+use Rattle.std.proofs.Math.Nat.{pow-le-pow_right, pow-le-pow_left, pow-suc, one-le-pow, div-eq_of_lt-le, div-div-eq-div-mul, le-div_iff_mul-le, div-mul-le_self, div-lt_iff_lt-mul, mod-lt, mul-le-mul_left, mul_comm}
 use Rattle.freq_skips.specs.Levels.{greatest_power}
 
 if_low : (base n k : ℕ) → base ^ suc k ≤ n → greatest_power base n (suc k) ≡ suc k
@@ -87,3 +87,45 @@ stride-two base n two =
     let one = power-pos base n two in
     let up : base * 1 ≤ base ^ n * base = subst (λ (k : ℕ). base * 1 ≤ k) (mul_comm base (base ^ n)) (mul-le-mul_left base one) in
     subst (λ (k : ℕ). 2 ≤ k) (sym (pow-suc base n)) (omega arith)
+
+-- powers at most a number of 32 bits are few
+pub power-few : (base count n : ℕ) → 2 ≤ base → (count ≡ 0) ⊎ (base ^ count ≤ n) → n < 2 ^ 32 → count < 32
+power-few base count n two low small = elim (cases_lt count 32) [
+    | inl lt ↦ lt
+    | inr ge ↦ elim low [
+      | inl none ↦ omega arith
+      | inr le ↦
+          let one : 2 ^ count ≤ base ^ count = pow-le-pow_left two count in
+          let more : 2 ^ 32 ≤ 2 ^ count = pow-le-pow_right (omega arith) ge in
+          absurd (omega arith)
+    ]
+  ]
+
+-- the power of the greatest is not above the number
+pub greatest_power-low : (base n most m : ℕ) → greatest_power base n most ≡ suc m → base ^ suc m ≤ n
+unfolding greatest_power
+greatest_power-low base n zero m e = absurd (omega arith)
+greatest_power-low base n (suc k) m e = elim (cases_lt n (base ^ suc k)) [
+    | inl gt ↦ greatest_power-low base n k m (sym (if_high base n k gt) ∙ e)
+    | inr le ↦ let same : suc k ≡ suc m = sym (if_low base n k le) ∙ e in subst (λ (j : ℕ). base ^ j ≤ n) same le
+  ]
+
+-- the next quotients: by one factor more
+pub quotient-factor : (p s S : ℕ) → p / (S * s) ≡ p / S / s
+quotient-factor p s S = sym (div-div-eq-div-mul p S s)
+
+pub quotient-half : (p S : ℕ) → 2 ≤ S → p < 2 ^ 32 → p / S < 2 ^ 31
+quotient-half p S two small =
+    let pos : 0 < S = omega arith in
+    (div-lt_iff_lt-mul pos).1 (let m : 2 ^ 31 * 2 ≤ 2 ^ 31 * S = mul-le-mul_left (2 ^ 31) two in omega arith)
+
+-- at a multiple the quotient, and one more, are what they are to be
+pub multiple-next : (before S : ℕ) → 0 < S → (before + 1) % S ≡ 0 → (before + 1) / S ≡ before / S + 1
+multiple-next before S pos e = ap (λ (n : ℕ). n / S) (add-one before) ∙ quotient-next before S pos e
+
+pub multiple-index : (before S count : ℕ) → 0 < S → (before + 1) % S ≡ 0 → count ≡ before / S → suc count * S - 1 ≡ before + 1 - 1
+multiple-index before S count pos e is =
+    let next = multiple-next before S pos e in
+    let same : suc count ≡ (before + 1) / S = omega arith in
+    let product = ap (λ (n : ℕ). n * S) same in
+    omega (arith, div-add-mod' (before + 1) S, product)

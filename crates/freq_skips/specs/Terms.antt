@@ -33,6 +33,7 @@ term_of info rules = record { info = info; rules = rules }
 
 -- the term stands in the file: from its place on all of its records are good
 pub record IsGoodTerm (info : TermInfo) (rules : TermRules) (frq : List ℕ) : Type 0 where
+  pub interval : 2 ≤ rules.skip_interval
   pub within : info.freq ≤ length frq
   pub value : TermData
   pub end : Cursor

@@ -7,7 +7,7 @@ use Rattle.freq_skips.specs.declared.datum.Point.{Point}
 use Rattle.freq_skips.specs.declared.walk.Walked.{Walked}
 use Rattle.freq_skips.specs.declared.walk.Datum.{Datum}
 use Rattle.freq_skips.specs.declared.walk.Rung.{Rung}
-use Rattle.freq_skips.specs.Entries.{Posting, no_posting}
+use Rattle.freq_skips.specs.Entries.{Posting, no_posting, postings_from}
 use Rattle.freq_skips.specs.Levels.{level_count, stride, level_of, no_point, Follows, AreData, IsSmall}
 use Rattle.freq_skips.specs.Terms.{TermData, term_plan, place_in}
 
@@ -50,10 +50,35 @@ value_from t start = read_value (read_plan (term_plan t) start)
 pub record IsOnLevel (t : Term) (postings : List Posting) (level : ℕ) (points : List Point) (frq : List ℕ) (passed : ℕ) (r : Rung) : Type 0 where
   pub stated : Option ℕ
   pub rest : List (List Point)
-  pub begin : Cursor
+  pub begin : ℕ
   pub end : Cursor
-  pub all : AreData t postings (level_of level stated rest) begin points end
-  pub follows : Follows t postings (level_of level stated rest) begin r.count r.last (place_in frq r.place)
+  pub all : AreData t postings (level_of level stated rest) (place_in frq begin) points end
+  pub follows : Follows t postings (level_of level stated rest) (place_in frq begin) r.count r.last (place_in frq r.place)
   pub number : r.count ≡ passed / stride t level
   pub small : IsSmall r.count r.last
+  pub begin_within : begin ≤ length frq
   pub within : r.place ≤ length frq
+
+-- nowhere
+abbrev pub no_rung : Rung
+no_rung = record { place = 0; count = 0; last = no_point }
+
+-- the term that starts at its place in these bytes
+abbrev pub start_in : Term → List ℕ → Cursor
+start_in t frq = place_in frq t.info.freq
+
+-- the data of a level of that term
+abbrev pub points_in : Term → List ℕ → ℕ → List Point
+points_in t frq level = slice_index_or (value_from t (start_in t frq)).levels level []
+
+-- there is a place along each level, after so many entries
+abbrev pub AreOnLevels : Term → List ℕ → ℕ → List Rung → Type 0
+AreOnLevels t frq passed rungs = (n : ℕ) → n < level_count t → IsOnLevel t (postings_from t (start_in t frq)) n (points_in t frq n) frq passed (slice_index_or rungs n no_rung)
+
+-- the datum passed last on a level is the one that belongs to the last of so many entries
+pub record IsFresh (t : Term) (frq : List ℕ) (level passed : ℕ) (p : Point) : Type 0 where
+  pub level_below : level < level_count t
+  pub multiple : passed % stride t level ≡ 0
+  pub point : slice_index_or (points_in t frq level) (passed / stride t level - 1) no_point ≡ p
+  pub doc : p.doc ≡ (slice_index_or (postings_from t (start_in t frq)) (passed - 1) no_posting).before
+  pub freq : p.freq ≡ (slice_index_or (postings_from t (start_in t frq)) (passed - 1) no_posting).place - t.info.freq

@@ -22,7 +22,7 @@ fn greatest_power(base: u32, number: u32, most: u32) -> (u32, u64)
     requires { 2 ≤ base }
     ensures count { result.0 ≡ greatest_power_of base number most }
     ensures power { result.1 ≡ base ^ result.0 }
-    ensures low { result.0 ≡ 0 ⊎ result.1 ≤ number }
+    ensures few { result.0 < 32 }
 {
     let limit = number / base;
     let mut count = 0;
@@ -39,6 +39,7 @@ pub fn level_count(term: &Term) -> (u32, u64)
     requires { 2 ≤ term.now.rules.skip_interval }
     ensures count { result.0 ≡ count_of_levels term.now }
     ensures power { result.1 ≡ term.now.rules.skip_interval ^ result.0 }
+    ensures few { result.0 < 32 }
 {
     greatest_power(
         term.rules.skip_interval,
@@ -152,7 +153,7 @@ fn wanted_next(
 }
 
 /// How often a stride is in a number of entries.
-fn quotient(entries: u32, stride: u64) -> u32
+pub fn quotient(entries: u32, stride: u64) -> u32
     requires { 2 ≤ stride }
     ensures quotient { result ≡ entries / stride }
     ensures few { result < 2 ^ 31 }

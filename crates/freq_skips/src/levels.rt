@@ -46,7 +46,7 @@ fn read_length(cur: &mut Cur<'_>, term: &Term, first: bool) -> Result<u64, u16>
 }
 
 /// The length of a level that is to start at a place, where it has one, and the place where its data are to start.
-fn level_length(frq: &[u8], at: usize, term: &Term, number: u32, highest: bool) -> Result<(Option<u64>, usize), Spot>
+pub fn level_length(frq: &[u8], at: usize, term: &Term, number: u32, highest: bool) -> Result<(Option<u64>, usize), Spot>
     requires { at ≤ length frq.now }
     ensures within { IfOk result (λ x. x.1 ≤ length frq.now) }
     ensures level { (postings : List Posting) (points : List (List Point)) → highest ≡ (length points == 0)

@@ -3,8 +3,8 @@ use Rattle.std.proofs.Common.{◌≡◌, ◌≢◌, ℕ, zero, suc, add-one, ◌
 use Rattle.std.specs.Prelude.{nat_le}
 use Rattle.std.proofs.lemmas.Bool.{cases_eq, cases_lt}
 use Rattle.std.proofs.lemmas.Bool.Decides.{nat_tests}
-use Rattle.std.proofs.lemmas.Nat.{div-add-mod', mul-lt}
-use Rattle.std.proofs.Math.Nat.{pow-le-pow_right, pow-le-pow_left, pow-suc, one-le-pow, div-eq_of_lt-le, div-div-eq-div-mul, le-div_iff_mul-le, div-mul-le_self, div-lt_iff_lt-mul, mod-lt, mul-le-mul_left, mul_comm}
+use Rattle.std.proofs.lemmas.Nat.{div-add-mod', mul-lt, pow-add}
+use Rattle.std.proofs.Math.Nat.{pow-le-pow_right, pow-le-pow_left, pow-suc, one-le-pow, div-eq_of_lt-le, div-div-eq-div-mul, le-div_iff_mul-le, div-mul-le_self, div-lt_iff_lt-mul, mod-lt, mul-le-mul_left, mul_comm, mul_assoc, mul-mod_left, eq_of_mul-eq-mul_right}
 use Rattle.freq_skips.specs.Levels.{greatest_power}
 
 if_low : (base n k : ℕ) → base ^ suc k ≤ n → greatest_power base n (suc k) ≡ suc k
@@ -129,3 +129,27 @@ multiple-index before S count pos e is =
     let same : suc count ≡ (before + 1) / S = omega arith in
     let product = ap (λ (n : ℕ). n * S) same in
     omega (arith, div-add-mod' (before + 1) S, product)
+
+-- what divides one power more, and what divides none of the higher
+pub divides-next : (q s P p : ℕ) → q * P ≡ p → q % s ≡ 0 → q / s * (P * s) ≡ p
+divides-next q s P p is e =
+    let whole : q / s * s ≡ q = omega (arith, div-add-mod' q s) in
+    ap (λ (x : ℕ). q / s * x) (mul_comm P s) ∙ sym (mul_assoc (q / s) s P) ∙ ap (λ (x : ℕ). x * P) whole ∙ is
+
+pub divides-power : (q s p level : ℕ) → q * s ^ level ≡ p → q % s ≡ 0 → p % s ^ suc level ≡ 0
+divides-power q s p level is e =
+    let P = s ^ level in
+    let next = divides-next q s P p is e in
+    ap (λ (x : ℕ). x % s ^ suc level) (sym next) ∙ ap (λ (x : ℕ). q / s * x % s ^ suc level) (sym (pow-suc s level)) ∙ mul-mod_left (q / s) (s ^ suc level)
+
+pub divides-not : (q s p level n : ℕ) → 2 ≤ s → q * s ^ level ≡ p → q % s ≢ 0 → level ≤ n → p % s ^ suc n ≢ 0
+divides-not q s p level n two is ne le e =
+    let P = s ^ level in
+    let S = s ^ suc n in
+    let whole : p / S * S ≡ p = omega (arith, div-add-mod' p S) in
+    let split : S ≡ s ^ (n - level) * (P * s) = ap (λ (k : ℕ). s ^ k) (let k : suc n ≡ (n - level) + suc level = omega arith in k) ∙ pow-add s (n - level) (suc level) ∙ ap (λ (x : ℕ). s ^ (n - level) * x) (pow-suc s level) in
+    let k = p / S * s ^ (n - level) in
+    let many : k * s * P ≡ q * P =
+    mul_assoc k s P ∙ ap (λ (x : ℕ). k * x) (mul_comm s P) ∙ mul_assoc (p / S) (s ^ (n - level)) (P * s) ∙ ap (λ (x : ℕ). p / S * x) (sym split) ∙ whole ∙ sym is in
+    let same : k * s ≡ q = eq_of_mul-eq-mul_right P (power-pos s level two) (k * s) q many in
+    ne (ap (λ (x : ℕ). x % s) (sym same) ∙ mul-mod_left k s)

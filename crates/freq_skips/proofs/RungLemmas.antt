@@ -1,5 +1,5 @@
 -- One datum more along a level.
-use Rattle.std.proofs.Common.{◌≡◌, ℕ, suc, add-one, ◌+◌, ◌-◌, ◌*◌, ◌/◌, ◌%◌, ◌^◌, ◌<◌, ◌≤◌, List, length, Option, refl, sym, ap, subst, ◌∙◌, arith}
+use Rattle.std.proofs.Common.{◌≡◌, ℕ, suc, add-one, ◌+◌, ◌-◌, ◌*◌, ◌/◌, ◌%◌, ◌^◌, ◌<◌, ◌≤◌, ◌≢◌, List, length, Option, refl, sym, ap, subst, ◌∙◌, arith}
 use Rattle.std.specs.Prelude.{slice_index_or}
 use Rattle.lu_grammar.specs.Bytes.{IsBytes, Cursor}
 use Rattle.lu_grammar.specs.Plans.{times}
@@ -10,7 +10,7 @@ use Rattle.freq_skips.specs.Entries.{Posting, no_posting, postings_from}
 use Rattle.freq_skips.specs.Levels.{level_of, level_count, stride, data_count, datum_kind, no_datum, no_point, Follows, AreData, Passes, IsSmall}
 use Rattle.freq_skips.specs.Terms.{place_in}
 use Rattle.freq_skips.specs.Walks.{IsOnLevel, IsFresh, start_in, points_in}
-use Rattle.freq_skips.proofs.Powers.{stride-two, quotient-below, multiple-next, multiple-index}
+use Rattle.freq_skips.proofs.Powers.{stride-two, quotient-below, quotient-same, multiple-next, multiple-index}
 use Rattle.freq_skips.proofs.PlaceLemmas.{place_in-after}
 
 -- what taking the next datum again shows
@@ -67,4 +67,22 @@ IsFresh-next t frq level before r count last next two below_count e lt h takes =
       point = ap (λ (n : ℕ). slice_index_or (points_in t frq level) n no_point) (sym index) ∙ taken.0.point;
       doc = taken.0.doc ∙ ap (λ (n : ℕ). (slice_index_or ps n no_posting).before) posting;
       freq = taken.0.freq ∙ ap (λ (n : ℕ). (slice_index_or ps n no_posting).place - t.info.freq) posting;
+    }
+
+-- an entry without a datum on the level
+pub IsOnLevel-same : (t : Term) (postings : List Posting) (level : ℕ) (points : List Point) (frq : List ℕ) (before : ℕ) (r : Rung) → 2 ≤ t.rules.skip_interval → (before + 1) % stride t level ≢ 0
+    → IsOnLevel t postings level points frq before r → IsOnLevel t postings level points frq (before + 1) r
+IsOnLevel-same t postings level points frq before r two ne h =
+    let s2 = stride-two t.rules.skip_interval level two in
+    record {
+      stated = h.stated;
+      rest = h.rest;
+      begin = h.begin;
+      end = h.end;
+      all = h.all;
+      follows = h.follows;
+      number = h.number ∙ sym (quotient-same before (stride t level) (omega arith) ne) ∙ ap (λ (n : ℕ). n / stride t level) (sym (add-one before));
+      small = h.small;
+      begin_within = h.begin_within;
+      within = h.within;
     }

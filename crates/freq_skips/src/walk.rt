@@ -142,6 +142,7 @@ fn climb(frq: &[u8], term: &Term, rungs: &mut [Rung; MOST_LEVELS], count: u32, i
     requires count { count ≡ count_of_levels term.now }
     requires few { count < 32 }
     requires within { index < term.now.info.doc_freq }
+    requires fits { index + 1 < 2 ^ 32 }
     requires on { AreOnLevels term.now frq.now index rungs.old }
     ensures on { AreOnLevels term.now frq.now (index + 1) rungs.new }
     ensures low { (n : ℕ) → n < result → IsFresh term.now frq.now n (index + 1) (slice_index_or rungs.new n no_rung).last }

@@ -18,3 +18,4 @@ pub use entries::Entries;
 pub use entry::Entry;
 pub use laws::terms_in_turn;
 pub use rules::TermRules;
+pub use walk::{Datum, Walk, Walked};

@@ -2,17 +2,21 @@
 ghost use Rattle.std.specs.Prelude.{◌≡◌, ◌≢◌, ◌⊎◌, ℕ, suc, ◌+◌, ◌-◌, ◌/◌, ◌%◌, ◌^◌, ◌<◌, ◌≤◌, List, [], Option, length, ◌==◌, slice_index_or, MatchOption, Ok};
 ghost use Rattle.lu_grammar.specs.Bytes.{Cursor};
 ghost use Rattle.lu_grammar.specs.Plans.{read_plan};
+ghost use Rattle.lu_grammar.specs.Meaning.{ReadsTo};
 ghost use Rattle.freq_skips.specs.Entries.{Posting, postings_from};
 ghost use Rattle.freq_skips.specs.Levels.{Along, level_of, level_count as count_of_levels, level_plan, stride as stride_of, data_count, AreData};
-ghost use Rattle.freq_skips.specs.Terms.{IsGoodTerm, place_in};
-ghost use Rattle.freq_skips.specs.Walks.{WalkState, IsOnLevel, IsFresh, AreOnLevels, no_rung, start_in, points_in};
+ghost use Rattle.freq_skips.specs.Terms.{TermData, IsGoodTerm, term_of, term_plan, place_in};
+ghost use Rattle.freq_skips.specs.Walks.{WalkState, walked_at, IsDatumFor, IsOnLevel, IsFresh, AreOnLevels, no_rung, start_in, points_in};
 
 use crate::datum::Point;
 use crate::following::{Following, NO_POINT};
-use crate::level::quotient;
+use crate::level::{level_count, quotient};
 use crate::levels::level_length;
-use crate::rules::Term;
+use crate::passing::Passing;
+use crate::rules::{Term, TermRules};
 use lu_prims::Cur;
+use lu_types::TermInfo;
+use std::marker::Model;
 
 /// An entry of a term: its index, from 0, its document, and how often the term stands in it.
 #[derive(Clone, Copy, Debug, PartialEq, Eq)]
@@ -158,4 +162,122 @@ fn climb(frq: &[u8], term: &Term, rungs: &mut [Rung; MOST_LEVELS], count: u32, i
         level += 1;
     }
     level
+}
+
+/// A walk over the entries of a term in order, which tells for each the skip data that belong to it, over bytes that were
+/// checked. Contracts see the term, what its bytes stand for, and how many entries were answered. No call takes memory.
+#[derive(Drop)]
+pub struct Walk<'a> {
+    frq: &'a [u8],
+    term: Term,
+    passing: Passing<'a>,
+    count: u32,
+    fresh: u32,
+    doc: u32,
+    freq: u32,
+    rungs: [Rung; MOST_LEVELS],
+}
+
+impl<'a> Model for Walk<'a> {
+    ghost use Rattle.std.specs.Prelude.{◌≡◌, ◌≤◌, ◌<◌, ◌^◌, ℕ, length, slice_index_or};
+    ghost use Rattle.lu_grammar.specs.Bytes.{IsBytes};
+    ghost use Rattle.freq_skips.specs.Entries.{AreGoodFrom, postings_from, Stands};
+    ghost use Rattle.freq_skips.specs.Levels.{level_count};
+    ghost use Rattle.freq_skips.specs.Walks.{WalkState, IsFresh, IsStale, IsBefore, AreOnLevels, no_rung, start_in, value_from};
+
+    ghost Value = { WalkState };
+
+    ghost view = { λ w. record { term = w.term; value = value_from w.term (start_in w.term w.frq.now); passed = w.passing.index } };
+
+    ghost invariant = {
+        λ w. record {
+            interval : 2 ≤ w.term.rules.skip_interval;
+            bytes : IsBytes w.frq.now;
+            small : length w.frq.now < 2 ^ 32;
+            begin_within : w.term.info.freq ≤ length w.frq.now;
+            all : AreGoodFrom w.term (start_in w.term w.frq.now);
+            postings : (value_from w.term (start_in w.term w.frq.now)).postings ≡ postings_from w.term (start_in w.term w.frq.now);
+            levels : w.count ≡ level_count w.term;
+            few : w.count < 32;
+            stands : Stands w.term (start_in w.term w.frq.now) w.passing.index w.passing.doc w.passing.cur;
+            within : w.passing.index ≤ w.term.info.doc_freq;
+            on : AreOnLevels w.term w.frq.now w.passing.index w.rungs;
+            fresh_within : w.fresh ≤ w.count;
+            low : (n : ℕ) → n < w.fresh → IsFresh w.term w.frq.now n w.passing.index (slice_index_or w.rungs n no_rung).last;
+            some : 0 < w.fresh → 0 < w.passing.index;
+            high : (n : ℕ) → w.fresh ≤ n → n < level_count w.term → IsStale w.term n w.passing.index;
+            before : 0 < w.passing.index → IsBefore w.term w.frq.now w.passing.index w.doc w.freq;
+        }
+    };
+}
+
+impl<'a> Walk<'a> {
+    /// Before the first entry of a term of the dictionary. It goes over the term's skip data once.
+    pub fn at(frq: &'a [u8], info: &TermInfo, rules: &TermRules) -> Walk<'a>
+        requires good { IsGoodTerm info.now rules.now frq.now }
+        requires small { length frq.now < 2 ^ 32 }
+        ensures { (value : TermData) (end : Cursor) → ReadsTo (term_plan (term_of info.now rules.now)) (place_in frq.entry.now info.now.freq) value end
+            → result ≡ record { term = term_of info.now rules.now; value = value; passed = 0 } }
+    {
+        let term = Term {
+            info: *info,
+            rules: *rules,
+        };
+        let cur = Cur::at(frq, info.freq as usize);
+        let (count, power) = level_count(&term);
+        let rungs = first_rungs(frq, &term, count, power);
+        Walk {
+            frq,
+            term,
+            passing: Passing { cur, index: 0, doc: 0 },
+            count,
+            fresh: 0,
+            doc: 0,
+            freq: 0,
+            rungs,
+        }
+    }
+
+    /// The next entry; `None` exactly at the end.
+    pub fn next(&mut self) -> Option<Walked>
+        ensures { MatchOption result
+            ((self.old.passed ≡ length self.old.value.postings) × (self.new ≡ self.old))
+            (λ walked. (self.old.passed < length self.old.value.postings) × (walked ≡ walked_at self.old.value self.old.passed) × (self.new ≡ record { term = self.old.term; value = self.old.value; passed = self.old.passed + 1 })) }
+    {
+        let index = self.passing.index;
+        if index == self.term.info.doc_freq {
+            return None;
+        }
+        let before = self.passing.doc;
+        let place = self.passing.cur.place();
+        let entry = match self.passing.step(&self.term) {
+            Err(_rule) => return None,
+            Ok(entry) => entry,
+        };
+        self.fresh = climb(self.frq, &self.term, &mut self.rungs, self.count, index);
+        self.doc = before;
+        self.freq = place.saturating_sub(self.term.info.freq as usize) as u32;
+        Some(Walked {
+            index,
+            doc: entry.doc,
+            freq: entry.freq,
+        })
+    }
+
+    /// The datum of a level, from 0 for the lowest, that belongs to the entry that `next` answered last; `None` exactly where
+    /// it answered none, the term has no such level, or the level has no datum for that entry.
+    pub fn datum(&self, level: u32) -> Option<Datum>
+        ensures { IsDatumFor self.now level result }
+    {
+        if level >= self.fresh {
+            return None;
+        }
+        let last = &self.rungs[level as usize].last;
+        Some(Datum {
+            doc: self.doc,
+            freq: self.freq,
+            prox: last.prox,
+            payload: last.payload,
+        })
+    }
 }

@@ -1,6 +1,8 @@
 -- What a walk over a term keeps.
 use Rattle.std.proofs.Common.{◌≡◌, ◌≢◌, ℕ, zero, suc, add-one, ◌+◌, ◌-◌, ◌*◌, ◌/◌, ◌%◌, ◌^◌, ◌<◌, ◌≤◌, Bool, true, false, eqb, not, List, [], ◌∷◌, length, drop, get_or, Option, Some, None, Result, Ok, Err, inl, inr, refl, sym, ap, subst, ◌∙◌, arith}
-use Rattle.std.specs.Prelude.{slice_index_or, ◌==◌, ◌&&◌}
+use Rattle.lu_types.specs.declared.fault.Spot.{Spot}
+use Rattle.lu_types.specs.declared.kind.FileKind.TheVariants.{Frq}
+use Rattle.std.specs.Prelude.{MatchResult, IfOk, slice_index_or, ◌==◌, ◌&&◌}
 use Rattle.std.proofs.lemmas.List.{drop-drop, get_or-drop}
 use Rattle.std.proofs.lemmas.Bool.{cases_eq, eq-eqb, ne_eqb}
 use Rattle.lu_grammar.specs.declared.bad.Bad.{Bad}
@@ -17,7 +19,7 @@ use Rattle.freq_skips.specs.declared.datum.Point.{Point}
 use Rattle.freq_skips.specs.Records.{Record, entry_shape, datum_shape, length_shape, length_of}
 use Rattle.freq_skips.specs.Entries.{Posting, AreEntries, entries, postings_from, entry_conditions}
 use Rattle.freq_skips.specs.Levels.{Along, no_point, level_of, level_count, stride, data_count, wanted, datum_conditions, length_conditions, level_data, level_plan, levels, AreData}
-use Rattle.freq_skips.specs.Terms.{TermData, IsGoodTerm, term_plan, place_in}
+use Rattle.freq_skips.specs.Terms.{TermData, IsGoodTerm, IsTermFault, term_plan, place_in}
 use Rattle.freq_skips.specs.Walks.{read_value, value_from, start_in, IsOnLevel}
 use Rattle.freq_skips.proofs.Powers.{power-pos, greatest_power-low}
 use Rattle.freq_skips.proofs.PlaceLemmas.{place_in-after}
@@ -146,3 +148,19 @@ IsOnLevel-start t postings level points frq stated rest begin end all le = recor
   begin_within = le;
   within = le;
 }
+
+-- a term that was checked from somewhere starts at its place, and is good
+pub IsGoodTerm-checked : (t : Term) (frq : List ℕ) (at : ℕ) (r : Result ℕ Spot) → 2 ≤ t.rules.skip_interval → at ≤ length frq → 0 < t.info.doc_freq
+    → MatchResult r (λ end. (value : TermData) × ReadsTo (term_plan t) (place_in frq at) value (place_in frq end)) (λ spot. (spot.kind ≡ Frq) × IsTermFault t (place_in frq at) spot.offset spot.rule)
+    → IfOk r (λ end. (at ≡ t.info.freq) × IsGoodTerm t.info t.rules frq)
+IsGoodTerm-checked t frq at (Ok end) two le some h =
+    let parts = TermParts-ReadsTo t (place_in frq at) h.0 (place_in frq end) h.1 in
+    let is : at ≡ t.info.freq = entries-start t (place_in frq at) parts.mid parts.all some in
+    (is, record {
+      interval = two;
+      within = omega arith;
+      value = h.0;
+      end = place_in frq end;
+      reads = subst (λ (n : ℕ). ReadsTo (term_plan t) (place_in frq n) h.0 (place_in frq end)) is h.1;
+    })
+IsGoodTerm-checked t frq at (Err spot) two le some h = tt

@@ -1,8 +1,8 @@
 //! A term's part of `.frq` is checked.
-ghost use Rattle.std.specs.Prelude.{◌≡◌, ℕ, ◌≤◌, length, IfOk, MatchResult, Ok, Err};
+ghost use Rattle.std.specs.Prelude.{◌≡◌, ℕ, ◌<◌, ◌≤◌, length, IfOk, MatchResult, Ok, Err};
 ghost use Rattle.lu_grammar.specs.Meaning.{ReadsTo};
 ghost use Rattle.lu_types.specs.declared.kind.FileKind.TheVariants.{Frq};
-ghost use Rattle.freq_skips.specs.Terms.{TermData, IsTermFault, term_of, term_plan, place_in};
+ghost use Rattle.freq_skips.specs.Terms.{TermData, IsGoodTerm, IsTermFault, term_of, term_plan, place_in};
 
 use crate::levels::check_levels;
 use crate::passing::check_entries;
@@ -19,6 +19,7 @@ pub fn check_term(frq: &[u8], at: usize, info: &TermInfo, rules: &TermRules) -> 
     ensures term { MatchResult result
         (λ end. (value : TermData) × ReadsTo (term_plan (term_of info.now rules.now)) (place_in frq.now at) value (place_in frq.now end))
         (λ spot. (spot.kind ≡ Frq) × IsTermFault (term_of info.now rules.now) (place_in frq.now at) spot.offset spot.rule) }
+    ensures good { 0 < info.now.doc_freq → IfOk result (λ _. (at ≡ info.now.freq) × IsGoodTerm info.now rules.now frq.now) }
     ensures within { IfOk result (λ end. end ≤ length frq.now) }
 {
     let term = Term {

@@ -11,6 +11,7 @@ mod level;
 mod levels;
 mod passing;
 mod rules;
+mod skip_point;
 mod walk;
 
 pub use check::check_term;
@@ -18,4 +19,5 @@ pub use entries::Entries;
 pub use entry::Entry;
 pub use laws::terms_in_turn;
 pub use rules::TermRules;
+pub use skip_point::SkipPoint;
 pub use walk::{Datum, Walk, Walked};

@@ -4,3 +4,4 @@ pub mod Levels
 pub mod Terms
 pub mod Walking
 pub mod Walks
+pub mod Written

@@ -13,6 +13,7 @@ mod passing;
 mod rules;
 mod skip_point;
 mod walk;
+mod writer;
 
 pub use check::check_term;
 pub use entries::Entries;

@@ -121,3 +121,14 @@ skip_bytes (suc k) r = skip_bytes k (risen r) ++ with_length r.number (data_byte
 -- the lowest level
 abbrev pub lowest : Bool → List Mark → ℕ → Rise
 lowest payloads marks interval = record { payloads = payloads; marks = marks; interval = interval; number = 0; step = 1; children = [] }
+
+-- documents and lengths that data can tell
+abbrev pub AreSmallMarks : List Mark → Type 0
+AreSmallMarks marks = (k : ℕ) → k < length marks → ((slice_index_or marks k no_mark).doc < 2 ^ 31) × ((slice_index_or marks k no_mark).freq < 2 ^ 31)
+
+-- child pointers that data can tell
+abbrev pub AreSmallPlaces : List ℕ → Type 0
+AreSmallPlaces places = (k : ℕ) → slice_index places k < 2 ^ 63
+
+abbrev pub rise_of : Bool → List Mark → ℕ → ℕ → ℕ → List ℕ → Rise
+rise_of payloads marks interval number step children = record { payloads = payloads; marks = marks; interval = interval; number = number; step = step; children = children }

@@ -16,6 +16,7 @@ record_at-kept {R} shape conditions c r d e = go (read_shape shape c) e
     kept : (x : R × Cursor) (o : Option ℕ) → first_broken (conditions x.0) ≡ o → unless_broken x o ≡ ok_pair r d → first_broken (conditions r) ≡ None
     kept x None is h = let p = same_pair x.0 r x.1 d h in ap (λ (a : R). first_broken (conditions a)) (sym p.0) ∙ is
     kept x (Some rule) is h = absurd (err_is_not_ok h)
+
     go : (x : Result (R × Cursor) Bad) → judged conditions x ≡ ok_pair r d → first_broken (conditions r) ≡ None
     go (Ok x) h = kept x (first_broken (conditions x.0)) refl h
     go (Err bad) h = absurd (err_is_not_ok h)
@@ -39,4 +40,3 @@ not-not false e = cc
 
 pub same-of : (m n : ℕ) → not (m == n) ≡ false → m ≡ n
 same-of m n e = eqb-true m n (not-not (m == n) e)
-

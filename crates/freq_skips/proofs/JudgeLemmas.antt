@@ -52,9 +52,11 @@ term-fault t from b fits e = record {
 pub term-good : (t : Term) (frq : List ℕ) (at mid end : ℕ) → IsBytes frq → AreEntries t (place_in frq at) (place_in frq mid) → AreGoodLevels t (postings_from t (place_in frq at)) frq mid end
     → (value : TermData) × ReadsTo (term_plan t) (place_in frq at) value (place_in frq end)
 term-good t frq at mid end fits all good =
-    let ps = postings_from t (place_in frq at) in
-    (data_of ps good.points, reads-read_plan (term_plan t) (place_in frq at) (data_of ps good.points) (place_in frq end) (IsBytes-drop at frq fits)
-        (term-goes_on t (place_in frq at) (place_in frq mid) all ∙ levels_after-good t ps (place_in frq mid) good.points (place_in frq end) good.reads))
+    let ps = postings_from t (place_in frq at) in (
+      data_of ps good.points,
+      reads-read_plan (term_plan t) (place_in frq at) (data_of ps good.points) (place_in frq end) (IsBytes-drop at frq fits)
+          (term-goes_on t (place_in frq at) (place_in frq mid) all ∙ levels_after-good t ps (place_in frq mid) good.points (place_in frq end) good.reads),
+    )
 
 pub term-levels_broken : (t : Term) (frq : List ℕ) (at mid offset rule : ℕ) → IsBytes frq → AreEntries t (place_in frq at) (place_in frq mid)
     → read_plan (levels t (postings_from t (place_in frq at)) (level_count t) []) (place_in frq mid) ≡ Err (record { offset = offset; rule = rule }) → IsTermFault t (place_in frq at) offset rule
@@ -71,7 +73,7 @@ term-entries_broken t frq at offset rule fits e =
 -- what the check answers of the levels it answers of the term
 pub term-judged : (t : Term) (frq : List ℕ) (at mid : ℕ) (r : Result ℕ Spot) → IsBytes frq → AreEntries t (place_in frq at) (place_in frq mid)
     → MatchResult r (λ end. AreGoodLevels t (postings_from t (place_in frq at)) frq mid end)
-        (λ spot. (spot.kind ≡ Frq) × (read_plan (levels t (postings_from t (place_in frq at)) (level_count t) []) (place_in frq mid) ≡ Err (record { offset = spot.offset; rule = spot.rule })))
+    (λ spot. (spot.kind ≡ Frq) × (read_plan (levels t (postings_from t (place_in frq at)) (level_count t) []) (place_in frq mid) ≡ Err (record { offset = spot.offset; rule = spot.rule })))
     → MatchResult r (λ end. (value : TermData) × ReadsTo (term_plan t) (place_in frq at) value (place_in frq end)) (λ spot. (spot.kind ≡ Frq) × IsTermFault t (place_in frq at) spot.offset spot.rule)
 term-judged t frq at mid (Ok end) fits all h = term-good t frq at mid end fits all h
 term-judged t frq at mid (Err spot) fits all h = (h.0, term-levels_broken t frq at mid spot.offset spot.rule fits all h.1)

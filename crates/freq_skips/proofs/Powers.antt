@@ -91,24 +91,24 @@ stride-two base n two =
 -- powers at most a number of 32 bits are few
 pub power-few : (base count n : ℕ) → 2 ≤ base → (count ≡ 0) ⊎ (base ^ count ≤ n) → n < 2 ^ 32 → count < 32
 power-few base count n two low small = elim (cases_lt count 32) [
-    | inl lt ↦ lt
-    | inr ge ↦ elim low [
-      | inl none ↦ omega arith
-      | inr le ↦
-          let one : 2 ^ count ≤ base ^ count = pow-le-pow_left two count in
-          let more : 2 ^ 32 ≤ 2 ^ count = pow-le-pow_right (omega arith) ge in
-          absurd (omega arith)
-    ]
+  | inl lt ↦ lt
+  | inr ge ↦ elim low [
+    | inl none ↦ omega arith
+    | inr le ↦
+        let one : 2 ^ count ≤ base ^ count = pow-le-pow_left two count in
+        let more : 2 ^ 32 ≤ 2 ^ count = pow-le-pow_right (omega arith) ge in
+        absurd (omega arith)
   ]
+]
 
 -- the power of the greatest is not above the number
 pub greatest_power-low : (base n most m : ℕ) → greatest_power base n most ≡ suc m → base ^ suc m ≤ n
 unfolding greatest_power
 greatest_power-low base n zero m e = absurd (omega arith)
 greatest_power-low base n (suc k) m e = elim (cases_lt n (base ^ suc k)) [
-    | inl gt ↦ greatest_power-low base n k m (sym (if_high base n k gt) ∙ e)
-    | inr le ↦ let same : suc k ≡ suc m = sym (if_low base n k le) ∙ e in subst (λ (j : ℕ). base ^ j ≤ n) same le
-  ]
+  | inl gt ↦ greatest_power-low base n k m (sym (if_high base n k gt) ∙ e)
+  | inr le ↦ let same : suc k ≡ suc m = sym (if_low base n k le) ∙ e in subst (λ (j : ℕ). base ^ j ≤ n) same le
+]
 
 -- the next quotients: by one factor more
 pub quotient-factor : (p s S : ℕ) → p / (S * s) ≡ p / S / s

@@ -26,7 +26,7 @@ pub terms-more : (terms : List Term) (t : Term) (frq : List ℕ) (place end : �
 terms-more terms t frq place end value fits before here =
     reads-read_plan (frq_plan (terms ++ t ∷ [])) (start_of frq) tt (place_in frq end) fits
     (in_turn-more term_plan terms t (start_of frq) (place_in frq place) value (place_in frq end) (read_plan-ReadsTo (frq_plan terms) (start_of frq) tt (place_in frq place) before)
-        (read_plan-ReadsTo (term_plan t) (place_in frq place) value (place_in frq end) here))
+    (read_plan-ReadsTo (term_plan t) (place_in frq place) value (place_in frq end) here))
 
 pub terms-whole : (terms : List Term) (frq : List ℕ) → AreTermsUpTo terms frq (length frq) → Reads (frq_plan terms) frq tt
 terms-whole terms frq h = subst (λ (bs : List ℕ). ReadsTo (frq_plan terms) (start_of frq) tt (record { place = length frq; rest = bs })) (drop-length frq) h
@@ -34,16 +34,16 @@ terms-whole terms frq h = subst (λ (bs : List ℕ). ReadsTo (frq_plan terms) (s
 -- a fault of a term is read as one
 term-broken : (t : Term) (from : Cursor) (offset rule : ℕ) → IsBytes from.rest → IsTermFault t from offset rule → read_plan (term_plan t) from ≡ Err (record { offset = offset; rule = rule })
 term-broken t from offset rule fits h = elim (read_plan-FaultFrom (term_plan t) from offset rule fits h.fault) [
-    | inl e ↦ e
-    | inr (v, more, some, is, e) ↦ absurd (h.unread v (at offset more) (reads-read_plan (term_plan t) from v (at offset more) fits e))
-  ]
+  | inl e ↦ e
+  | inr (v, more, some, is, e) ↦ absurd (h.unread v (at offset more) (reads-read_plan (term_plan t) from v (at offset more) fits e))
+]
 
 pub terms-fault : (terms : List Term) (t : Term) (rest : List Term) (frq : List ℕ) (place offset rule : ℕ) → IsBytes frq → AreTermsUpTo terms frq place → IsTermFault t (place_in frq place) offset rule
     → FirstFault (frq_plan (terms ++ t ∷ rest)) frq offset rule
 terms-fault terms t rest frq place offset rule fits before here =
     let b : Broken = record { offset = offset; rule = rule } in
     let e = in_turn-fault term_plan terms t rest (start_of frq) (place_in frq place) b (read_plan-ReadsTo (frq_plan terms) (start_of frq) tt (place_in frq place) before)
-        (term-broken t (place_in frq place) offset rule (IsBytes-drop place frq fits) here) in
+    (term-broken t (place_in frq place) offset rule (IsBytes-drop place frq fits) here) in
     FirstFault-from (frq_plan (terms ++ t ∷ rest)) frq b fits (ap (λ (r : Result (Unit {0} × Cursor) Broken). r >>= ended) e)
 
 -- bytes behind the last term

@@ -129,9 +129,9 @@ levels-points t postings m points above d found end e =
 -- the level is the highest where none is above it
 pub highest-same : (number count above : ℕ) → 0 < number → above + number ≡ count → (number - 1 + 1 == count) ≡ (above == 0)
 highest-same number count above pos is = elim (cases_eq above 0) [
-    | inl none ↦ eq-eqb (number - 1 + 1) count (omega arith) ∙ sym (eq-eqb above 0 none)
-    | inr some ↦ ne_eqb (number - 1 + 1) count (λ e. some (omega arith)) ∙ sym (ne_eqb above 0 some)
-  ]
+  | inl none ↦ eq-eqb (number - 1 + 1) count (omega arith) ∙ sym (eq-eqb above 0 none)
+  | inr some ↦ ne_eqb (number - 1 + 1) count (λ e. some (omega arith)) ∙ sym (ne_eqb above 0 some)
+]
 
 -- the start of a level is a place along it
 pub IsOnLevel-start : (t : Term) (postings : List Posting) (level : ℕ) (points : List Point) (frq : List ℕ) (stated : Option ℕ) (rest : List (List Point)) (begin : ℕ) (end : Cursor) → AreData t postings (level_of level stated rest) (place_in frq begin) points end
@@ -155,12 +155,14 @@ pub IsGoodTerm-checked : (t : Term) (frq : List ℕ) (at : ℕ) (r : Result ℕ 
     → IfOk r (λ end. (at ≡ t.info.freq) × IsGoodTerm t.info t.rules frq)
 IsGoodTerm-checked t frq at (Ok end) two le some h =
     let parts = TermParts-ReadsTo t (place_in frq at) h.0 (place_in frq end) h.1 in
-    let is : at ≡ t.info.freq = entries-start t (place_in frq at) parts.mid parts.all some in
-    (is, record {
-      interval = two;
-      within = omega arith;
-      value = h.0;
-      end = place_in frq end;
-      reads = subst (λ (n : ℕ). ReadsTo (term_plan t) (place_in frq n) h.0 (place_in frq end)) is h.1;
-    })
+    let is : at ≡ t.info.freq = entries-start t (place_in frq at) parts.mid parts.all some in (
+      is,
+      record {
+        interval = two;
+        within = omega arith;
+        value = h.0;
+        end = place_in frq end;
+        reads = subst (λ (n : ℕ). ReadsTo (term_plan t) (place_in frq n) h.0 (place_in frq end)) is h.1;
+      },
+    )
 IsGoodTerm-checked t frq at (Err spot) two le some h = tt

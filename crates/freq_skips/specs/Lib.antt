@@ -5,3 +5,4 @@ pub mod Terms
 pub mod Walking
 pub mod Walks
 pub mod Written
+pub mod Writing

@@ -16,5 +16,4 @@ pub fn terms_in_turn()
     ensures fault { (terms : List Term) (t : Term) (rest : List Term) (frq : List ℕ) (place offset rule : ℕ) → IsBytes frq → AreTermsUpTo terms frq place
         → IsTermFault t (place_in frq place) offset rule → FirstFault (frq_plan (terms ++ t ∷ rest)) frq offset rule }
     ensures trailing { (terms : List Term) (frq : List ℕ) (place : ℕ) → IsBytes frq → AreTermsUpTo terms frq place → place < length frq → FirstFault (frq_plan terms) frq place TRAILING }
-{
-}
+{}

@@ -18,10 +18,11 @@ use lu_prims::Cur;
 use lu_types::Spot;
 
 /// The greatest number up to the most for which the power of the base is at most `number`, or 0, and that power.
-fn greatest_power(base: u32, number: u32, most: u32) -> (u32, u64)
+pub fn greatest_power(base: u32, number: u32, most: u32) -> (u32, u64)
     requires { 2 ≤ base }
     ensures count { result.0 ≡ greatest_power_of base number most }
     ensures power { result.1 ≡ base ^ result.0 }
+    ensures low { result.0 ≡ 0 ⊎ result.1 ≤ number }
     ensures few { result.0 < 32 }
 {
     let limit = number / base;

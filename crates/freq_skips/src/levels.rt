@@ -46,13 +46,19 @@ fn read_length(cur: &mut Cur<'_>, term: &Term, first: bool) -> Result<u64, u16>
 }
 
 /// The length of a level that is to start at a place, where it has one, and the place where its data are to start.
-pub fn level_length(frq: &[u8], at: usize, term: &Term, number: u32, highest: bool) -> Result<(Option<u64>, usize), Spot>
+pub fn level_length(
+    frq: &[u8],
+    at: usize,
+    term: &Term,
+    number: u32,
+    highest: bool,
+) -> Result<(Option<u64>, usize), Spot>
     requires { at ≤ length frq.now }
     ensures within { IfOk result (λ x. x.1 ≤ length frq.now) }
     ensures level { (postings : List Posting) (points : List (List Point)) → highest ≡ (length points == 0)
         → MatchResult result
-            (λ x. read_plan (level_plan term.now postings number points) (place_in frq.now at) ≡ read_plan (level_data term.now postings (level_of number x.0 points)) (place_in frq.now x.1))
-            (λ spot. (spot.kind ≡ Frq) × (read_plan (level_plan term.now postings number points) (place_in frq.now at) ≡ Err (record { offset = spot.offset; rule = spot.rule }))) }
+        (λ x. read_plan (level_plan term.now postings number points) (place_in frq.now at) ≡ read_plan (level_data term.now postings (level_of number x.0 points)) (place_in frq.now x.1))
+        (λ spot. (spot.kind ≡ Frq) × (read_plan (level_plan term.now postings number points) (place_in frq.now at) ≡ Err (record { offset = spot.offset; rule = spot.rule }))) }
 {
     if number == 0 {
         return Ok((None, at));
@@ -73,7 +79,15 @@ struct LevelPlaces {
 
 /// Checks the level with a number that is to start at a place, of a term whose entries are good and start at another; the
 /// data of the level above, where there is one, are good and start at a third.
-fn check_level(frq: &[u8], at: usize, entries: usize, term: &Term, number: u32, stride: u64, above: Option<usize>) -> Result<LevelPlaces, Spot>
+fn check_level(
+    frq: &[u8],
+    at: usize,
+    entries: usize,
+    term: &Term,
+    number: u32,
+    stride: u64,
+    above: Option<usize>,
+) -> Result<LevelPlaces, Spot>
     requires interval { 2 ≤ term.now.rules.skip_interval }
     requires stride { stride ≡ stride_of term.now number }
     requires number { number + 1 < 2 ^ 32 }
@@ -83,9 +97,9 @@ fn check_level(frq: &[u8], at: usize, entries: usize, term: &Term, number: u32, 
     requires entries_good { AreGoodFrom term.now (place_in frq.now entries) }
     ensures { (points : List (List Point)) → StandAbove term.now (postings_from term.now (place_in frq.now entries)) (suc number) points frq.now above
         → MatchResult result
-            (λ places. IsGoodLevel term.now (postings_from term.now (place_in frq.now entries)) number points frq.now at places.«data» places.end)
-            (λ spot. (spot.kind ≡ Frq) × (read_plan (level_plan term.now (postings_from term.now (place_in frq.now entries)) number points) (place_in frq.now at)
-                ≡ Err (record { offset = spot.offset; rule = spot.rule }))) }
+        (λ places. IsGoodLevel term.now (postings_from term.now (place_in frq.now entries)) number points frq.now at places.«data» places.end)
+        (λ spot. (spot.kind ≡ Frq) × (read_plan (level_plan term.now (postings_from term.now (place_in frq.now entries)) number points) (place_in frq.now at)
+        ≡ Err (record { offset = spot.offset; rule = spot.rule }))) }
 {
     let (stated, data) = match level_length(frq, at, term, number, above.is_none()) {
         Err(spot) => return Err(spot),
@@ -112,7 +126,7 @@ pub fn check_levels(frq: &[u8], at: usize, entries: usize, term: &Term) -> Resul
     ensures { MatchResult result
         (λ end. AreGoodLevels term.now (postings_from term.now (place_in frq.now entries)) frq.now at end)
         (λ spot. (spot.kind ≡ Frq) × (read_plan (levels term.now (postings_from term.now (place_in frq.now entries)) (count_of_levels term.now) []) (place_in frq.now at)
-            ≡ Err (record { offset = spot.offset; rule = spot.rule }))) }
+        ≡ Err (record { offset = spot.offset; rule = spot.rule }))) }
 {
     let interval = u64::from(term.rules.skip_interval);
     let (count, power) = level_count(term);

@@ -22,3 +22,4 @@ pub use laws::terms_in_turn;
 pub use rules::TermRules;
 pub use skip_point::SkipPoint;
 pub use walk::{Datum, Walk, Walked};
+pub use writer::FreqWriter;

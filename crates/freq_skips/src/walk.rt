@@ -134,7 +134,13 @@ fn first_rungs(frq: &[u8], term: &Term, count: u32, power: u64) -> [Rung; MOST_L
             count: 0,
             last: NO_POINT,
         };
-        place = data_end(frq, start, term, number, quotient(term.info.doc_freq, stride));
+        place = data_end(
+            frq,
+            start,
+            term,
+            number,
+            quotient(term.info.doc_freq, stride),
+        );
         stride /= interval;
     }
     rungs
@@ -189,26 +195,24 @@ impl<'a> Model for Walk<'a> {
 
     ghost view = { λ w. record { term = w.term; value = value_from w.term (start_in w.term w.frq.now); passed = w.passing.index } };
 
-    ghost invariant = {
-        λ w. record {
-            interval : 2 ≤ w.term.rules.skip_interval;
-            bytes : IsBytes w.frq.now;
-            small : length w.frq.now < 2 ^ 32;
-            begin_within : w.term.info.freq ≤ length w.frq.now;
-            all : AreGoodFrom w.term (start_in w.term w.frq.now);
-            postings : (value_from w.term (start_in w.term w.frq.now)).postings ≡ postings_from w.term (start_in w.term w.frq.now);
-            levels : w.count ≡ level_count w.term;
-            few : w.count < 32;
-            stands : Stands w.term (start_in w.term w.frq.now) w.passing.index w.passing.doc w.passing.cur;
-            within : w.passing.index ≤ w.term.info.doc_freq;
-            on : AreOnLevels w.term w.frq.now w.passing.index w.rungs;
-            fresh_within : w.fresh ≤ w.count;
-            low : (n : ℕ) → n < w.fresh → IsFresh w.term w.frq.now n w.passing.index (slice_index_or w.rungs n no_rung).last;
-            some : 0 < w.fresh → 0 < w.passing.index;
-            high : (n : ℕ) → w.fresh ≤ n → n < level_count w.term → IsStale w.term n w.passing.index;
-            before : 0 < w.passing.index → IsBefore w.term w.frq.now w.passing.index w.doc w.freq;
-        }
-    };
+    ghost invariant = { λ w. record {
+      interval : 2 ≤ w.term.rules.skip_interval;
+      bytes : IsBytes w.frq.now;
+      small : length w.frq.now < 2 ^ 32;
+      begin_within : w.term.info.freq ≤ length w.frq.now;
+      all : AreGoodFrom w.term (start_in w.term w.frq.now);
+      postings : (value_from w.term (start_in w.term w.frq.now)).postings ≡ postings_from w.term (start_in w.term w.frq.now);
+      levels : w.count ≡ level_count w.term;
+      few : w.count < 32;
+      stands : Stands w.term (start_in w.term w.frq.now) w.passing.index w.passing.doc w.passing.cur;
+      within : w.passing.index ≤ w.term.info.doc_freq;
+      on : AreOnLevels w.term w.frq.now w.passing.index w.rungs;
+      fresh_within : w.fresh ≤ w.count;
+      low : (n : ℕ) → n < w.fresh → IsFresh w.term w.frq.now n w.passing.index (slice_index_or w.rungs n no_rung).last;
+      some : 0 < w.fresh → 0 < w.passing.index;
+      high : (n : ℕ) → w.fresh ≤ n → n < level_count w.term → IsStale w.term n w.passing.index;
+      before : 0 < w.passing.index → IsBefore w.term w.frq.now w.passing.index w.doc w.freq;
+    } };
 }
 
 impl<'a> Walk<'a> {
@@ -229,7 +233,11 @@ impl<'a> Walk<'a> {
         Walk {
             frq,
             term,
-            passing: Passing { cur, index: 0, doc: 0 },
+            passing: Passing {
+                cur,
+                index: 0,
+                doc: 0,
+            },
             count,
             fresh: 0,
             doc: 0,

@@ -13,7 +13,9 @@ loop-turn-init c = record {
   few = omega arith;
   goes_on = λ postings stated above points end is all. (
     subst (λ (d : Cursor). Follows c.args.term.now postings (level_of c.args.number stated above) (place_in c.args.frq.now c.args.start) 0 no_point d) (sym c.at.ensures)
-      (Follows-none c.args.term.now postings (level_of c.args.number stated above) (place_in c.args.frq.now c.args.start)), refl);
+        (Follows-none c.args.term.now postings (level_of c.args.number stated above) (place_in c.args.frq.now c.args.start)),
+    refl,
+  );
 }
 
 pub loop-turn-preserved : goal.loop-turn-preserved
@@ -23,9 +25,10 @@ loop-turn-preserved c = record {
   goes_on = λ postings stated above points end is all.
       let h = c.loop-turn.invariant.goes_on postings stated above points end is all in
       let lt : c.loop-turn.following.count < data_count c.args.term.now c.args.number = omega (arith, h.1, is) in
-      let next = c.pass.ensures.goes_on postings stated above (place_in c.args.frq.now c.args.start) points end all h.0 lt in
-      (subst (λ (n : ℕ). Follows c.args.term.now postings (level_of c.args.number stated above) (place_in c.args.frq.now c.args.start) n c.pass.new.self.last c.pass.new.self.cur) (sym next.1) next.0.follows,
-       omega (arith, next.1, h.1));
+      let next = c.pass.ensures.goes_on postings stated above (place_in c.args.frq.now c.args.start) points end all h.0 lt in (
+        subst (λ (n : ℕ). Follows c.args.term.now postings (level_of c.args.number stated above) (place_in c.args.frq.now c.args.start) n c.pass.new.self.last c.pass.new.self.cur) (sym next.1) next.0.follows,
+        omega (arith, next.1, h.1),
+      );
 }
 
 pub returns : goal.returns

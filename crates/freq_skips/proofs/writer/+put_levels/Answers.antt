@@ -22,10 +22,25 @@ overflow_mul-step t c =
 pub put_levels-requires : goal.put_levels-requires
 put_levels-requires t c =
     let r = rise_of c.args.payloads c.args.marks.now c.args.interval c.args.number c.args.step c.args.children.now in
-    let places = c.deref.ensures.value ∙ c.in_ok-level.ensures.places in
-    (omega (arith, c.decreases), (step-pos c.args.step c.args.interval c.requires.step c.requires.interval, (c.requires.interval, (c.requires.small, (inr (places-enough r c.deref.result.now c.requires.interval places),
-        (subst (λ (l : List ℕ). AreSmallPlaces l) (sym c.deref.ensures.value) c.in_ok-level.ensures.small,
-         (step-next c.args.step c.args.interval c.args.left (omega arith) (low c.args.left c.args.step c.args.interval c.if-left-eq0.false c.requires.steps), omega arith)))))))
+    let places = c.deref.ensures.value ∙ c.in_ok-level.ensures.places in (
+      omega (arith, c.decreases),
+      (
+        step-pos c.args.step c.args.interval c.requires.step c.requires.interval,
+        (
+          c.requires.interval,
+          (
+            c.requires.small,
+            (
+              inr (places-enough r c.deref.result.now c.requires.interval places),
+              (
+                subst (λ (l : List ℕ). AreSmallPlaces l) (sym c.deref.ensures.value) c.in_ok-level.ensures.small,
+                (step-next c.args.step c.args.interval c.args.left (omega arith) (low c.args.left c.args.step c.args.interval c.if-left-eq0.false c.requires.steps), omega arith),
+              ),
+            ),
+          ),
+        ),
+      ),
+    )
 
 -- the levels above, and then this one
 all-levels : (r : Rise) (k left : ℕ) (old out children bytes : List ℕ) (number : ℕ) → left ≡ suc k → number ≡ suc r.number → children ≡ places_after r (rise_count r) → bytes ≡ data_bytes r (rise_count r)
@@ -33,10 +48,10 @@ all-levels : (r : Rise) (k left : ℕ) (old out children bytes : List ℕ) (numb
 all-levels r k left old out children bytes number is next places same e =
     ap (λ (b : List ℕ). b ++ with_length r.number bytes) e ∙ append_assoc old (skip_bytes k (rise_of r.payloads r.marks r.interval number (r.step * r.interval) children)) (with_length r.number bytes)
     ∙ ap (λ (b : List ℕ). old ++ b)
-        (ap (λ (n : ℕ). skip_bytes k (rise_of r.payloads r.marks r.interval n (r.step * r.interval) children) ++ with_length r.number bytes) next
-        ∙ ap (λ (l : List ℕ). skip_bytes k (rise_of r.payloads r.marks r.interval (suc r.number) (r.step * r.interval) l) ++ with_length r.number bytes) places
-        ∙ ap (λ (b : List ℕ). skip_bytes k (risen r) ++ with_length r.number b) same
-        ∙ sym (skip_bytes-next r k left is))
+    (ap (λ (n : ℕ). skip_bytes k (rise_of r.payloads r.marks r.interval n (r.step * r.interval) children) ++ with_length r.number bytes) next
+    ∙ ap (λ (l : List ℕ). skip_bytes k (rise_of r.payloads r.marks r.interval (suc r.number) (r.step * r.interval) l) ++ with_length r.number bytes) places
+    ∙ ap (λ (b : List ℕ). skip_bytes k (risen r) ++ with_length r.number b) same
+    ∙ sym (skip_bytes-next r k left is))
 
 pub returns : goal.returns
 returns t c =

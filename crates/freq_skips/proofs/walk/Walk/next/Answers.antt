@@ -70,7 +70,8 @@ returns c =
     let count : length v.postings ≡ t.info.doc_freq = ap length i.postings ∙ postings_from-length t start i.all.0 i.all.1 in
     let walked : Posting → Walked = λ q. record { index = k; doc = q.doc; freq = q.freq } in
     let state : WalkState → Walked = λ w. record { index = w.passed; doc = (slice_index_or w.value.postings w.passed no_posting).doc; freq = (slice_index_or w.value.postings w.passed no_posting).freq } in
-    let below : k < length v.postings = omega (arith, count, i.within) in
-    (subst (λ (w : WalkState). w.passed < length w.value.postings) c.self.view_is below,
-     sym (ap walked p) ∙ ap state c.self.view_is,
-     ap (λ (n : ℕ). advanced t v n) c.in-Ok.ensures.0 ∙ ap (λ (w : WalkState). advanced w.term w.value (w.passed + 1)) c.self.view_is)
+    let below : k < length v.postings = omega (arith, count, i.within) in (
+      subst (λ (w : WalkState). w.passed < length w.value.postings) c.self.view_is below,
+      sym (ap walked p) ∙ ap state c.self.view_is,
+      ap (λ (n : ℕ). advanced t v n) c.in-Ok.ensures.0 ∙ ap (λ (w : WalkState). advanced w.term w.value (w.passed + 1)) c.self.view_is,
+    )

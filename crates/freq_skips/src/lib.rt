@@ -23,3 +23,6 @@ pub use rules::TermRules;
 pub use skip_point::SkipPoint;
 pub use walk::{Datum, Walk, Walked};
 pub use writer::FreqWriter;
+
+#[cfg(test)]
+mod tests;

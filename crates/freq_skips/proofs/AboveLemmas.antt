@@ -1,0 +1,97 @@
+-- The walk along the level above.
+use Rattle.std.proofs.Common.{◌≡◌, ◌≢◌, ℕ, suc, add-one, sub-one, ◌+◌, ◌-◌, ◌*◌, ◌/◌, ◌%◌, ◌^◌, ◌<◌, ◌≤◌, eqb, true, false, List, [], ◌∷◌, length, Option, Some, None, refl, sym, ap, subst, ◌∙◌, arith}
+use Rattle.std.specs.Option.{option_map}
+use Rattle.std.specs.Prelude.{slice_index_or, if◌then◌else◌}
+use Rattle.std.proofs.lemmas.Bool.{eq-eqb, ne_eqb}
+use Rattle.std.proofs.Math.Nat.{pow-suc, div-div-eq-div-mul, zero-div}
+use Rattle.lu_grammar.specs.Bytes.{Cursor}
+use Rattle.freq_skips.specs.declared.rules.Term.{Term}
+use Rattle.freq_skips.specs.declared.datum.Point.{Point}
+use Rattle.freq_skips.specs.declared.following.Following.{Following}
+use Rattle.freq_skips.specs.Entries.{Posting}
+use Rattle.freq_skips.specs.Levels.{no_point, level_of, child_above, data_count, stride, Follows, AreData, Passes}
+use Rattle.freq_skips.specs.Terms.{place_in}
+use Rattle.freq_skips.specs.Walking.{FollowsPoints, FollowsAbove, IsSmallAbove, StandAbove}
+use Rattle.freq_skips.proofs.LevelLemmas.{Follows-none}
+use Rattle.freq_skips.proofs.Powers.{quotient-next, quotient-same, quotient-below}
+
+-- a level has as many data as the one below has multiples of the interval
+pub data_count-above : (t : Term) (n : ℕ) → data_count t n / t.rules.skip_interval ≡ data_count t (suc n)
+data_count-above t n =
+    let s = t.rules.skip_interval in div-div-eq-div-mul t.info.doc_freq (s ^ suc n) s ∙ ap (λ (k : ℕ). t.info.doc_freq / k) (sym (pow-suc s (suc n)))
+
+-- the next datum of the level below is none that the level above leads to
+pub above-skips : (t : Term) (postings : List Posting) (level : ℕ) (points : List (List Point)) (passed : ℕ) (o : Option Following) (f : Following) → o ≡ Some f → 2 ≤ t.rules.skip_interval → (passed + 1) % t.rules.skip_interval ≢ 0
+    → FollowsAbove t postings level points passed o → (None ≡ child_above t points (suc passed)) × FollowsAbove t postings level points (suc passed) (Some f)
+above-skips t postings level points passed o f is two ne h = go points (subst (λ (x : Option Following). FollowsAbove t postings level points passed x) is h)
+  where
+    go : (points : List (List Point)) → FollowsAbove t postings level points passed (Some f) → (None ≡ child_above t points (suc passed)) × FollowsAbove t postings level points (suc passed) (Some f)
+    go [] h = absurd h
+    go (ps ∷ rest) h =
+        let test : eqb (suc passed % t.rules.skip_interval) 0 ≡ false = ne_eqb _ _ (λ e. ne (ap (λ (n : ℕ). n % t.rules.skip_interval) (add-one passed) ∙ e)) in
+        (rw test refl, record { stated = h.stated; begin = h.begin; end = h.end; all = h.all; follows = h.follows; number = h.number ∙ sym (quotient-same passed t.rules.skip_interval (omega arith) ne) })
+
+-- where it is one, there is a datum above to take
+pub above-has : (t : Term) (postings : List Posting) (level n : ℕ) (points : List Point) (rest : List (List Point)) (passed : ℕ) (f : Following) → level ≡ suc n → 2 ≤ t.rules.skip_interval → (passed + 1) % t.rules.skip_interval ≡ 0
+    → passed < data_count t n → FollowsPoints t postings level points rest passed f → f.count < data_count t level
+above-has t postings level n points rest passed f is two e lt h =
+    let s = t.rules.skip_interval in
+    let below = quotient-below passed s (data_count t n) (omega arith) e lt in
+    subst (λ (k : ℕ). f.count < data_count t k) (sym is) (subst (λ (k : ℕ). f.count < k) (data_count-above t n) (subst (λ (k : ℕ). k < data_count t n / s) (sym h.number) below))
+
+-- and its child pointer is the one that is wanted
+abbrev TakesAbove : Term → List Posting → ℕ → Following → Following → Type 0
+TakesAbove t postings level f g = (stated : Option ℕ) (above : List (List Point)) (begin : Cursor) (points : List Point) (end : Cursor) → AreData t postings (level_of level stated above) begin points end
+    → Follows t postings (level_of level stated above) begin f.count f.last f.cur → f.count < data_count t level
+    → Passes t postings (level_of level stated above) begin points f.count g.last g.cur × (g.count ≡ f.count + 1)
+
+pub above-passes : (t : Term) (postings : List Posting) (level n : ℕ) (points : List (List Point)) (passed : ℕ) (o : Option Following) (f g : Following) → o ≡ Some f → level ≡ suc n → 2 ≤ t.rules.skip_interval
+    → (passed + 1) % t.rules.skip_interval ≡ 0 → passed < data_count t n → TakesAbove t postings level f g → FollowsAbove t postings level points passed o
+    → (Some g.last.child ≡ child_above t points (suc passed)) × FollowsAbove t postings level points (suc passed) (Some g)
+above-passes t postings level n points passed o f g is at two e lt takes h = go points (subst (λ (x : Option Following). FollowsAbove t postings level points passed x) is h)
+  where
+    s : ℕ
+    s = t.rules.skip_interval
+
+    go : (points : List (List Point)) → FollowsAbove t postings level points passed (Some f) → (Some g.last.child ≡ child_above t points (suc passed)) × FollowsAbove t postings level points (suc passed) (Some g)
+    go [] h = absurd h
+    go (ps ∷ rest) h =
+        let test : eqb (suc passed % t.rules.skip_interval) 0 ≡ true = eq-eqb _ _ (ap (λ (n : ℕ). n % t.rules.skip_interval) (sym (add-one passed)) ∙ e) in
+        let taken = takes h.stated rest h.begin ps h.end h.all h.follows (above-has t postings level n ps rest passed f at two e lt h) in
+        let next = quotient-next passed t.rules.skip_interval (omega arith) e in
+        let index : suc passed / t.rules.skip_interval - 1 ≡ f.count = omega (arith, next, h.number) in (
+          rw test (ap (λ (p : Point). Some p.child) (sym taken.0.point) ∙ ap (λ (k : ℕ). Some (slice_index_or ps k no_point).child) (sym index)),
+          record {
+            stated = h.stated;
+            begin = h.begin;
+            end = h.end;
+            all = h.all;
+            follows = subst (λ (k : ℕ). Follows t postings (level_of level h.stated rest) h.begin k g.last g.cur) (sym taken.1) taken.0.follows;
+            number = omega (arith, next, h.number, taken.1);
+          },
+        )
+
+-- before the first datum
+pub above-starts : (t : Term) (postings : List Posting) (level : ℕ) (points : List (List Point)) (frq : List ℕ) (o : Option ℕ) (r : Option Following)
+    → r ≡ option_map (λ place. record { cur = place_in frq place; count = 0; last = no_point }) o → StandAbove t postings level points frq o → FollowsAbove t postings level points 0 r
+above-starts t postings level points frq o r is h = subst (λ (x : Option Following). FollowsAbove t postings level points 0 x) (sym is) (go points o h)
+  where
+    go : (points : List (List Point)) (o : Option ℕ) → StandAbove t postings level points frq o → FollowsAbove t postings level points 0 (option_map (λ place. record { cur = place_in frq place; count = 0; last = no_point }) o)
+    go [] None h = tt
+    go [] (Some place) h = absurd h
+    go (ps ∷ rest) None h = absurd h
+    go (ps ∷ rest) (Some place) h = record {
+      stated = h.stated;
+      begin = place_in frq place;
+      end = h.end;
+      all = h.all;
+      follows = Follows-none t postings (level_of level h.stated rest) (place_in frq place);
+      number = sym (zero-div t.rules.skip_interval);
+    }
+
+pub above-small : (o : Option ℕ) (frq : List ℕ) (r : Option Following) → r ≡ option_map (λ place. record { cur = place_in frq place; count = 0; last = no_point }) o → IsSmallAbove 0 r
+above-small o frq r is = subst (λ (x : Option Following). IsSmallAbove 0 x) (sym is) (go o)
+  where
+    go : (o : Option ℕ) → IsSmallAbove 0 (option_map (λ place. record { cur = place_in frq place; count = 0; last = no_point }) o)
+    go None = tt
+    go (Some place) = (record { doc = omega arith; freq = omega arith; prox = omega arith }, omega arith)

@@ -1,0 +1,10 @@
+use Rattle.std.proofs.Common.{suc, ◌∙◌}
+use Rattle.freq_skips.specs.Entries.{postings_from}
+use Rattle.freq_skips.specs.Terms.{place_in}
+use Rattle.freq_skips.proofs.LengthLemmas.{none_above, IsGoodLevel-data}
+use Rattle.freq_skips.proofs.levels.check_level.Goals as goal
+
+pub returns-in-Err : goal.returns-in-Err
+returns-in-Err c = λ points h.
+    let ps = postings_from c.args.term.now (place_in c.args.frq.now c.args.entries) in
+    c.in-Err.ensures.level ps points (none_above c.args.term.now ps (suc c.args.number) points c.args.frq.now c.args.above c.is_none.result c.is_none.ensures h)

@@ -1,0 +1,25 @@
+use Rattle.std.proofs.Common.{◌≡◌, ◌^◌, ◌<◌, ◌≤◌, List, [], length}
+use Rattle.std.specs.Prelude.{IfSome}
+use Rattle.lu_grammar.specs.Plans.{read_plan}
+use Rattle.freq_skips.specs.declared.datum.Point.{Point}
+use Rattle.freq_skips.specs.Entries.{postings_from}
+use Rattle.freq_skips.specs.Levels.{level_count, levels}
+use Rattle.freq_skips.specs.Terms.{place_in}
+use Rattle.freq_skips.specs.Walking.{StandAbove}
+use Rattle.freq_skips.proofs.levels.check_levels.Given as goal
+
+abbrev pub invariant-loop-number : goal.invariant-loop-number
+invariant-loop-number l =
+    let postings = postings_from l.term (place_in l.frq l.entries) in
+    record {
+      stride : l.stride ≡ l.term.rules.skip_interval ^ l.number;
+      few : l.number < 2 ^ 32;
+      place_within : l.place ≤ length l.frq;
+      above_within : IfSome l.above (λ place. place ≤ length l.frq);
+      points : List (List Point);
+      stand : StandAbove l.term postings l.number points l.frq l.above;
+      so_far : read_plan (levels l.term postings (level_count l.term) []) (place_in l.frq l.at) ≡ read_plan (levels l.term postings l.number points) (place_in l.frq l.place);
+    }
+
+abbrev pub decreases-loop-number : goal.decreases-loop-number
+decreases-loop-number l = l.number

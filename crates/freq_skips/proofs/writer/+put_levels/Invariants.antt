@@ -1,0 +1,4 @@
+use Rattle.freq_skips.proofs.writer.+put_levels.Given as goal
+
+abbrev pub decreases-put_levels : goal.decreases-put_levels
+decreases-put_levels l = l.left

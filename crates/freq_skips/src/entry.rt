@@ -1,0 +1,163 @@
+//! One entry: its parts, and what it must meet.
+ghost use Rattle.std.specs.Prelude.{◌≡◌, ℕ, ◌+◌, ◌/◌, ◌%◌, ◌^◌, ◌<◌, ◌==◌, ◌&&◌, not, nat_le, IfOk, MatchResult, Ok, Err, None, if◌then◌else◌};
+ghost use Rattle.lu_grammar.specs.Bytes.{IsBytes};
+ghost use Rattle.lu_grammar.specs.Parts.{num};
+ghost use Rattle.lu_grammar.specs.Records.{read_shape, record_at, first_broken, rule_of};
+ghost use Rattle.freq_skips.specs.Records.{Record, GivesPart, optional_length, entry, entry_shape, states_frequency, is_odd as is_odd_number};
+ghost use Rattle.freq_skips.specs.Entries.{entry_conditions, gap as gap_of, posting_of, frequency, is_low};
+
+use crate::rules::Term;
+use lu_prims::{Bad, Cur};
+use lu_types::rules::{
+    DOC_ORDER, DOC_RANGE, ENDS, FREQ, FREQ_START, LONG_NUMBER, NOT_UTF8, TOO_GREAT,
+};
+
+/// A document that has the term, and how often the term stands in it.
+#[derive(Clone, Copy, Debug, PartialEq, Eq)]
+pub struct Entry {
+    pub doc: u32,
+    pub freq: u32,
+}
+
+/// The least frequency that is stated: 1 is told by an odd delta.
+const LEAST_STATED: u32 = 2;
+
+/// Whether a number is odd.
+pub fn is_odd(n: u32) -> bool
+    ensures { result ≡ is_odd_number n }
+{
+    n % 2 == 1
+}
+
+/// A num that stands where the test holds.
+pub fn optional_num(cur: &mut Cur<'_>, test: bool) -> Result<Option<u32>, Bad>
+    ensures gives { GivesPart test num cur.old cur.new result }
+    ensures place { IsBytes cur.old.rest → IfOk result (λ found. (cur.new.place ≡ cur.old.place + optional_length num found) × IsBytes cur.new.rest) }
+{
+    if !test {
+        return Ok(None);
+    }
+    match cur.num() {
+        Err(bad) => Err(bad),
+        Ok(found) => Ok(Some(found)),
+    }
+}
+
+/// The delta of an entry, and its frequency where that is stated.
+fn entry_parts(cur: &mut Cur<'_>, term: &Term) -> Result<(u32, Option<u32>), Bad>
+    ensures { MatchResult result
+        (λ x. read_shape (entry_shape term.now) cur.old ≡ Ok (entry x.0 x.1, cur.new))
+        (λ bad. read_shape (entry_shape term.now) cur.old ≡ Err bad) }
+{
+    let delta = match cur.vint() {
+        Err(bad) => return Err(bad),
+        Ok(delta) => delta,
+    };
+    match optional_num(cur, !term.rules.omit_tf && !is_odd(delta)) {
+        Err(bad) => Err(bad),
+        Ok(stated) => Ok((delta, stated)),
+    }
+}
+
+/// How far the document of an entry is above the one before.
+fn gap(term: &Term, delta: u32) -> u32
+    ensures { result ≡ gap_of term.now delta }
+{
+    if term.rules.omit_tf { delta } else { delta / 2 }
+}
+
+/// The stated frequency, or else 1.
+fn frequency_or_one(stated: Option<u32>) -> u32
+    ensures { result ≡ frequency stated }
+{
+    match stated {
+        None => 1,
+        Some(freq) => freq,
+    }
+}
+
+/// Whether a frequency is stated that is too low to be.
+fn is_low_frequency(stated: Option<u32>) -> bool
+    ensures { result ≡ is_low stated }
+{
+    match stated {
+        None => false,
+        Some(freq) => freq < LEAST_STATED,
+    }
+}
+
+/// Whether the first entry of a term does not start where the dictionary says.
+fn starts_elsewhere(term: &Term, first: bool, place: usize) -> bool
+    ensures { result ≡ (first && not (place == term.now.info.freq)) }
+{
+    first && place != term.info.freq as usize
+}
+
+/// Whether an entry that is not the first has the document of the one before.
+fn repeats(first: bool, gap: u32) -> bool
+    ensures { result ≡ (not first && (gap == 0)) }
+{
+    !first && gap == 0
+}
+
+/// The first rule that an entry breaks at a place, after the document of the entry before.
+fn entry_broken(
+    term: &Term,
+    first: bool,
+    last: u32,
+    place: usize,
+    delta: u32,
+    stated: Option<u32>,
+) -> Option<u16>
+    ensures broken { result ≡ first_broken (entry_conditions term.now first last place (entry delta stated)) }
+    ensures below { result ≡ None → last + gap_of term.now delta < 2 ^ 32 }
+{
+    let gap = gap(term, delta);
+    let documents = term.rules.documents;
+    if starts_elsewhere(term, first, place) {
+        return Some(FREQ_START);
+    }
+    if repeats(first, gap) {
+        return Some(DOC_ORDER);
+    }
+    if u64::from(last) + u64::from(gap) >= u64::from(documents) {
+        return Some(DOC_RANGE);
+    }
+    if is_low_frequency(stated) {
+        return Some(FREQ);
+    }
+    None
+}
+
+/// The rule that a part without a spelling breaks.
+pub fn rule_of_bad(bad: Bad) -> u16
+    ensures { result ≡ rule_of bad }
+{
+    match bad {
+        Bad::Ends => ENDS,
+        Bad::LongNumber => LONG_NUMBER,
+        Bad::TooGreat => TOO_GREAT,
+        Bad::NotUtf8 => NOT_UTF8,
+    }
+}
+
+/// The entry that stands here, the first of its term or not, after a document; or the first rule that it breaks.
+pub fn next_entry(cur: &mut Cur<'_>, term: &Term, first: bool, last: u32) -> Result<Entry, u16>
+    ensures { MatchResult result
+        (λ e. (r : Record) × (record_at (entry_shape term.now) (entry_conditions term.now first last cur.old.place) cur.old ≡ Ok (r, cur.new))
+        × (posting_of term.now last cur.old.place r ≡ record { doc = e.doc; freq = e.freq; before = last; place = cur.old.place }))
+        (λ rule. record_at (entry_shape term.now) (entry_conditions term.now first last cur.old.place) cur.old ≡ Err rule) }
+{
+    let place = cur.place();
+    let (delta, stated) = match entry_parts(cur, term) {
+        Err(bad) => return Err(rule_of_bad(bad)),
+        Ok(parts) => parts,
+    };
+    match entry_broken(term, first, last, place, delta, stated) {
+        Some(rule) => Err(rule),
+        None => Ok(Entry {
+            doc: last + gap(term, delta),
+            freq: frequency_or_one(stated),
+        }),
+    }
+}

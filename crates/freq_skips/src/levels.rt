@@ -1,0 +1,149 @@
+//! All skip levels of a term.
+ghost use Rattle.std.specs.Prelude.{◌≡◌, ℕ, suc, ◌+◌, ◌/◌, ◌^◌, ◌<◌, ◌≤◌, List, [], ◌∷◌, Option, length, ◌==◌, IfOk, IfSome, MatchResult, Ok, Err};
+ghost use Rattle.lu_grammar.specs.Records.{record_at, first_broken};
+ghost use Rattle.lu_grammar.specs.Plans.{read_plan};
+ghost use Rattle.lu_types.specs.declared.kind.FileKind.TheVariants.{Frq};
+ghost use Rattle.freq_skips.specs.declared.datum.Point.{Point};
+ghost use Rattle.freq_skips.specs.Records.{level_length as length_record, length_shape};
+ghost use Rattle.freq_skips.specs.Entries.{Posting, postings_from, AreGoodFrom};
+ghost use Rattle.freq_skips.specs.Levels.{skip_start, level_of, stride as stride_of, level_data, level_plan, level_count as count_of_levels, levels};
+ghost use Rattle.freq_skips.specs.Terms.{place_in};
+ghost use Rattle.freq_skips.specs.Walking.{StandAbove, IsGoodLevel, AreGoodLevels};
+
+use crate::datum::skips_start_elsewhere;
+use crate::entry::rule_of_bad;
+use crate::level::{Level, check_data, level_count};
+use crate::passing::fault_at;
+use crate::rules::Term;
+use lu_prims::Cur;
+use lu_types::Spot;
+use lu_types::rules::SKIP_START;
+
+/// The first rule that the length of a level breaks at a place, the first record of the skip data or not.
+fn length_broken(term: &Term, first: bool, place: usize) -> Option<u16>
+    ensures { result ≡ first_broken (skip_start term.now first place ∷ []) }
+{
+    if skips_start_elsewhere(term, first, place) {
+        return Some(SKIP_START);
+    }
+    None
+}
+
+/// The length of a level, the first record of the skip data or not; or the first rule that it breaks.
+fn read_length(cur: &mut Cur<'_>, term: &Term, first: bool) -> Result<u64, u16>
+    ensures { MatchResult result
+        (λ n. record_at length_shape (λ r. skip_start term.now first cur.old.place ∷ []) cur.old ≡ Ok (length_record n, cur.new))
+        (λ rule. record_at length_shape (λ r. skip_start term.now first cur.old.place ∷ []) cur.old ≡ Err rule) }
+{
+    let place = cur.place();
+    match cur.vlong() {
+        Err(bad) => Err(rule_of_bad(bad)),
+        Ok(stated) => match length_broken(term, first, place) {
+            Some(rule) => Err(rule),
+            None => Ok(stated),
+        },
+    }
+}
+
+/// The length of a level that is to start at a place, where it has one, and the place where its data are to start.
+pub fn level_length(
+    frq: &[u8],
+    at: usize,
+    term: &Term,
+    number: u32,
+    highest: bool,
+) -> Result<(Option<u64>, usize), Spot>
+    requires { at ≤ length frq.now }
+    ensures within { IfOk result (λ x. x.1 ≤ length frq.now) }
+    ensures level { (postings : List Posting) (points : List (List Point)) → highest ≡ (length points == 0)
+        → MatchResult result
+        (λ x. read_plan (level_plan term.now postings number points) (place_in frq.now at) ≡ read_plan (level_data term.now postings (level_of number x.0 points)) (place_in frq.now x.1))
+        (λ spot. (spot.kind ≡ Frq) × (read_plan (level_plan term.now postings number points) (place_in frq.now at) ≡ Err (record { offset = spot.offset; rule = spot.rule }))) }
+{
+    if number == 0 {
+        return Ok((None, at));
+    }
+    let mut cur = Cur::at(frq, at);
+    match read_length(&mut cur, term, highest) {
+        Err(rule) => Err(fault_at(at, rule)),
+        Ok(stated) => Ok((Some(stated), cur.place())),
+    }
+}
+
+/// Where the data of a level start, and where it ends.
+#[derive(Clone, Copy)]
+struct LevelPlaces {
+    data: usize,
+    end: usize,
+}
+
+/// Checks the level with a number that is to start at a place, of a term whose entries are good and start at another; the
+/// data of the level above, where there is one, are good and start at a third.
+fn check_level(
+    frq: &[u8],
+    at: usize,
+    entries: usize,
+    term: &Term,
+    number: u32,
+    stride: u64,
+    above: Option<usize>,
+) -> Result<LevelPlaces, Spot>
+    requires interval { 2 ≤ term.now.rules.skip_interval }
+    requires stride { stride ≡ stride_of term.now number }
+    requires number { number + 1 < 2 ^ 32 }
+    requires at_within { at ≤ length frq.now }
+    requires entries_within { entries ≤ length frq.now }
+    requires above_within { IfSome above (λ place. place ≤ length frq.now) }
+    requires entries_good { AreGoodFrom term.now (place_in frq.now entries) }
+    ensures { (points : List (List Point)) → StandAbove term.now (postings_from term.now (place_in frq.now entries)) (suc number) points frq.now above
+        → MatchResult result
+        (λ places. IsGoodLevel term.now (postings_from term.now (place_in frq.now entries)) number points frq.now at places.«data» places.end)
+        (λ spot. (spot.kind ≡ Frq) × (read_plan (level_plan term.now (postings_from term.now (place_in frq.now entries)) number points) (place_in frq.now at)
+        ≡ Err (record { offset = spot.offset; rule = spot.rule }))) }
+{
+    let (stated, data) = match level_length(frq, at, term, number, above.is_none()) {
+        Err(spot) => return Err(spot),
+        Ok(found) => found,
+    };
+    let level = Level {
+        number,
+        stride,
+        stated,
+    };
+    match check_data(frq, data, entries, term, &level, above) {
+        Err(spot) => Err(spot),
+        Ok(end) => Ok(LevelPlaces { data, end }),
+    }
+}
+
+/// Checks the skip levels of a term that are to start at a place, where its entries are good and start at another. Answers
+/// the place behind them.
+pub fn check_levels(frq: &[u8], at: usize, entries: usize, term: &Term) -> Result<usize, Spot>
+    requires interval { 2 ≤ term.now.rules.skip_interval }
+    requires at_within { at ≤ length frq.now }
+    requires entries_within { entries ≤ length frq.now }
+    requires entries_good { AreGoodFrom term.now (place_in frq.now entries) }
+    ensures { MatchResult result
+        (λ end. AreGoodLevels term.now (postings_from term.now (place_in frq.now entries)) frq.now at end)
+        (λ spot. (spot.kind ≡ Frq) × (read_plan (levels term.now (postings_from term.now (place_in frq.now entries)) (count_of_levels term.now) []) (place_in frq.now at)
+        ≡ Err (record { offset = spot.offset; rule = spot.rule }))) }
+{
+    let interval = u64::from(term.rules.skip_interval);
+    let (count, power) = level_count(term);
+    let mut number = count;
+    let mut stride = power;
+    let mut above = None;
+    let mut place = at;
+    while number > 0 {
+        number -= 1;
+        match check_level(frq, place, entries, term, number, stride, above) {
+            Err(spot) => return Err(spot),
+            Ok(places) => {
+                above = Some(places.data);
+                place = places.end;
+            }
+        }
+        stride /= interval;
+    }
+    Ok(place)
+}

@@ -1,0 +1,28 @@
+//! Entries and skip data of the terms of a segment, the file `.frq`: written, checked exactly, and read in order.
+#![tactic(auto)]
+
+mod check;
+mod datum;
+mod entries;
+mod entry;
+mod following;
+mod laws;
+mod level;
+mod levels;
+mod passing;
+mod rules;
+mod skip_point;
+mod walk;
+mod writer;
+
+pub use check::check_term;
+pub use entries::Entries;
+pub use entry::Entry;
+pub use laws::terms_in_turn;
+pub use rules::TermRules;
+pub use skip_point::SkipPoint;
+pub use walk::{Datum, Walk, Walked};
+pub use writer::FreqWriter;
+
+#[cfg(test)]
+mod tests;

@@ -1,0 +1,87 @@
+//! A place among the entries of a term, from which they are read one after another.
+ghost use Rattle.std.specs.Prelude.{◌≡◌, ℕ, ◌+◌, ◌<◌, ◌≤◌, MatchResult, Ok, Err};
+ghost use Rattle.lu_grammar.specs.Bytes.{Cursor};
+ghost use Rattle.lu_grammar.specs.Plans.{read_plan};
+ghost use Rattle.lu_types.specs.declared.kind.FileKind.TheVariants.{Frq};
+ghost use Rattle.freq_skips.specs.Entries.{entries, AreEntries, Stands, IsNext};
+
+use crate::entry::{Entry, next_entry};
+use crate::rules::Term;
+use lu_prims::Cur;
+use lu_types::{FileKind, Spot};
+
+/// A place among the entries of a term: so many are passed, and the last of them has this document (0 where there is none).
+#[derive(Drop)]
+pub struct Passing<'a> {
+    pub cur: Cur<'a>,
+    pub index: u32,
+    pub doc: u32,
+}
+
+/// The fault of `.frq` at a place.
+pub fn fault_at(place: usize, rule: u16) -> Spot
+    ensures { result ≡ record { kind = Frq; offset = place; rule = rule } }
+{
+    Spot {
+        kind: FileKind::Frq,
+        offset: place as u64,
+        rule,
+    }
+}
+
+impl<'a> Passing<'a> {
+    /// Passes one entry.
+    pub fn step(&mut self, term: &Term) -> Result<Entry, u16>
+        requires { self.old.index < term.now.info.doc_freq }
+        ensures { MatchResult result
+            (λ e. (self.new.index ≡ self.old.index + 1) × (self.new.doc ≡ e.doc)
+            × ((start : Cursor) → Stands term.now start self.old.index self.old.doc self.old.cur
+            → IsNext term.now start self.old.index (record { doc = e.doc; freq = e.freq; before = self.old.doc; place = self.old.cur.place }) self.new.cur))
+            (λ rule. (start : Cursor) → Stands term.now start self.old.index self.old.doc self.old.cur
+            → read_plan (entries term.now) start ≡ Err (record { offset = self.old.cur.place; rule = rule })) }
+    {
+        let limit = term.info.doc_freq;
+        let entry = match next_entry(&mut self.cur, term, self.index == 0, self.doc) {
+            Err(rule) => return Err(rule),
+            Ok(entry) => entry,
+        };
+        self.index += 1;
+        self.doc = entry.doc;
+        Ok(entry)
+    }
+
+    /// Passes entries up to the one with an index, of a term whose entries are good.
+    pub fn pass_to(&mut self, term: &Term, target: u32)
+        requires { target ≤ term.now.info.doc_freq }
+        ensures { (start end : Cursor) → AreEntries term.now start end → Stands term.now start self.old.index self.old.doc self.old.cur → self.old.index ≤ target
+            → Stands term.now start self.new.index self.new.doc self.new.cur × (self.new.index ≡ target) }
+    {
+        while self.index < target {
+            match self.step(term) {
+                Err(_rule) => return,
+                Ok(_entry) => {}
+            }
+        }
+    }
+}
+
+/// Checks the entries of a term, from where they are to start.
+pub fn check_entries<'a>(cur: Cur<'a>, term: &Term) -> Result<Passing<'a>, Spot>
+    ensures { MatchResult result
+        (λ passing. AreEntries term.now cur.entry passing.cur)
+        (λ spot. (spot.kind ≡ Frq) × (read_plan (entries term.now) cur.entry ≡ Err (record { offset = spot.offset; rule = spot.rule }))) }
+{
+    let mut passing = Passing {
+        cur,
+        index: 0,
+        doc: 0,
+    };
+    while passing.index < term.info.doc_freq {
+        let place = passing.cur.place();
+        match passing.step(term) {
+            Err(rule) => return Err(fault_at(place, rule)),
+            Ok(_entry) => {}
+        }
+    }
+    Ok(passing)
+}

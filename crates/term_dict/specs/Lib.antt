@@ -1,0 +1,4 @@
+pub mod Dictionary
+pub mod Entries
+pub mod Headings
+pub mod Terms

@@ -1,0 +1,11 @@
+//! The terms of a segment: written, checked and walked (format page, "Terms").
+#![tactic(auto)]
+
+mod entry;
+mod heading;
+mod numbers;
+
+pub use entry::{TermEntry, entry_at};
+pub use heading::{Heading, heading_at};
+pub use lu_types::TermInfo;
+pub use numbers::TermNumbers;

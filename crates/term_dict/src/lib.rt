@@ -4,6 +4,7 @@
 mod entry;
 mod heading;
 mod numbers;
+mod order;
 
 pub use entry::{TermEntry, entry_at};
 pub use heading::{Heading, heading_at};

@@ -1,2 +1,4 @@
+pub mod ConditionLemmas
 pub mod OrderLemmas
 mod Rows
+pub mod TextLemmas

@@ -50,14 +50,17 @@ within fields documents before t =
 abbrev pub is_past : Term → Bool
 is_past t = nat_le (2 ^ 31) t.info.freq || nat_le (2 ^ 31) t.info.prox
 
+-- what a term must meet in any segment, after all else
+abbrev pub place_conditions : Term → List Condition
+place_conditions t = record { rule = TERM_PLACE; broken = is_past t } ∷ []
+
 -- the conditions against the entry that stands for this term, after these
 abbrev pub against : Standing → List Term → Entry → Term → List Condition
 against standing before e t =
     record { rule = TERM_PREFIX; broken = nat_lt (length (last_term before).text) e.prefix } ∷
     record { rule = TERM_UTF8; broken = not (is_utf8 t.text) } ∷
     standing before t ++
-    record { rule = TERM_PLACE; broken = is_past t } ∷
-    []
+    place_conditions t
 
 -- the conditions against an entry after these terms
 abbrev pub term_conditions : Standing → List Term → Entry → List Condition

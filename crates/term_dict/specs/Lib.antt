@@ -1,4 +1,5 @@
 pub mod Dictionary
 pub mod Entries
 pub mod Headings
+pub mod Last
 pub mod Terms

@@ -3,6 +3,7 @@
 
 mod entry;
 mod heading;
+mod last;
 mod numbers;
 mod order;
 

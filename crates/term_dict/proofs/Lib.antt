@@ -1,4 +1,6 @@
+pub mod CheckLemmas
 pub mod ConditionLemmas
+pub mod LineLemmas
 pub mod OrderLemmas
 mod Rows
 pub mod TextLemmas

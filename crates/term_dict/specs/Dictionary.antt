@@ -6,7 +6,7 @@ use Rattle.lu_grammar.specs.Plans.{Plan, done, due, and_then, Kind, times}
 use Rattle.lu_types.specs.declared.rules.TheConstants.{TERM_PREFIX, TERM_UTF8, TERM_FIELD, TERM_ORDER, DOC_FREQ, TERM_PLACE}
 use Rattle.lu_types.specs.Tables.{TableField}
 use Rattle.term_dict.specs.declared.numbers.TermNumbers.{TermNumbers}
-use Rattle.term_dict.specs.Headings.{heading_shape, heading_conditions, numbers_of, Line, heading, entry, heading_of, on_entry}
+use Rattle.term_dict.specs.Headings.{header, heading_conditions, numbers_of, Line, entry, heading_of, on_entry}
 use Rattle.term_dict.specs.Entries.{Entry, entry_shape}
 use Rattle.term_dict.specs.Terms.{Term, last_term, term_after, is_indexed, is_above}
 
@@ -82,7 +82,7 @@ terms_plan standing size numbers =
 -- a file of so many bytes: its header, and then the terms
 abbrev pub dictionary_plan : Standing → ℕ → Plan Dictionary (Line Entry)
 dictionary_plan standing size =
-    due (followed heading_shape (λ h. whole (heading h))) (λ place line. heading_conditions (heading_of line)) (λ place line. terms_plan standing size (numbers_of (heading_of line)))
+    due header (λ place line. heading_conditions (heading_of line)) (λ place line. terms_plan standing size (numbers_of (heading_of line)))
 
 -- a file of so many bytes in a segment with these fields and so many documents
 abbrev pub tis_plan : List TableField → ℕ → ℕ → Plan Dictionary (Line Entry)

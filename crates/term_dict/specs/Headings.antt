@@ -2,7 +2,7 @@
 use Rattle.std.specs.Prelude.{ℕ, ◌^◌, ℤ, pos, negsuc, Bool, not, ◌||◌, List, [], ◌∷◌, int_lt, unsigned_abs}
 use Rattle.std.specs.Ordering.{int_eq}
 use Rattle.lu_grammar.specs.Parts.{int32, int64}
-use Rattle.lu_grammar.specs.Records.{Shape, whole, part, Condition}
+use Rattle.lu_grammar.specs.Records.{Shape, whole, part, followed, Condition}
 use Rattle.lu_types.specs.declared.rules.TheConstants.{TIS_FORMAT, TERM_COUNT, INDEX_INTERVAL, SKIP_INTERVAL, SKIP_LEVELS}
 use Rattle.term_dict.specs.declared.heading.Heading.{Heading}
 use Rattle.term_dict.specs.declared.numbers.TermNumbers.{TermNumbers}
@@ -53,3 +53,7 @@ heading_of (entry e) = no_heading
 abbrev pub on_entry : {E A : Type 0} → A → (E → A) → Line E → A
 on_entry otherwise f (heading h) = otherwise
 on_entry otherwise f (entry e) = f e
+
+-- the record of a header
+abbrev pub header : {E : Type 0} → Shape (Line E)
+header = followed heading_shape (λ h. whole (heading h))

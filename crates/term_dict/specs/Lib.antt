@@ -1,3 +1,4 @@
+pub mod Checks
 pub mod Dictionary
 pub mod Entries
 pub mod Headings

@@ -1,6 +1,7 @@
 //! The terms of a segment: written, checked and walked (format page, "Terms").
 #![tactic(auto)]
 
+mod checking;
 mod entry;
 mod heading;
 mod last;

@@ -1,0 +1,47 @@
+//! The check of a file of terms (format page, "Terms").
+ghost use Rattle.std.specs.Prelude.{◌≡◌, ◌<◌, ◌^◌, ◌==◌, List, length, IfOk, IfErr, None, Ok};
+ghost use Rattle.lu_grammar.specs.Plans.{read_plan, times};
+ghost use Rattle.lu_types.specs.declared.kind.FileKind.TheVariants.{Tis};
+ghost use Rattle.term_dict.specs.Terms.{last_term, no_term};
+ghost use Rattle.term_dict.specs.Dictionary.{Progress, within, term_kind, no_terms, tis_plan};
+ghost use Rattle.term_dict.specs.Last.{term_of, IsSound};
+ghost use Rattle.term_dict.specs.Checks.{IsHeader, IsNext, AreBounded, AreWithin, IsBrokenSo};
+
+use crate::entry::entry_at;
+use crate::heading::{bad_rule, heading_at, numbers_of};
+use crate::last::LastTerm;
+use crate::numbers::TermNumbers;
+use lu_prims::{Cur, OutOfMemory};
+use lu_types::{CodecFault, FieldTable, FileKind, Spot};
+use std::alloc::Global;
+
+/// The numbers of the header at the cursor, which moves behind it; or the first rule that is broken there.
+pub(crate) fn header_at(cur: &mut Cur<'_>) -> Result<TermNumbers, u16>
+    ensures { IsHeader cur.old cur.new result }
+{
+    match heading_at(cur) {
+        Err(bad) => Err(bad_rule(bad)),
+        Ok(heading) => numbers_of(&heading),
+    }
+}
+
+/// Makes the last term the one whose record stands at the cursor, which moves behind it; or answers the first rule that is
+/// broken there, in a segment with these fields and so many documents.
+fn next_term(
+    cur: &mut Cur<'_>,
+    last: &mut LastTerm,
+    first: bool,
+    skip_interval: u32,
+    fields: &FieldTable<'_>,
+    documents: u32,
+) -> Result<Option<u16>, OutOfMemory>
+    requires { IsSound (term_of last.old) }
+    ensures next { (s : Progress) → last_term s.terms ≡ term_of last.old → first ≡ (length s.terms == 0)
+        → IfOk result (IsNext (within fields.now documents) skip_interval s cur.old cur.new (term_of last.new)) }
+    ensures sound { IfOk result (λ rule. rule ≡ None → IsSound (term_of last.new)) }
+{
+    match entry_at(cur, false, skip_interval) {
+        Err(bad) => Ok(Some(bad_rule(bad))),
+        Ok(entry) => last.step(&entry, first, fields, documents),
+    }
+}

@@ -24,6 +24,10 @@ abbrev pub IsBrokenSo : {A : Type 0} → FileKind → Result A Broken → CodecF
 IsBrokenSo kind read (Spot s) = (s.kind ≡ kind) × (read ≡ Err (record { offset = s.offset; rule = s.rule }))
 IsBrokenSo kind read OutOfMemory = Unit {0}
 
+-- a rule is broken at a place
+abbrev pub broken_so : ℕ → ℕ → Result (Unit {0}) Broken
+broken_so place rule = Err (record { offset = place; rule = rule })
+
 -- what stands at a cursor: a good record, or the first rule that is broken
 abbrev pub record_of : {S R : Type 0} → Kind S R → S → Cursor → Result (R × Cursor) ℕ
 record_of kind s c = record_at (kind.shape s) (kind.conditions s c.place) c

@@ -5,7 +5,7 @@ ghost use Rattle.lu_types.specs.declared.kind.FileKind.TheVariants.{Tis};
 ghost use Rattle.term_dict.specs.Terms.{last_term, no_term};
 ghost use Rattle.term_dict.specs.Dictionary.{Progress, within, term_kind, no_terms, tis_plan};
 ghost use Rattle.term_dict.specs.Last.{term_of, IsSound};
-ghost use Rattle.term_dict.specs.Checks.{IsHeader, IsNext, AreBounded, AreWithin, IsBrokenSo};
+ghost use Rattle.term_dict.specs.Checks.{IsHeader, IsNext, AreBounded, AreWithin, IsBrokenSo, broken_so};
 
 use crate::entry::entry_at;
 use crate::heading::{bad_rule, heading_at, numbers_of};
@@ -44,4 +44,44 @@ fn next_term(
         Err(bad) => Ok(Some(bad_rule(bad))),
         Ok(entry) => last.step(&entry, first, fields, documents),
     }
+}
+
+/// The fault of a file of terms that breaks a rule at a place.
+fn fault_at(place: usize, rule: u16) -> CodecFault
+    ensures { IsBrokenSo Tis (broken_so place rule) result }
+{
+    CodecFault::Spot(Spot {
+        kind: FileKind::Tis,
+        offset: place as u64,
+        rule,
+    })
+}
+
+/// Reads all terms from the cursor on, which moves behind them, and answers the length of the longest text; or the first
+/// fault there. `last` is the last one then.
+fn check_terms(
+    cur: &mut Cur<'_>,
+    last: &mut LastTerm,
+    numbers: &TermNumbers,
+    fields: &FieldTable<'_>,
+    documents: u32,
+) -> Result<usize, CodecFault>
+    requires { term_of last.old ≡ no_term }
+    ensures ok { IfOk result (λ longest. (s : Progress)
+        × (read_plan (times (term_kind (within fields.now documents) numbers.now.skip_interval) numbers.now.count no_terms) cur.old ≡ Ok (s, cur.new))
+        × AreWithin longest s.terms) }
+    ensures err { IfErr result (IsBrokenSo Tis (read_plan (times (term_kind (within fields.now documents) numbers.now.skip_interval) numbers.now.count no_terms) cur.old)) }
+{
+    let mut longest = 0;
+    for number in 0..numbers.count {
+        let place = cur.place();
+        let first = number == 0;
+        match next_term(cur, last, first, numbers.skip_interval, fields, documents) {
+            Err(_) => return Err(CodecFault::OutOfMemory),
+            Ok(Some(rule)) => return Err(fault_at(place, rule)),
+            Ok(None) => {}
+        }
+        longest = longest.max(last.text.len());
+    }
+    Ok(longest)
 }

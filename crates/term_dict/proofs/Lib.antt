@@ -1,5 +1,6 @@
 pub mod CheckLemmas
 pub mod ConditionLemmas
+pub mod FileLemmas
 pub mod LineLemmas
 pub mod LoopLemmas
 pub mod OrderLemmas

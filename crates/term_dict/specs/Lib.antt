@@ -1,4 +1,5 @@
 pub mod Checks
+pub mod Content
 pub mod Dictionary
 pub mod Entries
 pub mod Headings

@@ -79,3 +79,7 @@ IsBrokenSo-same kind place rule read OutOfMemory e h = tt
 -- the greater of two numbers is below neither
 pub ord_max-above : (a b : ℕ) → (a ≤ ord_max nat_cmp a b) × (b ≤ ord_max nat_cmp a b)
 ord_max-above a b = (grind (arith, nat_tests), grind (arith, nat_tests))
+
+pub IsBrokenSo-map : {A B : Type 0} (kind : FileKind) (read : Result A Broken) (other : Result B Broken) (fault : CodecFault) → ((b : Broken) → read ≡ Err b → other ≡ Err b) → IsBrokenSo kind read fault → IsBrokenSo kind other fault
+IsBrokenSo-map kind read other (Spot s) same h = (h.0, same (record { offset = s.offset; rule = s.rule }) h.1)
+IsBrokenSo-map kind read other OutOfMemory same h = tt

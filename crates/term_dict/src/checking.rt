@@ -1,9 +1,9 @@
 //! The check of a file of terms (format page, "Terms").
 ghost use Rattle.std.specs.Prelude.{◌≡◌, ◌<◌, ◌^◌, ◌==◌, List, length, IfOk, IfErr, None, Ok};
-ghost use Rattle.lu_grammar.specs.Plans.{read_plan, times};
+ghost use Rattle.lu_grammar.specs.Plans.{read_plan, times, read_file};
 ghost use Rattle.lu_types.specs.declared.kind.FileKind.TheVariants.{Tis};
 ghost use Rattle.term_dict.specs.Terms.{last_term, no_term};
-ghost use Rattle.term_dict.specs.Dictionary.{Progress, within, term_kind, no_terms, tis_plan};
+ghost use Rattle.term_dict.specs.Dictionary.{Dictionary, Progress, within, term_kind, no_terms, tis_plan};
 ghost use Rattle.term_dict.specs.Last.{term_of, IsSound};
 ghost use Rattle.term_dict.specs.Checks.{IsHeader, IsNext, AreBounded, AreWithin, IsBrokenSo, broken_so};
 
@@ -12,6 +12,7 @@ use crate::heading::{bad_rule, heading_at, numbers_of};
 use crate::last::LastTerm;
 use crate::numbers::TermNumbers;
 use lu_prims::{Cur, OutOfMemory};
+use lu_types::rules::TRAILING;
 use lu_types::{CodecFault, FieldTable, FileKind, Spot};
 use std::alloc::Global;
 
@@ -84,4 +85,32 @@ fn check_terms(
         longest = longest.max(last.text.len());
     }
     Ok(longest)
+}
+
+/// The numbers of a file of terms, and the length of its longest text; or its first fault, in a segment with these fields and
+/// so many documents.
+pub(crate) fn check_bytes(
+    alloc: Global,
+    tis: &[u8],
+    fields: &FieldTable<'_>,
+    documents: u32,
+) -> Result<(TermNumbers, usize), CodecFault>
+    ensures ok { IfOk result (λ x. (v : Dictionary) × (read_file (tis_plan fields.now documents (length tis.now)) tis.now ≡ Ok v)
+        × (x.0 ≡ v.numbers) × AreBounded x.0 × AreWithin x.1 v.terms) }
+    ensures err { IfErr result (IsBrokenSo Tis (read_file (tis_plan fields.now documents (length tis.now)) tis.now)) }
+{
+    let mut cur = Cur::at(tis, 0);
+    let numbers = match header_at(&mut cur) {
+        Err(rule) => return Err(fault_at(0, rule)),
+        Ok(numbers) => numbers,
+    };
+    let mut last = LastTerm::new(alloc);
+    let longest = match check_terms(&mut cur, &mut last, &numbers, fields, documents) {
+        Err(fault) => return Err(fault),
+        Ok(longest) => longest,
+    };
+    if cur.left() > 0 {
+        return Err(fault_at(cur.place(), TRAILING));
+    }
+    Ok((numbers, longest))
 }

@@ -99,7 +99,7 @@ line-anywhere standing before (heading h) good = refl
 line-anywhere standing before (entry e) good = good-anywhere standing before e (term_after (last_term before) e) good
 
 -- what two answers that are one are
-inner : {A E : Type 0} (x y : A) → ok_of {E = E} x ≡ ok_of y → x ≡ y
+pub inner : {A E : Type 0} (x y : A) → ok_of {E = E} x ≡ ok_of y → x ≡ y
 inner {A} {E} x y e = ap out e
   where
     out : Result A E → A
@@ -107,7 +107,7 @@ inner {A} {E} x y e = ap out e
     out (Err b) = x
 
 -- a record that was good was read
-record_at-was : {R : Type 0} (shape : Shape R) (conditions : R → List Condition) (c : Cursor) (x : R) (d : Cursor) → record_at shape conditions c ≡ ok_pair x d → (read_shape shape c ≡ ok_pair x d) × (first_broken (conditions x) ≡ None)
+pub record_at-was : {R : Type 0} (shape : Shape R) (conditions : R → List Condition) (c : Cursor) (x : R) (d : Cursor) → record_at shape conditions c ≡ ok_pair x d → (read_shape shape c ≡ ok_pair x d) × (first_broken (conditions x) ≡ None)
 unfolding record_at
 record_at-was {R} shape conditions c x d e = go (read_shape shape c) e
   where

@@ -6,3 +6,4 @@ pub mod LoopLemmas
 pub mod OrderLemmas
 mod Rows
 pub mod TextLemmas
+pub mod WalkLemmas

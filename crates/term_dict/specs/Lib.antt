@@ -5,3 +5,4 @@ pub mod Entries
 pub mod Headings
 pub mod Last
 pub mod Terms
+pub mod Walk

@@ -25,9 +25,9 @@ pub AreWithin-push : (longest more : ℕ) (ts : List Term) (t : Term) → AreWit
 AreWithin-push longest more ts t within le here = λ i. elim (cases_lt i (length ts)) [
   | inl lt ↦ rw (get_or_append_left ts (t ∷ []) no_term i lt) (omega (arith, within i))
   | inr ge ↦ elim (cases_eq i (length ts)) [
-        | inl e ↦ rw (get_or_push ts t no_term i (sym e)) here
-        | inr ne ↦ rw (get_or_past (ts ++ t ∷ []) i no_term (omega (arith, length-append ts (t ∷ [])))) (omega arith)
-      ]
+    | inl e ↦ rw (get_or_push ts t no_term i (sym e)) here
+    | inr ne ↦ rw (get_or_past (ts ++ t ∷ []) i no_term (omega (arith, length-append ts (t ∷ [])))) (omega arith)
+  ]
 ]
 
 -- so many terms are read between two places, the last is this one, and no text is longer

@@ -10,7 +10,7 @@ use Rattle.lu_types.specs.declared.rules.TheConstants.{TERM_PREFIX, TERM_UTF8, T
 use Rattle.lu_grammar.proofs.Parts.{IsBytes-drop}
 use Rattle.term_dict.proofs.LoopLemmas.{last_term-push}
 use Rattle.std.proofs.lemmas.List.{length-append, drop_at, length-take-le, drop-drop, append-nil, get_or_at, get_or_past, length-drop}
-use Rattle.std.proofs.lemmas.Option.{slice_get-get_or}
+use Rattle.std.proofs.lemmas.Option.{slice_get-get_or, slice_get_past}
 use Rattle.std.proofs.Math.Seq.{take-append_seam}
 use Rattle.std.proofs.lemmas.Str.{IsUtf8-from_is_utf8}
 use Rattle.lu_grammar.specs.declared.bad.Bad.{Bad}
@@ -30,7 +30,7 @@ use Rattle.term_dict.specs.Headings.{heading_shape, header, heading_conditions, 
 use Rattle.term_dict.specs.Entries.{Entry, entry_shape}
 use Rattle.term_dict.specs.Terms.{Term, no_term, last_term, term_after}
 use Rattle.term_dict.specs.Dictionary.{Dictionary, Standing, anywhere, Progress, no_terms, with_term, term_conditions, is_past, term_kind, terms_plan, dictionary_plan}
-use Rattle.term_dict.specs.Last.{IsSound}
+use Rattle.term_dict.specs.Last.{IsSound, Fits}
 use Rattle.term_dict.specs.Content.{content, IsRead}
 use Rattle.term_dict.specs.Walk.{Walk, at_place, IsAt}
 use Rattle.term_dict.proofs.FileLemmas.{record_at-was, dictionary_of, finish, inner}
@@ -81,12 +81,15 @@ good_entry : (standing : Standing) (interval : ℕ) (s : Progress) (c : Cursor) 
     → (e : Entry) × IsGoodEntry standing interval s c e d × (line ≡ entry e)
 good_entry standing interval s c line d e =
     let was = record_at-was ((term_kind standing interval).shape s) ((term_kind standing interval).conditions s c.place) c line d e in
-    let x = entry-read interval c line d was.0 in
-    (x.0, record {
-      read = x.1;
-      good = subst (λ (l : Line Entry). first_broken (on_entry [] (term_conditions standing s.terms) l) ≡ None) x.2 was.1;
-      whole_record = e ∙ ap (λ (l : Line Entry). ok_pair l d) x.2;
-    }, x.2)
+    let x = entry-read interval c line d was.0 in (
+      x.0,
+      record {
+        read = x.1;
+        good = subst (λ (l : Line Entry). first_broken (on_entry [] (term_conditions standing s.terms) l) ≡ None) x.2 was.1;
+        whole_record = e ∙ ap (λ (l : Line Entry). ok_pair l d) x.2;
+      },
+      x.2,
+    )
 
 pub grows : (standing : Standing) (interval n : ℕ) (s : Progress) (c : Cursor) (z : Progress × Cursor) → read_plan (times (term_kind standing interval) n s) c ≡ ok_of z → Grows s z.0 n
 unfolding each read_plan
@@ -184,13 +187,16 @@ all_read bytes numbers longest fits h =
     let end = was_ended file.0 (content bytes) file.2 in
     let last = same_pair (dictionary_of n size body.0.0) file.0.0 body.0.1 file.0.1 body.2 in
     let value : content bytes ≡ dictionary_of n size body.0.0 = sym end.0 ∙ sym last.0 in
-    let same : n ≡ numbers = sym (h.numbers_are ∙ ap (λ (v : Dictionary). v.numbers) value) in
-    (body.0.0, body.0.1, record {
-      read = ap (λ (x : Cursor). read_plan (times (term_kind anywhere numbers.skip_interval) numbers.count no_terms) x) (sym place) ∙ subst (λ (m : TermNumbers). read_plan (times (term_kind anywhere m.skip_interval) m.count no_terms) head.0.1 ≡ ok_of body.0) same body.1;
-      value = value ∙ ap (λ (m : TermNumbers). dictionary_of m size body.0.0) same;
-      whole_file = ap (λ (x : Cursor). length x.rest) last.1 ∙ end.1;
-      inside = header_inside bytes head.0.0 head.0.1 fits was.0 place;
-    })
+    let same : n ≡ numbers = sym (h.numbers_are ∙ ap (λ (v : Dictionary). v.numbers) value) in (
+      body.0.0,
+      body.0.1,
+      record {
+        read = ap (λ (x : Cursor). read_plan (times (term_kind anywhere numbers.skip_interval) numbers.count no_terms) x) (sym place) ∙ subst (λ (m : TermNumbers). read_plan (times (term_kind anywhere m.skip_interval) m.count no_terms) head.0.1 ≡ ok_of body.0) same body.1;
+        value = value ∙ ap (λ (m : TermNumbers). dictionary_of m size body.0.0) same;
+        whole_file = ap (λ (x : Cursor). length x.rest) last.1 ∙ end.1;
+        inside = header_inside bytes head.0.0 head.0.1 fits was.0 place;
+      },
+    )
 
 -- ---- one step of the walk
 
@@ -220,11 +226,7 @@ not_false : (b : Bool) → not b ≡ false → b ≡ true
 not_false true e = refl
 not_false false e = cc
 
--- what a good entry is
-pub record Fits (last : Term) (e : Entry) : Type 0 where
-  pub prefix : e.prefix ≤ length last.text
-  pub sound : IsSound (term_after last e)
-
+-- what is good after a term is so
 entry_fits : (before : List Term) (e : Entry) → first_broken (term_conditions anywhere before e) ≡ None → Fits (last_term before) e
 entry_fits before e good =
     let t = term_after (last_term before) e in
@@ -350,3 +352,33 @@ place_is bytes numbers longest passed place last fits h w = elim (cases_lt passe
       let past : length (content bytes).starts ≤ passed = omega (arith, (content-length bytes numbers longest fits h).1) in
       ends ∙ sym (ap (λ (v : Dictionary). v.size) (all_read bytes numbers longest fits h).2.value) ∙ sym (get_or_past (content bytes).starts passed (content bytes).size past)
 ]
+
+-- with more room
+pub IsRead-roomier : (bytes : List ℕ) (numbers : TermNumbers) (longest more : ℕ) → IsRead bytes numbers longest → longest ≤ more → IsRead bytes numbers more
+IsRead-roomier bytes numbers longest more h le = record { read = h.read; numbers_are = h.numbers_are; bounded = h.bounded; within = λ i. omega (arith, h.within i); small = h.small; fits = h.fits }
+
+-- after the last term there is none
+pub none_left : (bytes : List ℕ) (numbers : TermNumbers) (longest passed : ℕ) → IsBytes bytes → IsRead bytes numbers longest → passed ≡ numbers.count → slice_get (content bytes).terms passed ≡ None
+none_left bytes numbers longest passed fits h is = slice_get_past (content bytes).terms passed (omega (arith, (content-length bytes numbers longest fits h).0))
+
+-- the entry that was read is that of the next term
+pub record IsNextOf (bytes : List ℕ) (numbers : TermNumbers) (capacity passed : ℕ) (last : Term) (e : Entry) (new : Cursor) : Type 0 where
+  pub fits : Fits last e
+  pub room : e.prefix + length e.suffix ≤ capacity
+  pub is_term : slice_get (content bytes).terms passed ≡ Some (term_after last e)
+  pub after : IsAt bytes numbers (passed + 1) new.place (term_after last e)
+
+pub next_of : (bytes : List ℕ) (numbers : TermNumbers) (capacity passed place : ℕ) (last : Term) (c : Cursor) (e : Entry) (new : Cursor) → IsRead bytes numbers capacity → IsAt bytes numbers passed place last → (passed ≡ numbers.count → ⊥)
+    → c ≡ at_place bytes place → read_shape (entry_shape false numbers.skip_interval) c ≡ ok_pair e new → IsNextOf bytes numbers capacity passed last e new
+next_of bytes numbers capacity passed place last c e new h w more at read =
+    let next = next_term bytes numbers capacity passed place last h.fits h w (omega (arith, w.few, more)) in
+    let same = same_pair next.e e next.new new (sym next.read ∙ ap (λ (x : Cursor). read_shape (entry_shape false numbers.skip_interval) x) (sym at) ∙ read) in
+    let here : IsNextOf bytes numbers capacity passed last next.e next.new = record { fits = next.fits; room = next.room; is_term = next.is_term; after = next.after } in
+    subst (λ (d : Cursor). IsNextOf bytes numbers capacity passed last e d) same.1 (subst (λ (x : Entry). IsNextOf bytes numbers capacity passed last x next.new) same.0 here)
+
+-- and one was
+pub next_there : (bytes : List ℕ) (numbers : TermNumbers) (capacity passed place : ℕ) (last : Term) (c : Cursor) (bad : Bad) → IsRead bytes numbers capacity → IsAt bytes numbers passed place last → (passed ≡ numbers.count → ⊥)
+    → c ≡ at_place bytes place → read_shape (entry_shape false numbers.skip_interval) c ≡ err_of bad → ⊥
+next_there bytes numbers capacity passed place last c bad h w more at unread =
+    let next = next_term bytes numbers capacity passed place last h.fits h w (omega (arith, w.few, more)) in
+    err_is_not_ok (sym unread ∙ ap (λ (x : Cursor). read_shape (entry_shape false numbers.skip_interval) x) at ∙ next.read)

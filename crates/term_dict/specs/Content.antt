@@ -1,5 +1,6 @@
 -- What the bytes of a file of terms stand for, whatever segment it is in.
 use Rattle.std.specs.Prelude.{◌≡◌, ℕ, ◌<◌, ◌^◌, List, [], length, Result, Ok, Err}
+use Rattle.lu_grammar.specs.Bytes.{IsBytes}
 use Rattle.lu_grammar.specs.Plans.{read_file}
 use Rattle.term_dict.specs.declared.numbers.TermNumbers.{TermNumbers}
 use Rattle.term_dict.specs.Dictionary.{Dictionary, anywhere, dictionary_plan}
@@ -25,3 +26,4 @@ pub record IsRead (bytes : List ℕ) (numbers : TermNumbers) (longest : ℕ) : T
   pub bounded : AreBounded numbers
   pub within : AreWithin longest (content bytes).terms
   pub small : length bytes < 2 ^ 31
+  pub fits : IsBytes bytes

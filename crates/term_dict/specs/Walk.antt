@@ -16,6 +16,10 @@ pub record Walk : Type 0 where
 abbrev pub walk_of : Dictionary → Walk
 walk_of dictionary = record { dictionary = dictionary; passed = 0 }
 
+-- one term further
+abbrev pub passed_on : Walk → Walk
+passed_on w = record { dictionary = w.dictionary; passed = w.passed + 1 }
+
 -- the last term that was passed
 abbrev pub term_passed : Walk → Term
 term_passed w = last_term (take w.passed w.dictionary.terms)

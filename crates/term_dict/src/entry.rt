@@ -37,7 +37,11 @@ pub fn entry_at<'a>(
     let doc_freq = cur.num()?;
     let freq = cur.vlong()?;
     let prox = cur.vlong()?;
-    let skip = if doc_freq >= skip_interval { cur.num()? } else { 0 };
+    let skip = if doc_freq >= skip_interval {
+        cur.num()?
+    } else {
+        0
+    };
     Ok(TermEntry {
         prefix,
         suffix,

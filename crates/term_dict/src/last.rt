@@ -5,7 +5,7 @@ ghost use Rattle.lu_grammar.specs.Records.{first_broken};
 ghost use Rattle.term_dict.specs.Entries.{entry_of, IsBounded};
 ghost use Rattle.term_dict.specs.Terms.{Term, no_term, last_term, term_after, is_above};
 ghost use Rattle.term_dict.specs.Dictionary.{within, place_conditions, term_conditions};
-ghost use Rattle.term_dict.specs.Last.{term_of, IsSound};
+ghost use Rattle.term_dict.specs.Last.{term_of, IsSound, Fits};
 
 use crate::entry::TermEntry;
 use crate::order::{is_indexed, names_cmp, tail_cmp};
@@ -16,6 +16,15 @@ use std::alloc::Global;
 
 /// The first place that no file of at most 2^31 - 1 bytes has.
 const PLACE_LIMIT: u64 = 1 << 31;
+
+/// What stands before the first term.
+const NO_INFO: TermInfo = TermInfo {
+    field: 0,
+    doc_freq: 0,
+    freq: 0,
+    prox: 0,
+    skip: 0,
+};
 
 /// The last term that was read: its text, in the one buffer that each next text is written over, and what was said of it.
 #[derive(Drop)]
@@ -63,7 +72,11 @@ pub(crate) fn place_after(before: u32, step: u64) -> Option<u32>
     ensures { MatchOption result (2 ^ 31 ≤ before + step) (λ place. (place ≡ before + step) × (place < 2 ^ 31)) }
 {
     let place = u64::from(before) + step;
-    if place < PLACE_LIMIT { Some(place as u32) } else { None }
+    if place < PLACE_LIMIT {
+        Some(place as u32)
+    } else {
+        None
+    }
 }
 
 impl LastTerm {
@@ -73,14 +86,46 @@ impl LastTerm {
     {
         LastTerm {
             text: Vec::new(alloc),
-            info: TermInfo {
-                field: 0,
-                doc_freq: 0,
-                freq: 0,
-                prox: 0,
-                skip: 0,
-            },
+            info: NO_INFO,
         }
+    }
+
+    /// The same, with room for texts of so many bytes.
+    pub(crate) fn with_room(alloc: Global, longest: usize) -> Result<LastTerm, OutOfMemory>
+        ensures term { IfOk result (λ last. term_of last ≡ no_term) }
+        ensures room { IfOk result (λ last. longest ≤ vec_capacity last.text) }
+    {
+        let mut last = LastTerm::new(alloc);
+        last.text.reserve(longest)?;
+        Ok(last)
+    }
+
+    /// Makes it what the first term follows, and keeps the room.
+    pub(crate) fn reset(&mut self)
+        ensures term { term_of self.new ≡ no_term }
+        ensures room { vec_capacity self.old.text ≤ vec_capacity self.new.text }
+    {
+        self.text.clear();
+        self.info = NO_INFO;
+    }
+
+    /// Makes the term that of an entry which is good after it, where there is room for the text.
+    pub(crate) fn advance(&mut self, entry: &TermEntry<'_>)
+        requires fits { Fits (term_of self.old) (entry_of entry.now) }
+        requires room { entry.now.prefix + length entry.now.suffix.now ≤ vec_capacity self.old.text }
+        ensures term { term_of self.new ≡ term_after (term_of self.old) (entry_of entry.now) }
+        ensures room { vec_capacity self.old.text ≤ vec_capacity self.new.text }
+    {
+        if follow(&mut self.text, entry.prefix as usize, entry.suffix).is_err() {
+            unreachable!();
+        }
+        self.info = TermInfo {
+            field: entry.field,
+            doc_freq: entry.doc_freq,
+            freq: (u64::from(self.info.freq) + entry.freq) as u32,
+            prox: (u64::from(self.info.prox) + entry.prox) as u32,
+            skip: entry.skip,
+        };
     }
 
     /// Whether the term of the entry is above all before, where `first` says that there are none.

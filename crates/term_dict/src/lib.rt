@@ -2,13 +2,17 @@
 #![tactic(auto)]
 
 mod checking;
+mod cursor;
 mod entry;
+mod file;
 mod heading;
 mod last;
 mod numbers;
 mod order;
 
+pub use cursor::TermCursor;
 pub use entry::{TermEntry, entry_at};
+pub use file::TermFile;
 pub use heading::{Heading, heading_at};
 pub use lu_types::TermInfo;
 pub use numbers::TermNumbers;

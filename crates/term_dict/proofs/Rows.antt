@@ -8,10 +8,11 @@ use Rattle.lu_grammar.specs.Records.{record_at}
 use Rattle.lu_grammar.specs.Plans.{Broken, each, read_plan, read_file}
 use Rattle.lu_types.specs.Tables.{TableField}
 use Rattle.lu_types.specs.declared.term.TermInfo.{TermInfo}
-use Rattle.lu_types.specs.declared.rules.TheConstants.{TERM_ORDER, DOC_FREQ}
+use Rattle.lu_types.specs.declared.rules.TheConstants.{TERM_ORDER, DOC_FREQ, TII_PLACE}
 use Rattle.term_dict.specs.declared.numbers.TermNumbers.{TermNumbers}
 use Rattle.term_dict.specs.Terms.{Term}
 use Rattle.term_dict.specs.Dictionary.{Dictionary, tis_plan}
+use Rattle.term_dict.specs.Index.{tii_plan}
 
 -- two fields: `a`, and `b` with bit 01
 abbrev fields : List TableField
@@ -67,3 +68,20 @@ too_often = refl
 none : tried (header 0) 24 ≡ Ok (record { numbers = numbers 0; terms = []; starts = []; size = 24 })
 unfolding read read_groups read_plan record_at each is_utf8 chars encode
 none = refl
+
+-- ---- the index of the first two terms
+
+abbrev two_terms : Dictionary
+two_terms = record { numbers = numbers 2; terms = record { text = hello; info = info 0 0 } ∷ record { text = world; info = info 1 1 } ∷ []; starts = 24 ∷ 35 ∷ []; size = 46 }
+
+abbrev index_tried : ℕ → Result (Unit {0}) Broken
+index_tried step = read_file (tii_plan two_terms) (header 1 ++ (0 ∷ 0 ∷ 0xFF ∷ 0xFF ∷ 0xFF ∷ 0xFF ∷ 0x0F ∷ 0 ∷ 0 ∷ 0 ∷ step ∷ []))
+
+index_of_two : index_tried 0x18 ≡ Ok tt
+unfolding read read_groups read_plan record_at each
+index_of_two = refl
+
+-- the place is one byte after the first term starts
+index_past : index_tried 0x19 ≡ Err (record { offset = 24; rule = TII_PLACE })
+unfolding read read_groups read_plan record_at each
+index_past = refl

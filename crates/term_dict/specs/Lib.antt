@@ -3,6 +3,7 @@ pub mod Content
 pub mod Dictionary
 pub mod Entries
 pub mod Headings
+pub mod Index
 pub mod Last
 pub mod Terms
 pub mod Walk

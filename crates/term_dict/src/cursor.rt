@@ -3,7 +3,7 @@ ghost use Rattle.std.specs.Prelude.{◌≡◌, ℕ, ◌+◌, ◌<◌, ◌≤◌,
 ghost use Rattle.term_dict.specs.Terms.{Term, term_after};
 ghost use Rattle.term_dict.specs.Dictionary.{Dictionary};
 ghost use Rattle.term_dict.specs.Content.{content, IsRead};
-ghost use Rattle.term_dict.specs.Walk.{Walk, walk_of, term_passed, next_place, passed_on};
+ghost use Rattle.term_dict.specs.Walk.{Walk, walk_of, term_passed, next_place, passed_on, Shares};
 
 use crate::entry::entry_at;
 use crate::last::LastTerm;
@@ -24,6 +24,7 @@ pub struct TermCursor<'a> {
     numbers: TermNumbers,
     place: usize,
     passed: u32,
+    shared: usize,
     last: LastTerm,
 }
 
@@ -31,13 +32,13 @@ impl<'a> Model for TermCursor<'a> {
     ghost use Rattle.std.specs.Prelude.{vec_capacity};
     ghost use Rattle.term_dict.specs.Content.{content, IsRead};
     ghost use Rattle.term_dict.specs.Last.{term_of};
-    ghost use Rattle.term_dict.specs.Walk.{Walk, IsAt};
+    ghost use Rattle.term_dict.specs.Walk.{Walk, IsAt, Shares, walk_in};
 
     ghost Value = { Walk };
 
-    ghost view = { λ c. record { dictionary = content c.tis.now; passed = c.passed } };
+    ghost view = { λ c. walk_in c.tis.now c.passed };
 
-    ghost invariant = { λ c. IsRead c.tis.now c.numbers (vec_capacity c.last.text) × IsAt c.tis.now c.numbers c.passed c.place (term_of c.last) };
+    ghost invariant = { λ c. IsRead c.tis.now c.numbers (vec_capacity c.last.text) × IsAt c.tis.now c.numbers c.passed c.place (term_of c.last) × Shares c.shared (walk_in c.tis.now c.passed) };
 }
 
 impl<'a> TermCursor<'a> {
@@ -56,6 +57,7 @@ impl<'a> TermCursor<'a> {
             numbers,
             place: HEADER_BYTES,
             passed: 0,
+            shared: 0,
             last: LastTerm::with_room(alloc, longest)?,
         })
     }
@@ -73,6 +75,7 @@ impl<'a> TermCursor<'a> {
             unreachable!();
         };
         self.last.advance(&entry);
+        self.shared = entry.prefix as usize;
         self.place = cur.place();
         self.passed += 1;
         Some(self.last.info)
@@ -83,6 +86,13 @@ impl<'a> TermCursor<'a> {
         ensures { result.now ≡ (term_passed self.now).text }
     {
         unsafe { str::from_utf8_unchecked(self.last.text.as_slice()) }
+    }
+
+    /// How many bytes the text of the last term takes over from the text before it. Takes no memory.
+    pub fn shared(&self) -> usize
+        ensures { Shares result self.now }
+    {
+        self.shared
     }
 
     /// The place in the file where the next term starts, and after the last term the length of the file. Takes no memory.
@@ -98,6 +108,7 @@ impl<'a> TermCursor<'a> {
     {
         self.place = HEADER_BYTES;
         self.passed = 0;
+        self.shared = 0;
         self.last.reset();
     }
 }

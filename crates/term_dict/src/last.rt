@@ -54,8 +54,8 @@ fn is_text(bytes: &[u8], from: usize) -> bool
     }
 }
 
-/// Keeps so many bytes of the text and appends the suffix.
-pub(crate) fn follow(text: &mut Vec<u8>, prefix: usize, suffix: &[u8]) -> Result<(), OutOfMemory>
+/// Keeps so many bytes of the text and appends the suffix. An `Err` leaves the text that was kept.
+pub fn follow(text: &mut Vec<u8>, prefix: usize, suffix: &[u8]) -> Result<(), OutOfMemory>
     ensures ok { OnOk result (text.new.items ≡ take prefix text.old.items ++ suffix.now) }
     ensures capacity { vec_capacity text.old ≤ vec_capacity text.new }
     ensures room { prefix ≤ length text.old.items → prefix + length suffix.now ≤ vec_capacity text.old → IsOk result }

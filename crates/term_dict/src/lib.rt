@@ -13,6 +13,7 @@ mod order;
 pub use cursor::TermCursor;
 pub use entry::{TermEntry, entry_at};
 pub use file::TermFile;
-pub use heading::{Heading, heading_at};
+pub use heading::{FORMAT, Heading, bad_rule, heading_at};
+pub use last::follow;
 pub use lu_types::TermInfo;
 pub use numbers::TermNumbers;

@@ -1,4 +1,4 @@
-use Rattle.std.proofs.Common.{arith}
+use Rattle.std.proofs.Common.{refl}
 use Rattle.std.specs.Prelude.{vec_capacity}
 use Rattle.term_dict.specs.Last.{term_of}
 use Rattle.term_dict.proofs.LoopLemmas.{IsSound-none}
@@ -11,4 +11,5 @@ invariant_of-result c =
     let h = c.requires in (
       IsRead-roomier c.args.tis.now c.args.numbers c.args.longest (vec_capacity last.text) h c.in_ok-with_room.ensures.room,
       start_at c.args.tis.now c.args.numbers c.args.longest (term_of last) h.fits h c.in_ok-with_room.ensures.term (IsSound-none _ c.in_ok-with_room.ensures.term),
+      refl,
     )

@@ -1,4 +1,4 @@
-use Rattle.std.proofs.Common.{◌≡◌, ℕ, ◌+◌, ◌<◌, ◌≤◌, List, length, Option, Some, None, Result, Ok, Err, sym, ap, subst, ◌∙◌, arith}
+use Rattle.std.proofs.Common.{◌≡◌, ℕ, ◌+◌, ◌<◌, ◌≤◌, List, length, Option, Some, None, Result, Ok, Err, refl, sym, ap, subst, ◌∙◌, arith}
 use Rattle.std.specs.Prelude.{slice_get, vec_capacity}
 use Rattle.std.specs.Option.{option_map}
 use Rattle.lu_grammar.specs.Bytes.{Cursor}
@@ -9,7 +9,7 @@ use Rattle.term_dict.specs.Terms.{Term, term_after}
 use Rattle.term_dict.specs.Last.{term_of, Fits}
 use Rattle.term_dict.specs.Content.{content}
 use Rattle.term_dict.specs.Walk.{Walk, at_place, IsAt}
-use Rattle.term_dict.proofs.WalkLemmas.{next_of, next_there, none_left, IsRead-roomier}
+use Rattle.term_dict.proofs.WalkLemmas.{next_of, next_there, none_left, shares_next, IsRead-roomier}
 use Rattle.term_dict.proofs.cursor.TermCursor.next.Goals as goal
 
 abbrev info_at : Walk → Option TermInfo
@@ -45,6 +45,7 @@ invariant_of-self c =
     let last = subst (λ (t : Term). IsAt i.tis.now i.numbers (i.passed + 1) c.entry_at.new.cur.place t) (sym c.advance.ensures.term) next.after in (
       IsRead-roomier i.tis.now i.numbers (vec_capacity i.last.text) (vec_capacity c.advance.new.self.text) h c.advance.ensures.room,
       subst (λ (p : ℕ). IsAt i.tis.now i.numbers (i.passed + 1) p (term_of c.advance.new.self)) (sym c.place-self-inside.ensures) last,
+      shares_next i.tis.now i.numbers (vec_capacity i.last.text) i.passed i.place c.entry_at.new.cur.place (term_of i.last) (term_after (term_of i.last) (entry_of c.in-Ok.entry)) (entry_of c.in-Ok.entry) h c.self.invariant.1 next.after refl next.fits.prefix,
     )
 
 pub returns-clause-term : goal.returns-clause-term

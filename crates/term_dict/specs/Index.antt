@@ -65,24 +65,29 @@ no_entries = record { passed = 0; last = no_term; place = 0 }
 abbrev pub with_entry : IndexProgress → IndexEntry → IndexProgress
 with_entry s e = record { passed = s.passed + 1; last = term_after s.last e.term; place = s.place + e.step }
 
+-- the three numbers after the count are those of the terms
+abbrev pub same_intervals : Heading → TermNumbers → Bool
+same_intervals h numbers = int_eq h.index_interval (pos numbers.index_interval) && int_eq h.skip_interval (pos numbers.skip_interval) && int_eq h.max_levels (pos numbers.max_levels)
+
 -- the conditions against the header of the index
 abbrev pub index_heading_conditions : TermNumbers → Heading → List Condition
 index_heading_conditions numbers h =
     record { rule = TII_FORMAT; broken = is_other_format h } ∷
     record { rule = TII_COUNT; broken = not (int_eq h.count (pos (entry_count numbers))) } ∷
-    record {
-      rule = TII_INTERVALS;
-      broken = not (int_eq h.index_interval (pos numbers.index_interval) && int_eq h.skip_interval (pos numbers.skip_interval) && int_eq h.max_levels (pos numbers.max_levels));
-    } ∷
+    record { rule = TII_INTERVALS; broken = not (same_intervals h numbers) } ∷
     []
 
--- the conditions against an entry
-abbrev pub index_conditions : Dictionary → IndexProgress → IndexEntry → List Condition
-index_conditions d s e =
-    record { rule = TII_PREFIX; broken = nat_lt (length s.last.text) e.term.prefix } ∷
-    record { rule = TII_TERM; broken = not (same_term (term_after s.last e.term) (indexed_term d s.passed)) } ∷
-    record { rule = TII_PLACE; broken = not (s.place + e.step == indexed_place d s.passed) } ∷
+-- the conditions against an entry after this last term and place, which is to stand for the wanted term and place
+abbrev pub index_against : Term → ℕ → IndexEntry → Term → ℕ → List Condition
+index_against last place e wanted wanted_place =
+    record { rule = TII_PREFIX; broken = nat_lt (length last.text) e.term.prefix } ∷
+    record { rule = TII_TERM; broken = not (same_term (term_after last e.term) wanted) } ∷
+    record { rule = TII_PLACE; broken = not (place + e.step == wanted_place) } ∷
     []
+
+-- the conditions against the next entry
+abbrev pub index_conditions : Dictionary → IndexProgress → IndexEntry → List Condition
+index_conditions d s e = index_against s.last s.place e (indexed_term d s.passed) (indexed_place d s.passed)
 
 -- the records of entries
 abbrev pub index_kind : Dictionary → Kind IndexProgress (Line IndexEntry)

@@ -1,0 +1,8 @@
+//! The sparse index of the terms of a segment: checked beside the terms, and searched (format page, "Term index").
+#![tactic(auto)]
+
+mod checking;
+mod point;
+mod walk;
+
+

@@ -64,6 +64,7 @@ impl<'a> TermFile<'a> {
         ensures numbers { result ≡ self.now.numbers }
         ensures bounded { AreBounded result }
         ensures count { length self.now.terms ≡ result.count }
+        ensures starts { length self.now.starts ≡ result.count }
     {
         self.numbers
     }

@@ -1,2 +1,4 @@
+pub mod EntryLemmas
 pub mod PassLemmas
 pub mod PointLemmas
+pub mod PointLoop

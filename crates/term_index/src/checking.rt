@@ -1,21 +1,25 @@
 //! The check of the index, beside a walk over the terms (format page, "Term index").
-ghost use Rattle.std.specs.Prelude.{◌≡◌, ◌^◌, ◌<◌, ◌≤◌, length, take, IfOk, IfErr, None};
+ghost use Rattle.std.specs.Prelude.{◌≡◌, ℕ, ◌^◌, ◌<◌, ◌≤◌, length, take, IfOk, IfErr, None, Ok};
 ghost use Rattle.std.specs.Str.{bytes_eq};
 ghost use Rattle.lu_grammar.specs.Records.{first_broken};
 ghost use Rattle.lu_types.specs.declared.kind.FileKind.TheVariants.{Tii};
-ghost use Rattle.term_dict.specs.Checks.{AreBounded};
+ghost use Rattle.term_dict.specs.Checks.{AreBounded, IsBrokenSo, IsFaultOf, broken_so};
+ghost use Rattle.term_dict.specs.Terms.{no_term};
 ghost use Rattle.term_dict.specs.Entries.{entry_of, IsBounded};
 ghost use Rattle.term_dict.specs.Dictionary.{Dictionary};
-ghost use Rattle.term_dict.specs.Index.{entry_count, same_intervals, same_info, index_heading_conditions, index_against, index_conditions, indexed_term, indexed_place, IndexProgress};
+ghost use Rattle.term_dict.specs.Index.{entry_count, same_intervals, same_info, index_heading_conditions, index_against, index_conditions, indexed_term, indexed_place, IndexProgress, index_kind, no_entries, tii_plan};
+ghost use Rattle.lu_grammar.specs.Plans.{read_plan, read_file, times};
+ghost use Rattle.lu_grammar.specs.Meaning.{Reads};
 ghost use Rattle.term_dict.specs.Walk.{term_passed, next_place};
-ghost use Rattle.term_index.specs.Points.{point_of, IsBoundedPoint, ShareFront, info_after, last_of, wanted_of};
+ghost use Rattle.term_index.specs.Points.{point_of, IsBoundedPoint, ShareFront, info_after, last_of, wanted_of, progress, IsNextPoint, IsIndexHeader};
 
-use crate::point::IndexPoint;
-use crate::walk::Passed;
-use lu_prims::OutOfMemory;
-use lu_types::TermInfo;
-use lu_types::rules::{TII_COUNT, TII_FORMAT, TII_INTERVALS, TII_PLACE, TII_PREFIX, TII_TERM};
-use term_dict::{FORMAT, Heading, TermCursor, TermEntry, TermNumbers, follow};
+use crate::point::{IndexPoint, point_at};
+use crate::walk::{Passed, pass_interval};
+use lu_prims::{Cur, OutOfMemory};
+use lu_types::{CodecFault, FileKind, Spot, TermInfo};
+use lu_types::rules::{TII_COUNT, TII_FORMAT, TII_INTERVALS, TII_PLACE, TII_PREFIX, TII_TERM, TRAILING};
+use std::alloc::Global;
+use term_dict::{FORMAT, Heading, TermCursor, TermEntry, TermFile, TermNumbers, bad_rule, follow, heading_at};
 
 /// How many entries the index of so many terms has: one for each interval that has begun.
 fn entry_count(numbers: &TermNumbers) -> u32
@@ -83,6 +87,24 @@ struct LastPoint {
 }
 
 impl LastPoint {
+    /// What the first entry follows: no text, and all places 0. Takes no memory.
+    fn new(alloc: Global) -> LastPoint
+        ensures last { last_of result ≡ no_term }
+        ensures place { result.place ≡ 0 }
+    {
+        LastPoint {
+            text: Vec::new(alloc),
+            info: TermInfo {
+                field: 0,
+                doc_freq: 0,
+                freq: 0,
+                prox: 0,
+                skip: 0,
+            },
+            place: 0,
+        }
+    }
+
     /// Makes it the entry, or answers the first rule that the entry breaks. It is to stand for the last term that the walk
     /// passed, of which this is said, and for the place of the walk; so many bytes of its text are those of the last text.
     fn step(
@@ -116,4 +138,107 @@ impl LastPoint {
         self.place = place;
         Ok(None)
     }
+}
+
+/// Makes the last entry the one that stands at the cursor, which moves behind it; or answers the first rule that is broken
+/// there. It is to stand for the last term that the walk passed, of which this is said, and for the place of the walk.
+fn next_point(
+    cur: &mut Cur<'_>,
+    last: &mut LastPoint,
+    skip_interval: u32,
+    passed: &Passed,
+    cursor: &TermCursor<'_>,
+) -> Result<Option<u16>, OutOfMemory>
+    requires { ShareFront passed.now.shared last.old.text.items cursor.now }
+    ensures next { (d : Dictionary) (n : ℕ) → skip_interval ≡ d.numbers.skip_interval → wanted_of passed.now.info cursor.now ≡ indexed_term d n → next_place cursor.now ≡ indexed_place d n
+        → IfOk result (IsNextPoint d (progress n (last_of last.old) last.old.place) cur.old cur.new) }
+    ensures good { IfOk result (λ rule. rule ≡ None → (last_of last.new ≡ wanted_of passed.now.info cursor.now) × (last.new.place ≡ next_place cursor.now)) }
+{
+    match point_at(cur, skip_interval) {
+        Err(bad) => Ok(Some(bad_rule(bad))),
+        Ok(point) => last.step(&point, passed, cursor),
+    }
+}
+
+/// The fault of an index that breaks a rule at a place.
+fn fault_at(place: usize, rule: u16) -> CodecFault
+    ensures { IsBrokenSo Tii (broken_so place rule) result }
+{
+    CodecFault::Spot(Spot {
+        kind: FileKind::Tii,
+        offset: place as u64,
+        rule,
+    })
+}
+
+/// Reads all entries from the cursor on, which moves behind them, beside a walk over the terms from the first on; or answers
+/// the first fault there.
+fn check_points(
+    alloc: Global,
+    cur: &mut Cur<'_>,
+    cursor: &mut TermCursor<'_>,
+    numbers: &TermNumbers,
+) -> Result<(), CodecFault>
+    requires start { cursor.old.passed ≡ 0 }
+    requires numbers { numbers.now ≡ cursor.old.dictionary.numbers }
+    requires bounded { AreBounded numbers.now }
+    requires terms { length cursor.old.dictionary.terms ≡ numbers.now.count }
+    requires starts { length cursor.old.dictionary.starts ≡ numbers.now.count }
+    ensures ok { IfOk result (λ _. (s : IndexProgress) × (read_plan (times (index_kind cursor.old.dictionary) (entry_count numbers.now) no_entries) cur.old ≡ Ok (s, cur.new))) }
+    ensures err { IfErr result (IsBrokenSo Tii (read_plan (times (index_kind cursor.old.dictionary) (entry_count numbers.now) no_entries) cur.old)) }
+{
+    let mut last = LastPoint::new(alloc);
+    for number in 0..entry_count(numbers) {
+        let place = cur.place();
+        let passed = pass_interval(cursor, number, numbers.index_interval);
+        match next_point(cur, &mut last, numbers.skip_interval, &passed, cursor) {
+            Err(_) => return Err(CodecFault::OutOfMemory),
+            Ok(Some(rule)) => return Err(fault_at(place, rule)),
+            Ok(None) => {}
+        }
+    }
+    Ok(())
+}
+
+/// The first rule that the header at the cursor breaks in the index of terms with these numbers; `None` where it is good, and
+/// then the cursor moves behind it.
+fn header_at(cur: &mut Cur<'_>, numbers: &TermNumbers) -> Option<u16>
+    requires { AreBounded numbers.now }
+    ensures { IsIndexHeader numbers.now cur.old cur.new result }
+{
+    match heading_at(cur) {
+        Err(bad) => Some(bad_rule(bad)),
+        Ok(heading) => heading_rule(&heading, numbers),
+    }
+}
+
+/// Whether the bytes are the index of the terms (format page, "Term index" and "How a fault is found"): `Ok`, or their first
+/// fault. Answers `OutOfMemory` only where there was no memory for a text of the terms or of the index.
+///
+/// It walks the terms beside the entries, keeps one text of each, and takes time by the length of both files.
+pub fn check_tii(alloc: Global, tii: &[u8], terms: &TermFile<'_>) -> Result<(), CodecFault>
+    ensures ok { IfOk result (λ _. Reads (tii_plan terms.now) tii.now tt) }
+    ensures err { IfErr result (IsFaultOf Tii (tii_plan terms.now) tii.now) }
+{
+    check_bytes(alloc, tii, terms)
+}
+
+/// The same in terms of reading.
+fn check_bytes(alloc: Global, tii: &[u8], terms: &TermFile<'_>) -> Result<(), CodecFault>
+    ensures ok { IfOk result (λ _. read_file (tii_plan terms.now) tii.now ≡ Ok tt) }
+    ensures err { IfErr result (IsBrokenSo Tii (read_file (tii_plan terms.now) tii.now)) }
+{
+    let numbers = terms.numbers();
+    let mut cur = Cur::at(tii, 0);
+    if let Some(rule) = header_at(&mut cur, &numbers) {
+        return Err(fault_at(0, rule));
+    }
+    let mut cursor = terms.cursor(alloc)?;
+    if let Err(fault) = check_points(alloc, &mut cur, &mut cursor, &numbers) {
+        return Err(fault);
+    }
+    if cur.left() > 0 {
+        return Err(fault_at(cur.place(), TRAILING));
+    }
+    Ok(())
 }

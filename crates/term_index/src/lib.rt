@@ -5,4 +5,4 @@ mod checking;
 mod point;
 mod walk;
 
-
+pub use checking::check_tii;

@@ -32,7 +32,7 @@ three false true c r s t e = cc
 three false false true r s t e = cc
 three false false false r s t e = (refl, refl, refl)
 
-bytes_eq-true : (xs ys : List ℕ) → bytes_eq xs ys ≡ true → xs ≡ ys
+pub bytes_eq-true : (xs ys : List ℕ) → bytes_eq xs ys ≡ true → xs ≡ ys
 bytes_eq-true xs ys e = (bytes_eq-Decides xs ys).0 e
 
 abbrev info_of : ℕ → ℕ → ℕ → ℕ → ℕ → TermInfo

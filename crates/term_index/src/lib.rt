@@ -2,7 +2,9 @@
 #![tactic(auto)]
 
 mod checking;
+mod index;
 mod point;
 mod walk;
 
 pub use checking::check_tii;
+pub use index::TermIndex;

@@ -5,5 +5,6 @@ pub mod LineLemmas
 pub mod LoopLemmas
 pub mod OrderLemmas
 mod Rows
+pub mod SpellingLemmas
 pub mod TextLemmas
 pub mod WalkLemmas

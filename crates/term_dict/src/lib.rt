@@ -9,6 +9,7 @@ mod heading;
 mod last;
 mod numbers;
 mod order;
+mod spelling;
 
 pub use cursor::TermCursor;
 pub use entry::{TermEntry, entry_at};

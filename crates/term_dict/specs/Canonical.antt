@@ -56,20 +56,25 @@ pub record Point : Type 0 where
   pub term : Term
   pub place : ℕ
 
+-- how many intervals of terms have begun
+abbrev pub begun : ℕ → ℕ → ℕ
+begun index_interval count = (count + (index_interval - 1)) / index_interval
+
 -- what the entry before this one of the index stands for
-abbrev pub point_before : TermNumbers → List Term → ℕ → Point
-point_before numbers terms zero = record { term = no_term; place = 0 }
-point_before numbers terms (suc i) = record { term = point_after terms (i * numbers.index_interval); place = start_of_term numbers.skip_interval terms (i * numbers.index_interval) }
+abbrev pub point_before : ℕ → ℕ → List Term → ℕ → Point
+point_before index_interval interval terms zero = record { term = no_term; place = 0 }
+point_before index_interval interval terms (suc i) = record { term = point_after terms (i * index_interval); place = start_of_term interval terms (i * index_interval) }
 
 -- the bytes of an entry of the index after another
 abbrev pub point_bytes : ℕ → Point → Point → List ℕ
 point_bytes interval before p = entry_bytes interval (entry_between before.term p.term) (spelling vlong (p.place - before.place))
 
 -- the bytes of the first so many entries
-abbrev pub points_bytes : TermNumbers → List Term → ℕ → List ℕ
-points_bytes numbers terms zero = []
-points_bytes numbers terms (suc i) = points_bytes numbers terms i ++ point_bytes numbers.skip_interval (point_before numbers terms i) (point_before numbers terms (suc i))
+abbrev pub points_bytes : ℕ → ℕ → List Term → ℕ → List ℕ
+points_bytes index_interval interval terms zero = []
+points_bytes index_interval interval terms (suc i) =
+    points_bytes index_interval interval terms i ++ point_bytes interval (point_before index_interval interval terms i) (point_before index_interval interval terms (suc i))
 
 -- the index of these terms
 abbrev pub canonical_tii : TermNumbers → List Term → List ℕ
-canonical_tii numbers terms = header_bytes numbers (entry_count numbers) ++ points_bytes numbers terms (entry_count numbers)
+canonical_tii numbers terms = header_bytes numbers (entry_count numbers) ++ points_bytes numbers.index_interval numbers.skip_interval terms (entry_count numbers)

@@ -8,3 +8,4 @@ pub mod Index
 pub mod Last
 pub mod Terms
 pub mod Walk
+pub mod Writing

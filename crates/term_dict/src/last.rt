@@ -109,6 +109,26 @@ impl LastTerm {
         self.info = NO_INFO;
     }
 
+    /// Makes room for a text of so many bytes. The term stays.
+    pub(crate) fn make_room(&mut self, length: usize) -> Result<(), OutOfMemory>
+        ensures term { term_of self.new ≡ term_of self.old }
+        ensures room { OnOk result (length ≤ vec_capacity self.new.text) }
+    {
+        self.text.reserve(length)?;
+        Ok(())
+    }
+
+    /// Makes it the term with this text, for which there is room, and of which this is said.
+    pub(crate) fn set(&mut self, text: &[u8], info: &TermInfo)
+        requires { length text.now ≤ vec_capacity self.old.text }
+        ensures { term_of self.new ≡ record { text = text.now; info = info.now } }
+    {
+        if follow(&mut self.text, 0, text).is_err() {
+            unreachable!();
+        }
+        self.info = *info;
+    }
+
     /// Makes the term that of an entry which is good after it, where there is room for the text.
     pub(crate) fn advance(&mut self, entry: &TermEntry<'_>)
         requires fits { Fits (term_of self.old) (entry_of entry.now) }

@@ -10,6 +10,7 @@ mod last;
 mod numbers;
 mod order;
 mod spelling;
+mod writer;
 
 pub use cursor::TermCursor;
 pub use entry::{TermEntry, entry_at};

@@ -3,6 +3,7 @@ ghost use Rattle.std.specs.Prelude.{◌≡◌, ◌++◌, ◌<◌, ◌≤◌, ◌
 ghost use Rattle.term_dict.specs.Canonical.{shared, entry_between, entry_bytes, skip_bytes, header_bytes};
 ghost use Rattle.term_dict.specs.Entries.{entry_of, IsBounded};
 ghost use Rattle.term_dict.specs.Last.{term_of};
+ghost use Rattle.term_dict.specs.Writing.{Follows};
 
 use crate::entry::TermEntry;
 use crate::last::LastTerm;
@@ -25,10 +26,10 @@ fn shared_len(a: &[u8], b: &[u8]) -> usize
 
 /// The entry of a term after the last one, whose places are not above its own.
 pub(crate) fn entry_between<'a>(last: &LastTerm, text: &'a [u8], info: &TermInfo) -> TermEntry<'a>
-    requires freq { last.now.info.freq ≤ info.now.freq }
-    requires prox { last.now.info.prox ≤ info.now.prox }
+    requires follows { Follows last.now.info info.now }
     requires small { length text.now < 2 ^ 31 }
-    ensures { entry_of result ≡ entry_between (term_of last.now) (record { text = text.entry.now; info = info.now }) }
+    ensures entry { entry_of result ≡ entry_between (term_of last.now) (record { text = text.entry.now; info = info.now }) }
+    ensures bounded { IsBounded result × (length result.suffix.now < 2 ^ 31) }
 {
     let prefix = shared_len(last.text.as_slice(), text);
     TermEntry {

@@ -8,3 +8,4 @@ mod Rows
 pub mod SpellingLemmas
 pub mod TextLemmas
 pub mod WalkLemmas
+pub mod WriteLemmas

@@ -66,13 +66,17 @@ against standing before e t =
 abbrev pub term_conditions : Standing → List Term → Entry → List Condition
 term_conditions standing before e = against standing before e (term_after (last_term before) e)
 
--- the records of terms
-abbrev pub term_kind : Standing → ℕ → Kind Progress (Line Entry)
-term_kind standing interval = record {
+-- the records of terms, with these conditions against an entry after some terms
+abbrev pub terms_by : (List Term → Entry → List Condition) → ℕ → Kind Progress (Line Entry)
+terms_by conditions interval = record {
   shape = λ s. followed (entry_shape false interval) (λ e. whole (entry e));
-  conditions = λ s place line. on_entry [] (term_conditions standing s.terms) line;
+  conditions = λ s place line. on_entry [] (conditions s.terms) line;
   after = λ s place line. on_entry s (with_term s place) line;
 }
+
+-- the records of terms
+abbrev pub term_kind : Standing → ℕ → Kind Progress (Line Entry)
+term_kind standing interval = terms_by (term_conditions standing) interval
 
 -- so many terms, as the numbers say
 abbrev pub terms_plan : Standing → ℕ → TermNumbers → Plan Dictionary (Line Entry)

@@ -1,9 +1,16 @@
 -- What a writer of terms has been handed.
-use Rattle.std.specs.Prelude.{◌≡◌, ℕ, ◌+◌, ◌%◌, ◌<◌, ◌≤◌, ◌^◌, ◌==◌, if◌then◌else◌, List, ◌++◌, length, drop}
+use Rattle.std.specs.Prelude.{[], ◌∷◌, ◌≡◌, ℕ, ◌+◌, ◌%◌, ◌<◌, ◌≤◌, ◌^◌, ◌==◌, if◌then◌else◌, List, ◌++◌, length, drop}
 use Rattle.std.specs.Str.{IsUtf8}
+use Rattle.lu_grammar.specs.Bytes.{IsBytes}
 use Rattle.lu_types.specs.declared.term.TermInfo.{TermInfo}
 use Rattle.term_dict.specs.declared.numbers.TermNumbers.{TermNumbers}
 use Rattle.term_dict.specs.declared.writer.IndexOutput.{IndexOutput}
+use Rattle.lu_grammar.specs.Plans.{Kind, times, read_plan}
+use Rattle.term_dict.specs.Headings.{Line}
+use Rattle.term_dict.specs.Entries.{Entry}
+use Rattle.term_dict.specs.Dictionary.{Progress, no_terms, terms_by}
+use Rattle.term_dict.specs.Content.{or_else}
+use Rattle.term_dict.specs.Walk.{at_place}
 use Rattle.term_dict.specs.Index.{blank}
 use Rattle.term_dict.specs.Terms.{Term, no_term, last_term}
 use Rattle.term_dict.specs.Last.{term_of}
@@ -47,3 +54,54 @@ term_before number last = record { text = last.text; info = if number == 0 then 
 abbrev pub IsPassed : ℕ → ℕ → ℕ → IndexOutput → IndexOutput → Term → ℕ → Type 0
 IsPassed number index_interval interval old new last place =
     (number % index_interval ≡ 0 → IsEntered interval old new (record { term = term_before number last; place = place })) × ((number % index_interval ≡ 0 → ⊥) → IsSame old new)
+
+-- a term that can be spelled, with skip data from so many documents on
+pub record IsSpellable (interval : ℕ) (t : Term) : Type 0 where
+  pub text : IsUtf8 t.text
+  pub bytes : IsBytes t.text
+  pub small : length t.text < 2 ^ 31
+  pub field : t.info.field < 2 ^ 31
+  pub freq : t.info.freq < 2 ^ 32
+  pub prox : t.info.prox < 2 ^ 32
+  pub no_skip : t.info.doc_freq < interval → t.info.skip ≡ 0
+
+-- each term can be spelled, and each after the one before
+abbrev pub AreSpellable : ℕ → Term → List Term → Type 0
+AreSpellable interval before [] = Unit {0}
+AreSpellable interval before (t ∷ ts) = IsSpellable interval t × Follows before.info t.info × AreSpellable interval t ts
+
+-- the records of terms, whatever conditions they meet
+abbrev pub any_terms : ℕ → Kind Progress (Line Entry)
+any_terms interval = terms_by (λ before e. []) interval
+
+-- so many terms in the bytes behind the header
+abbrev pub terms_in : ℕ → ℕ → List ℕ → List Term
+terms_in interval count tis = (or_else (no_terms, at_place tis 24) (read_plan (times (any_terms interval) count no_terms) (at_place tis 24))).0.terms
+
+-- what was written to the bytes of a file of terms
+abbrev pub written_in : ℕ → ℕ → ℕ → ℕ → List ℕ → Written
+written_in index_interval interval max_levels count tis = record { index_interval = index_interval; skip_interval = interval; max_levels = max_levels; terms = terms_in interval count tis }
+
+-- the intervals and the number of levels are within their limits
+pub record AreIntervals (w : Written) : Type 0 where
+  pub index_interval : (1 ≤ w.index_interval) × (w.index_interval < 2 ^ 31)
+  pub skip_interval : (2 ≤ w.skip_interval) × (w.skip_interval < 2 ^ 31)
+  pub max_levels : (1 ≤ w.max_levels) × (w.max_levels < 2 ^ 31)
+
+-- behind room for the header stand these bytes
+abbrev pub IsBehind : List ℕ → List ℕ → Type 0
+IsBehind body bytes = (24 ≤ length bytes) × (drop 24 bytes ≡ body)
+
+-- the bytes of both files, the last term, and the last entry of the index are those of the terms
+pub record IsWritten (w : Written) (tis : List ℕ) (last : Term) (tii : List ℕ) (point : Point) (count : ℕ) : Type 0 where
+  pub intervals : AreIntervals w
+  pub counted : count ≡ length w.terms
+  pub terms : IsBehind (terms_bytes w.skip_interval no_term w.terms) tis
+  pub entries : IsBehind (points_bytes w.index_interval w.skip_interval w.terms (begun w.index_interval count)) tii
+  pub is_last : last ≡ last_term w.terms
+  pub is_point : point ≡ point_before w.index_interval w.skip_interval w.terms (begun w.index_interval count)
+  pub spellable : AreSpellable w.skip_interval no_term w.terms
+  pub small : length last.text < 2 ^ 31
+  pub freq : point.term.info.freq ≤ last.info.freq
+  pub prox : point.term.info.prox ≤ last.info.prox
+  pub place : point.place ≤ length tis

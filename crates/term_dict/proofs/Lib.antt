@@ -1,6 +1,7 @@
 pub mod CheckLemmas
 pub mod ConditionLemmas
 pub mod FileLemmas
+pub mod IndexLemmas
 pub mod LineLemmas
 pub mod LoopLemmas
 pub mod OrderLemmas
@@ -9,3 +10,4 @@ pub mod SpellingLemmas
 pub mod TextLemmas
 pub mod WalkLemmas
 pub mod WriteLemmas
+pub mod WriterLemmas

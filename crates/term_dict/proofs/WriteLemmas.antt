@@ -8,7 +8,7 @@ use Rattle.std.specs.Str.{IsUtf8}
 use Rattle.lu_grammar.specs.Bytes.{IsBytes, Cursor}
 use Rattle.lu_grammar.specs.Parts.{num, vint, vlong, bytes, spelling, IsValue}
 use Rattle.lu_grammar.specs.Records.{Shape, whole, part, followed, optional, Spells, Condition, first_broken}
-use Rattle.lu_grammar.specs.Plans.{Kind, one, times, read_plan}
+use Rattle.lu_grammar.specs.Plans.{Broken, Kind, one, times, read_plan}
 use Rattle.lu_grammar.proofs.Records.{at, Spells-followed}
 use Rattle.lu_grammar.proofs.Parts.{IsBytes-drop}
 use Rattle.lu_grammar.proofs.Writers.{Writes, Writes-none, Writes-record}
@@ -17,7 +17,10 @@ use Rattle.term_dict.specs.Entries.{Entry, entry_shape, field_number}
 use Rattle.term_dict.specs.Terms.{Term, no_term, last_term, term_after}
 use Rattle.term_dict.specs.Dictionary.{Progress, no_terms, with_term, Standing, term_conditions, terms_by, term_kind}
 use Rattle.term_dict.specs.Canonical.{shared, entry_between, skip_bytes, entry_bytes, terms_bytes, start_of_term}
-use Rattle.term_dict.specs.Writing.{Follows, IsSpellable, AreSpellable, any_terms, terms_in}
+use Rattle.term_dict.specs.Writing.{Follows, IsSpellable, AreSpellable, any_terms, terms_in, IsBehind}
+use Rattle.term_dict.specs.Content.{or_else}
+use Rattle.term_dict.specs.Walk.{at_place}
+use Rattle.std.proofs.Math.Seq.{take-length}
 use Rattle.term_dict.proofs.LoopLemmas.{last_term-push}
 
 -- ---- what two texts share
@@ -201,3 +204,13 @@ spelled conditions interval ts zero h le good = record {
 spelled conditions interval ts (suc n) h le good =
     let before = spelled conditions interval ts n h (omega arith) (λ k lt. good k (omega arith)) in
     subst (λ (k : ℕ). Spelled conditions interval ts k) (add-one n) (spelled-more conditions interval ts n h (omega arith) (good n (omega arith)) before)
+
+-- the terms in the bytes
+pub terms_in-spelled : (interval count : ℕ) (ts : List Term) (tis : List ℕ) → AreSpellable interval no_term ts → count ≡ length ts → IsBehind (terms_bytes interval no_term ts) tis → terms_in interval count tis ≡ ts
+terms_in-spelled interval count ts tis h is behind =
+    let w = spelled (λ before e. []) interval ts (length ts) h (omega arith) (λ k lt. refl) in
+    let all : take (length ts) ts ≡ ts = take-length ts in
+    let rest : drop 24 tis ≡ terms_bytes interval no_term (take (length ts) ts) ++ [] = behind.1 ∙ ap (terms_bytes interval no_term) (sym all) ∙ sym (append-nil (terms_bytes interval no_term (take (length ts) ts))) in
+    let read : read_plan (times (any_terms interval) count no_terms) (at_place tis 24) ≡ Ok (w.s, at (24 + length (terms_bytes interval no_term (take (length ts) ts))) []) =
+    ap (λ (n : ℕ). read_plan (times (any_terms interval) n no_terms) (at_place tis 24)) is ∙ ap (λ (b : List ℕ). read_plan (times (any_terms interval) (length ts) no_terms) (at 24 b)) rest ∙ w.writes.reads [] in
+    ap (λ (r : Result (Progress × Cursor) Broken). (or_else (no_terms, at_place tis 24) r).0.terms) read ∙ w.terms ∙ all

@@ -23,6 +23,14 @@ pub record Written : Type 0 where
   pub max_levels : ℕ
   pub terms : List Term
 
+-- no terms yet
+abbrev pub no_terms_written : ℕ → ℕ → ℕ → Written
+no_terms_written index_interval skip_interval max_levels = record { index_interval = index_interval; skip_interval = skip_interval; max_levels = max_levels; terms = [] }
+
+-- one term more
+abbrev pub with_written : Written → Term → Written
+with_written w t = record { index_interval = w.index_interval; skip_interval = w.skip_interval; max_levels = w.max_levels; terms = w.terms ++ t ∷ [] }
+
 -- the numbers of the file of terms
 abbrev pub numbers_written : Written → TermNumbers
 numbers_written w = record { count = length w.terms; index_interval = w.index_interval; skip_interval = w.skip_interval; max_levels = w.max_levels }
@@ -102,6 +110,5 @@ pub record IsWritten (w : Written) (tis : List ℕ) (last : Term) (tii : List �
   pub is_point : point ≡ point_before w.index_interval w.skip_interval w.terms (begun w.index_interval count)
   pub spellable : AreSpellable w.skip_interval no_term w.terms
   pub small : length last.text < 2 ^ 31
-  pub freq : point.term.info.freq ≤ last.info.freq
-  pub prox : point.term.info.prox ≤ last.info.prox
+  pub follows : Follows point.term.info last.info
   pub place : point.place ≤ length tis

@@ -14,7 +14,7 @@ use std::alloc::Global;
 use std::marker::Model;
 
 /// The bytes of the header, behind which the first term starts.
-const HEADER_BYTES: usize = 24;
+pub(crate) const HEADER_BYTES: usize = 24;
 
 /// A walk over the terms of a file that was checked. Contracts see what the file stands for, and how many terms were passed.
 /// It keeps the last text in one buffer, reserved when it is made; no call takes memory.

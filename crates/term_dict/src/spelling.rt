@@ -30,6 +30,7 @@ pub(crate) fn entry_between<'a>(last: &LastTerm, text: &'a [u8], info: &TermInfo
     requires small { length text.now < 2 ^ 31 }
     ensures entry { entry_of result ≡ entry_between (term_of last.now) (record { text = text.entry.now; info = info.now }) }
     ensures bounded { IsBounded result × (length result.suffix.now < 2 ^ 31) }
+    ensures places { (info.now.freq < 2 ^ 32) × (info.now.prox < 2 ^ 32) }
 {
     let prefix = shared_len(last.text.as_slice(), text);
     TermEntry {

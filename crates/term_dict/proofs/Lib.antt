@@ -1,0 +1,13 @@
+pub mod CheckLemmas
+pub mod ConditionLemmas
+pub mod FileLemmas
+pub mod IndexLemmas
+pub mod LineLemmas
+pub mod LoopLemmas
+pub mod OrderLemmas
+mod Rows
+pub mod SpellingLemmas
+pub mod TextLemmas
+pub mod WalkLemmas
+pub mod WriteLemmas
+pub mod WriterLemmas

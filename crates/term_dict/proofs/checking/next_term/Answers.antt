@@ -1,0 +1,16 @@
+use Rattle.std.proofs.Common.{sym, ap, ◌∙◌}
+use Rattle.lu_grammar.specs.Records.{rule_of}
+use Rattle.term_dict.specs.Entries.{entry_of}
+use Rattle.term_dict.specs.Dictionary.{within}
+use Rattle.term_dict.specs.Last.{term_of}
+use Rattle.term_dict.proofs.CheckLemmas.{next-judged, next-unread}
+use Rattle.term_dict.proofs.checking.next_term.Goals as goal
+
+pub returns-in-Err-clause-next : goal.returns-in-Err-clause-next
+returns-in-Err-clause-next c = λ s is first.
+    next-unread (within c.args.fields.now c.args.documents) c.args.skip_interval s c.args.cur.now c.in-Err.bad c.bad_rule.result c.in-Err.ensures.takes c.bad_rule.ensures
+
+pub returns-in-Ok-clause-next : goal.returns-in-Ok-clause-next
+returns-in-Ok-clause-next c = λ s is first.
+    next-judged (within c.args.fields.now c.args.documents) c.args.skip_interval s c.args.cur.now c.entry_at.new.cur (entry_of c.in-Ok.entry) (term_of c.args.last.now) (term_of c.step.new.self) c.step.result
+    c.in-Ok.ensures.takes is (c.step.ensures.rule s.terms is first) c.step.ensures.good

@@ -1,0 +1,93 @@
+-- The file of terms: its records, and what they stand for.
+use Rattle.std.specs.Prelude.{ℕ, ◌^◌, Bool, false, not, ◌||◌, ◌==◌, List, [], ◌∷◌, ◌++◌, length, nat_lt, nat_le}
+use Rattle.std.specs.Str.{is_utf8}
+use Rattle.lu_grammar.specs.Records.{whole, followed, Condition}
+use Rattle.lu_grammar.specs.Plans.{Plan, done, due, and_then, Kind, times}
+use Rattle.lu_types.specs.declared.rules.TheConstants.{TERM_PREFIX, TERM_UTF8, TERM_FIELD, TERM_ORDER, DOC_FREQ, TERM_PLACE}
+use Rattle.lu_types.specs.Tables.{TableField}
+use Rattle.term_dict.specs.declared.numbers.TermNumbers.{TermNumbers}
+use Rattle.term_dict.specs.Headings.{header, heading_conditions, numbers_of, Line, entry, heading_of, on_entry}
+use Rattle.term_dict.specs.Entries.{Entry, entry_shape}
+use Rattle.term_dict.specs.Terms.{Term, last_term, term_after, is_indexed, is_above}
+
+-- what a file of terms stands for: its numbers, its terms, where the record of each starts, and the length of the file
+pub record Dictionary : Type 0 where
+  pub numbers : TermNumbers
+  pub terms : List Term
+  pub starts : List ℕ
+  pub size : ℕ
+
+-- the terms so far, and where the record of each starts
+pub record Progress : Type 0 where
+  pub terms : List Term
+  pub starts : List ℕ
+
+-- before the first term
+abbrev pub no_terms : Progress
+no_terms = record { terms = []; starts = [] }
+
+-- one term more, whose record starts at this place
+abbrev pub with_term : Progress → ℕ → Entry → Progress
+with_term s place e = record { terms = s.terms ++ term_after (last_term s.terms) e ∷ []; starts = s.starts ++ place ∷ [] }
+
+-- what a term must meet in its segment, given the terms before it
+abbrev pub Standing : Type 0
+Standing = List Term → Term → List Condition
+
+-- nothing
+abbrev pub anywhere : Standing
+anywhere before t = []
+
+-- its field is indexed, it is above the term before, and it is in some of the documents and in no more
+abbrev pub within : List TableField → ℕ → Standing
+within fields documents before t =
+    record { rule = TERM_FIELD; broken = not (is_indexed fields t.info.field) } ∷
+    record { rule = TERM_ORDER; broken = not (is_above fields before t) } ∷
+    record { rule = DOC_FREQ; broken = t.info.doc_freq == 0 || nat_lt documents t.info.doc_freq } ∷
+    []
+
+-- a place is over the last that a file can have
+abbrev pub is_past : Term → Bool
+is_past t = nat_le (2 ^ 31) t.info.freq || nat_le (2 ^ 31) t.info.prox
+
+-- what a term must meet in any segment, after all else
+abbrev pub place_conditions : Term → List Condition
+place_conditions t = record { rule = TERM_PLACE; broken = is_past t } ∷ []
+
+-- the conditions against the entry that stands for this term, after these
+abbrev pub against : Standing → List Term → Entry → Term → List Condition
+against standing before e t =
+    record { rule = TERM_PREFIX; broken = nat_lt (length (last_term before).text) e.prefix } ∷
+    record { rule = TERM_UTF8; broken = not (is_utf8 t.text) } ∷
+    standing before t ++
+    place_conditions t
+
+-- the conditions against an entry after these terms
+abbrev pub term_conditions : Standing → List Term → Entry → List Condition
+term_conditions standing before e = against standing before e (term_after (last_term before) e)
+
+-- the records of terms, with these conditions against an entry after some terms
+abbrev pub terms_by : (List Term → Entry → List Condition) → ℕ → Kind Progress (Line Entry)
+terms_by conditions interval = record {
+  shape = λ s. followed (entry_shape false interval) (λ e. whole (entry e));
+  conditions = λ s place line. on_entry [] (conditions s.terms) line;
+  after = λ s place line. on_entry s (with_term s place) line;
+}
+
+-- the records of terms
+abbrev pub term_kind : Standing → ℕ → Kind Progress (Line Entry)
+term_kind standing interval = terms_by (term_conditions standing) interval
+
+-- so many terms, as the numbers say
+abbrev pub terms_plan : Standing → ℕ → TermNumbers → Plan Dictionary (Line Entry)
+terms_plan standing size numbers =
+    and_then (times (term_kind standing numbers.skip_interval) numbers.count no_terms) (λ s. done (record { numbers = numbers; terms = s.terms; starts = s.starts; size = size }))
+
+-- a file of so many bytes: its header, and then the terms
+abbrev pub dictionary_plan : Standing → ℕ → Plan Dictionary (Line Entry)
+dictionary_plan standing size =
+    due header (λ place line. heading_conditions (heading_of line)) (λ place line. terms_plan standing size (numbers_of (heading_of line)))
+
+-- a file of so many bytes in a segment with these fields and so many documents
+abbrev pub tis_plan : List TableField → ℕ → ℕ → Plan Dictionary (Line Entry)
+tis_plan fields documents size = dictionary_plan (within fields documents) size

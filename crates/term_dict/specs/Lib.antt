@@ -1,0 +1,11 @@
+pub mod Canonical
+pub mod Checks
+pub mod Content
+pub mod Dictionary
+pub mod Entries
+pub mod Headings
+pub mod Index
+pub mod Last
+pub mod Terms
+pub mod Walk
+pub mod Writing

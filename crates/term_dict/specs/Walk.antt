@@ -1,0 +1,51 @@
+-- A walk over the terms of a file.
+use Rattle.std.specs.Prelude.{◌≡◌, ℕ, ◌+◌, ◌-◌, ◌<◌, ◌≤◌, List, length, take, drop, Ok, slice_index_or}
+use Rattle.lu_grammar.specs.Bytes.{Cursor}
+use Rattle.lu_grammar.specs.Plans.{times, read_plan}
+use Rattle.term_dict.specs.declared.numbers.TermNumbers.{TermNumbers}
+use Rattle.term_dict.specs.Terms.{Term, last_term}
+use Rattle.term_dict.specs.Dictionary.{Dictionary, anywhere, Progress, no_terms, term_kind}
+use Rattle.term_dict.specs.Content.{content}
+use Rattle.term_dict.specs.Last.{IsSound}
+
+-- the terms of a file, and how many of them the walk has passed
+pub record Walk : Type 0 where
+  pub dictionary : Dictionary
+  pub passed : ℕ
+
+-- before the first term
+abbrev pub walk_of : Dictionary → Walk
+walk_of dictionary = record { dictionary = dictionary; passed = 0 }
+
+-- one term further
+abbrev pub passed_on : Walk → Walk
+passed_on w = record { dictionary = w.dictionary; passed = w.passed + 1 }
+
+-- the last term that was passed
+abbrev pub term_passed : Walk → Term
+term_passed w = last_term (take w.passed w.dictionary.terms)
+
+-- where the next term starts, and after the last one the length of the file
+abbrev pub next_place : Walk → ℕ
+next_place w = slice_index_or w.dictionary.starts w.passed w.dictionary.size
+
+-- so many bytes of the last text are those of the text before it
+abbrev pub Shares : ℕ → Walk → Type 0
+Shares n w = take n (term_passed w).text ≡ take n (last_term (take (w.passed - 1) w.dictionary.terms)).text
+
+-- the walk over the terms of these bytes
+abbrev pub walk_in : List ℕ → ℕ → Walk
+walk_in bytes passed = record { dictionary = content bytes; passed = passed }
+
+-- a place in the bytes
+abbrev pub at_place : List ℕ → ℕ → Cursor
+at_place bytes place = record { place = place; rest = drop place bytes }
+
+-- the first so many terms of the bytes end at this place, and the last of them is this one
+pub record IsAt (bytes : List ℕ) (numbers : TermNumbers) (passed place : ℕ) (last : Term) : Type 0 where
+  pub so_far : Progress
+  pub read : read_plan (times (term_kind anywhere numbers.skip_interval) passed no_terms) (at_place bytes 24) ≡ Ok (so_far, at_place bytes place)
+  pub is_last : last_term so_far.terms ≡ last
+  pub sound : IsSound last
+  pub few : passed ≤ numbers.count
+  pub inside : place ≤ length bytes

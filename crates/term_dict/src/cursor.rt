@@ -1,0 +1,114 @@
+//! A walk over the terms of a file (format page, "Terms").
+ghost use Rattle.std.specs.Prelude.{◌≡◌, ℕ, ◌+◌, ◌<◌, ◌≤◌, length, IfOk, IfSome, is_some, if◌then◌else◌, slice_get, option_map, vec_capacity};
+ghost use Rattle.term_dict.specs.Terms.{Term, term_after};
+ghost use Rattle.term_dict.specs.Dictionary.{Dictionary};
+ghost use Rattle.term_dict.specs.Content.{content, IsRead};
+ghost use Rattle.term_dict.specs.Walk.{Walk, walk_of, term_passed, next_place, passed_on, Shares};
+
+use crate::entry::entry_at;
+use crate::last::LastTerm;
+use crate::numbers::TermNumbers;
+use lu_prims::{Cur, OutOfMemory};
+use lu_types::TermInfo;
+use std::alloc::Global;
+use std::marker::Model;
+
+/// The bytes of the header, behind which the first term starts.
+pub(crate) const HEADER_BYTES: usize = 24;
+
+/// A walk over the terms of a file that was checked. Contracts see what the file stands for, and how many terms were passed.
+/// It keeps the last text in one buffer, reserved when it is made; no call takes memory.
+#[derive(Drop)]
+pub struct TermCursor<'a> {
+    tis: &'a [u8],
+    numbers: TermNumbers,
+    place: usize,
+    passed: u32,
+    shared: usize,
+    last: LastTerm,
+}
+
+impl<'a> Model for TermCursor<'a> {
+    ghost use Rattle.std.specs.Prelude.{vec_capacity};
+    ghost use Rattle.term_dict.specs.Content.{content, IsRead};
+    ghost use Rattle.term_dict.specs.Last.{term_of};
+    ghost use Rattle.term_dict.specs.Walk.{Walk, IsAt, Shares, walk_in};
+
+    ghost Value = { Walk };
+
+    ghost view = { λ c. walk_in c.tis.now c.passed };
+
+    ghost invariant = { λ c. IsRead c.tis.now c.numbers (vec_capacity c.last.text) × IsAt c.tis.now c.numbers c.passed c.place (term_of c.last) × Shares c.shared (walk_in c.tis.now c.passed) };
+}
+
+impl<'a> TermCursor<'a> {
+    /// A walk before the first term of bytes that were read, of which no text is longer.
+    pub(crate) fn new(
+        alloc: Global,
+        tis: &'a [u8],
+        numbers: TermNumbers,
+        longest: usize,
+    ) -> Result<TermCursor<'a>, OutOfMemory>
+        requires { IsRead tis.now numbers longest }
+        ensures { IfOk result (λ cursor. cursor ≡ walk_of (content tis.entry.now)) }
+    {
+        Ok(TermCursor {
+            tis,
+            numbers,
+            place: HEADER_BYTES,
+            passed: 0,
+            shared: 0,
+            last: LastTerm::with_room(alloc, longest)?,
+        })
+    }
+
+    /// The next term, which the walk passes; `None` after the last. Takes no memory.
+    pub fn next(&mut self) -> Option<TermInfo>
+        ensures term { result ≡ option_map (λ t. t.info) (slice_get self.old.dictionary.terms self.old.passed) }
+        ensures passed { self.new ≡ (if is_some result then passed_on self.old else self.old) }
+    {
+        if self.passed == self.numbers.count {
+            return None;
+        }
+        let mut cur = Cur::at(self.tis, self.place);
+        let Ok(entry) = entry_at(&mut cur, false, self.numbers.skip_interval) else {
+            unreachable!();
+        };
+        self.last.advance(&entry);
+        self.shared = entry.prefix as usize;
+        self.place = cur.place();
+        self.passed += 1;
+        Some(self.last.info)
+    }
+
+    /// The text of the last term that was passed, empty before the first, lent from the walk's buffer. Takes no memory.
+    pub fn text(&self) -> &str
+        ensures { result.now ≡ (term_passed self.now).text }
+    {
+        unsafe { str::from_utf8_unchecked(self.last.text.as_slice()) }
+    }
+
+    /// How many bytes the text of the last term takes over from the text before it. Takes no memory.
+    pub fn shared(&self) -> usize
+        ensures { Shares result self.now }
+    {
+        self.shared
+    }
+
+    /// The place in the file where the next term starts, and after the last term the length of the file. Takes no memory.
+    pub fn place(&self) -> u32
+        ensures { result ≡ next_place self.now }
+    {
+        self.place as u32
+    }
+
+    /// Goes back before the first term. Takes no memory.
+    pub fn rewind(&mut self)
+        ensures { self.new ≡ walk_of self.old.dictionary }
+    {
+        self.place = HEADER_BYTES;
+        self.passed = 0;
+        self.shared = 0;
+        self.last.reset();
+    }
+}

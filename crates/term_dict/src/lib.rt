@@ -1,0 +1,21 @@
+//! The terms of a segment: written, checked and walked (format page, "Terms").
+#![tactic(auto)]
+
+mod checking;
+mod cursor;
+mod entry;
+mod file;
+mod heading;
+mod last;
+mod numbers;
+mod order;
+mod spelling;
+mod writer;
+
+pub use cursor::TermCursor;
+pub use entry::{TermEntry, entry_at};
+pub use file::TermFile;
+pub use heading::{FORMAT, Heading, bad_rule, heading_at};
+pub use last::follow;
+pub use lu_types::TermInfo;
+pub use numbers::TermNumbers;

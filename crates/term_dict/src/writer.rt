@@ -1,0 +1,237 @@
+//! A writer of terms and of their index (format page, "Terms" and "Term index").
+ghost use Rattle.std.specs.Prelude.{◌≡◌, ℕ, ◌+◌, ◌-◌, ◌%◌, ◌++◌, ◌<◌, ◌≤◌, ◌^◌, [], ◌∷◌, length, take, OnOk, OnErr, IfOk, vec_len, vec_capacity};
+ghost use Rattle.lu_grammar.specs.Parts.{spelling, vlong as a_vlong};
+ghost use Rattle.term_dict.specs.Canonical.{Point, entry_between, entry_bytes, point_bytes, canonical_tis, canonical_tii};
+ghost use Rattle.term_dict.specs.Entries.{entry_of, IsBounded};
+ghost use Rattle.term_dict.specs.Last.{term_of};
+ghost use Rattle.term_dict.specs.Terms.{last_term};
+ghost use Rattle.term_dict.specs.Writing.{Written, Follows, IsSame, IsEntered, IsPassed, AreIntervals, no_terms_written, with_written, last_point, numbers_written};
+ghost use Rattle.term_dict.specs.Index.{blank};
+
+use crate::cursor::HEADER_BYTES;
+use crate::last::LastTerm;
+use crate::spelling::{entry_between, push_entry};
+use lu_prims::{OutOfMemory, put_vlong};
+use lu_types::TermInfo;
+use std::alloc::Global;
+use std::marker::Model;
+
+/// What entry 0 of the index says: field -1, no document, and both places 0.
+const BLANK: TermInfo = TermInfo {
+    field: u32::MAX,
+    doc_freq: 0,
+    freq: 0,
+    prox: 0,
+    skip: 0,
+};
+
+/// The index that is being written: its bytes, and the term and the place of its last entry.
+#[derive(Drop)]
+pub(crate) struct IndexOutput {
+    pub(crate) bytes: Vec<u8>,
+    pub(crate) point: LastTerm,
+    pub(crate) place: u64,
+}
+
+/// Appends the entry of a term. After an `Err` the bytes are as before.
+fn append_term(
+    out: &mut Vec<u8>,
+    last: &LastTerm,
+    text: &[u8],
+    info: &TermInfo,
+    skip_interval: u32,
+) -> Result<(), OutOfMemory>
+    requires small { length text.now < 2 ^ 31 }
+    requires follows { Follows last.now.info info.now }
+    ensures ok { OnOk result (out.new.items ≡ out.old.items ++ entry_bytes skip_interval (entry_between (term_of last.now) (record { text = text.now; info = info.now })) []) }
+    ensures err { OnErr result (out.new.items ≡ out.old.items) }
+    ensures places { (info.now.freq < 2 ^ 32) × (info.now.prox < 2 ^ 32) }
+{
+    let before = out.len();
+    let entry = entry_between(last, text, info);
+    if push_entry(out, &entry, skip_interval).is_err() {
+        out.truncate(before);
+        return Err(OutOfMemory);
+    }
+    Ok(())
+}
+
+/// Appends the entry of a term, and how far its place is above that of the entry before. After an `Err` the bytes are as
+/// before.
+fn append_point(
+    out: &mut Vec<u8>,
+    last: &LastTerm,
+    text: &[u8],
+    info: &TermInfo,
+    skip_interval: u32,
+    step: u64,
+) -> Result<(), OutOfMemory>
+    requires small { length text.now < 2 ^ 31 }
+    requires follows { Follows last.now.info info.now }
+    requires step { step < 2 ^ 63 }
+    ensures ok { OnOk result (out.new.items ≡ out.old.items ++ entry_bytes skip_interval (entry_between (term_of last.now) (record { text = text.now; info = info.now })) (spelling a_vlong step)) }
+    ensures err { OnErr result (out.new.items ≡ out.old.items) }
+{
+    let before = out.len();
+    append_term(out, last, text, info, skip_interval)?;
+    if put_vlong(out, step).is_err() {
+        out.truncate(before);
+        return Err(OutOfMemory);
+    }
+    Ok(())
+}
+
+impl IndexOutput {
+    /// Adds an entry. After an `Err` it is as before.
+    fn enter(
+        &mut self,
+        text: &[u8],
+        info: &TermInfo,
+        place: u64,
+        skip_interval: u32,
+    ) -> Result<(), OutOfMemory>
+        requires small { length text.now < 2 ^ 31 }
+        requires follows { Follows self.old.point.info info.now }
+        requires above { self.old.place ≤ place }
+        requires place { place < 2 ^ 63 }
+        ensures ok { OnOk result (IsEntered skip_interval self.old self.new (record { term = record { text = text.now; info = info.now }; place = place })) }
+        ensures err { OnErr result (IsSame self.old self.new) }
+    {
+        self.point.make_room(text.len())?;
+        append_point(
+            &mut self.bytes,
+            &self.point,
+            text,
+            info,
+            skip_interval,
+            place - self.place,
+        )?;
+        self.point.set(text, info);
+        self.place = place;
+        Ok(())
+    }
+
+    /// Adds an entry where an interval of terms begins with the term of this number, after the last one. After an `Err` it is
+    /// as before.
+    fn pass(
+        &mut self,
+        number: u64,
+        index_interval: u32,
+        last: &LastTerm,
+        place: u64,
+        skip_interval: u32,
+    ) -> Result<(), OutOfMemory>
+        requires interval { 1 ≤ index_interval }
+        requires small { length last.now.text.items < 2 ^ 31 }
+        requires first { number ≡ 0 → Follows self.old.point.info blank.info }
+        requires later { Follows self.old.point.info last.now.info }
+        requires above { self.old.place ≤ place }
+        requires place { place < 2 ^ 63 }
+        ensures ok { OnOk result (IsPassed number index_interval skip_interval self.old self.new (term_of last.now) place) }
+        ensures err { OnErr result (IsSame self.old self.new) }
+    {
+        if number % u64::from(index_interval) != 0 {
+            return Ok(());
+        }
+        if number == 0 {
+            return self.enter(last.text.as_slice(), &BLANK, place, skip_interval);
+        }
+        self.enter(last.text.as_slice(), &last.info, place, skip_interval)
+    }
+}
+
+/// A writer of the terms of a segment and of their index. Contracts see the intervals, the number of levels, and the terms
+/// that it was handed.
+#[derive(Drop)]
+pub struct TermWriter {
+    index_interval: u32,
+    skip_interval: u32,
+    max_levels: u32,
+    count: u64,
+    tis: Vec<u8>,
+    last: LastTerm,
+    index: IndexOutput,
+}
+
+impl Model for TermWriter {
+    ghost use Rattle.term_dict.specs.Last.{term_of};
+    ghost use Rattle.term_dict.specs.Writing.{Written, IsWritten, written_in, last_point};
+
+    ghost Value = { Written };
+
+    ghost view = { λ w. written_in w.index_interval w.skip_interval w.max_levels w.count w.tis.items };
+
+    ghost invariant = { λ w. IsWritten (written_in w.index_interval w.skip_interval w.max_levels w.count w.tis.items) w.tis.items (term_of w.last) w.index.bytes.items (last_point w.index) w.count };
+}
+
+/// Room for a header, which is written when the terms are counted.
+const NO_HEADER: [u8; HEADER_BYTES] = [0; HEADER_BYTES];
+
+impl TermWriter {
+    /// A writer of no terms yet. The index has one term for each interval of so many, and skip data start from a number of
+    /// documents on and have at most so many levels.
+    pub fn new(
+        alloc: Global,
+        index_interval: u32,
+        skip_interval: u32,
+        max_levels: u32,
+    ) -> Result<TermWriter, OutOfMemory>
+        requires { AreIntervals (no_terms_written index_interval skip_interval max_levels) }
+        ensures { IfOk result (λ writer. writer ≡ no_terms_written index_interval skip_interval max_levels) }
+    {
+        let mut tis = Vec::new(alloc);
+        tis.extend_from_slice(&NO_HEADER)?;
+        let mut bytes = Vec::new(alloc);
+        bytes.extend_from_slice(&NO_HEADER)?;
+        Ok(TermWriter {
+            index_interval,
+            skip_interval,
+            max_levels,
+            count: 0,
+            tis,
+            last: LastTerm::new(alloc),
+            index: IndexOutput {
+                bytes,
+                point: LastTerm::new(alloc),
+                place: 0,
+            },
+        })
+    }
+
+    /// Adds a term after the last one. That the terms rise is the caller's matter. After an `Err` the writer is as before.
+    pub fn add(&mut self, text: &str, info: &TermInfo) -> Result<(), OutOfMemory>
+        requires small { length text.now < 2 ^ 31 }
+        requires field { info.now.field < 2 ^ 31 }
+        requires follows { Follows (last_term self.old.terms).info info.now }
+        requires no_skip { info.now.doc_freq < self.old.skip_interval → info.now.skip ≡ 0 }
+        ensures ok { OnOk result (self.new ≡ with_written self.old (record { text = text.now; info = info.now })) }
+        ensures err { OnErr result (self.new ≡ self.old) }
+    {
+        let place = self.tis.len();
+        append_term(
+            &mut self.tis,
+            &self.last,
+            text.as_bytes(),
+            info,
+            self.skip_interval,
+        )?;
+        if self.last.make_room(text.len()).is_err() {
+            self.tis.truncate(place);
+            return Err(OutOfMemory);
+        }
+        let passed = self.index.pass(
+            self.count,
+            self.index_interval,
+            &self.last,
+            place as u64,
+            self.skip_interval,
+        );
+        if let Err(error) = passed {
+            self.tis.truncate(place);
+            return Err(error);
+        }
+        self.last.set(text.as_bytes(), info);
+        self.count += 1;
+        Ok(())
+    }
+}

@@ -1,0 +1,5 @@
+pub mod EntryLemmas
+pub mod PassLemmas
+pub mod PointLemmas
+pub mod PointLoop
+pub mod SeekLemmas

@@ -1,0 +1,10 @@
+//! The sparse index of the terms of a segment: checked beside the terms, and searched (format page, "Term index").
+#![tactic(auto)]
+
+mod checking;
+mod index;
+mod point;
+mod walk;
+
+pub use checking::check_tii;
+pub use index::TermIndex;

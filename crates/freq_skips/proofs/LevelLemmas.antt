@@ -34,7 +34,7 @@ kind_at t postings l start count last here h =
     ∙ ap (λ (p : Point). datum_at t l (wanted t postings l (suc count)) start.place p here) h.last_is
 
 -- one datum more starts the level only where it is the first
-level_start-push : (points : List Point) (p : Point) (place : ℕ) → level_start (points ++ p ∷ []) place ≡ level_start points p.place
+pub level_start-push : (points : List Point) (p : Point) (place : ℕ) → level_start (points ++ p ∷ []) place ≡ level_start points p.place
 level_start-push [] p place = refl
 level_start-push (q ∷ qs) p place = refl
 

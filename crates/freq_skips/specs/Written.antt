@@ -1,10 +1,10 @@
 -- The one canonical spelling of entries and skip data.
-use Rattle.std.specs.Prelude.{◌≡◌, ◌⊎◌, ◌<◌, ◌≤◌, ◌^◌, ℕ, zero, suc, ◌+◌, ◌-◌, ◌*◌, ◌/◌, ◌%◌, Bool, List, [], ◌∷◌, ◌++◌, length, take, Option, Some, None, ◌==◌, if◌then◌else◌, slice_index_or, slice_index}
+use Rattle.std.specs.Prelude.{◌≡◌, ◌⊎◌, ◌<◌, ◌≤◌, ◌^◌, ℕ, zero, suc, ◌+◌, ◌-◌, ◌*◌, ◌/◌, ◌%◌, Bool, false, List, [], ◌∷◌, ◌++◌, length, take, Option, Some, None, ◌==◌, if◌then◌else◌, slice_index_or, slice_index}
 use Rattle.lu_grammar.specs.Parts.{Part, Value, vint, num, vlong, spelling}
 use Rattle.freq_skips.specs.declared.datum.Skip.{Skip}
 use Rattle.freq_skips.specs.declared.writer.Mark.{Mark}
 use Rattle.freq_skips.specs.Records.{length_to_child}
-use Rattle.freq_skips.specs.Levels.{greatest_power}
+use Rattle.freq_skips.specs.Entries.{Posting}
 
 -- a number that may be there
 abbrev pub optional_bytes : (p : Part) → Option (Value p) → List ℕ
@@ -132,3 +132,13 @@ AreSmallPlaces places = (k : ℕ) → slice_index places k < 2 ^ 63
 
 abbrev pub rise_of : Bool → List Mark → ℕ → ℕ → ℕ → List ℕ → Rise
 rise_of payloads marks interval number step children = record { payloads = payloads; marks = marks; interval = interval; number = number; step = step; children = children }
+
+-- the postings of entries that start at a place, after a document
+abbrev pub written_postings : Bool → ℕ → ℕ → List Handed → List Posting
+written_postings omit place last [] = []
+written_postings omit place last (h ∷ hs) = (record { doc = h.doc; freq = if omit then 1 else h.freq; before = last; place = place }) ∷ written_postings omit (place + length (entry_bytes omit last h)) h.doc hs
+
+-- entries that may be handed over in a segment with so many documents: each document is above the one before, but for the first
+abbrev pub AreInOrder : ℕ → Bool → ℕ → List Handed → Type 0
+AreInOrder documents first last [] = Unit {0}
+AreInOrder documents first last (h ∷ hs) = (last + (if first then 0 else 1) ≤ h.doc) × (h.doc < documents) × (h.doc < 2 ^ 31) × (1 ≤ h.freq) × (h.freq < 2 ^ 31) × AreInOrder documents false h.doc hs

@@ -149,3 +149,7 @@ AreWithin-same marks size more h le k lt = let old = h k lt in (old.0, omega (ar
 pub order-more : (count doc n d next : ℕ) → (count ≡ 0) ⊎ (doc < next) → n ≡ count → d ≡ doc → n ≤ d + 1 → n + 1 ≤ next + 1
 order-more count doc n d next (inl e) a b le = omega arith
 order-more count doc n d next (inr lt) a b le = omega arith
+
+pub data_bytes-more : (r : Rise) (m : ℕ) → data_bytes r (suc m) ≡ data_bytes r m ++ datum_bytes (written_skip r m)
+unfolding data_bytes
+data_bytes-more r m = refl

@@ -18,7 +18,7 @@ use Rattle.freq_skips.specs.Entries.{Posting}
 use Rattle.freq_skips.specs.Levels.{Along, no_datum, no_point, Level, level_of, level_start, wanted, child_above, length_at, is_first_datum, differs, skipped, number_or, datum_conditions, point_of, with_point, datum_kind, posting_at, data_count}
 use Rattle.freq_skips.specs.Written.{optional_bytes, skip_between, front_bytes, datum_bytes, Rise, mark_after, child_after, written_skip, data_bytes, rise_count}
 use Rattle.freq_skips.proofs.LevelLemmas.{level_start-push}
-use Rattle.freq_skips.proofs.WriterLemmas.{data_bytes-none}
+use Rattle.freq_skips.proofs.WriterLemmas.{data_bytes-none, data_bytes-more}
 use Rattle.freq_skips.proofs.WrittenEntries.{Stated, Spells-optional, not-same, and-false, even, half-even}
 
 -- how many bytes a datum takes
@@ -153,3 +153,67 @@ datum-kept t ps r above stated base m h lt =
       (and-false t.rules.omit_tf (not (d.prox == 0)) (λ e. not-same d.prox 0 (omega (arith, h.omit m lt e))))
       (ap (λ (n : ℕ). differs w.child n) (omega (arith, front_bytes-length d)) ∙ h.child m lt)
       (ap (λ (n : ℕ). differs w.size n) (omega (arith, datum_bytes-length d, data_bytes-size r m)) ∙ h.size m lt)
+
+-- the numbers of a datum that is written can be told
+skip-told : (t : Term) (ps : List Posting) (r : Rise) (above : List (List Point)) (stated : Option ℕ) (base m : ℕ) → Rises t ps r above stated base → m < rise_count r → IsTold t r.number (written_skip r m)
+skip-told t ps r above stated base m h lt =
+    let a = mark_after r m in
+    let b = mark_after r (suc m) in
+    let small = h.small m lt in
+    record {
+      doc = doubled r.payloads (b.doc - a.doc) (omega (arith, small.0));
+      payload = even-told t r.payloads (b.doc - a.doc) h.payloads;
+      freq = omega (arith, small.1);
+      prox = omega (arith, small.2);
+      child = h.child_small m lt;
+    }
+  where
+    doubled : (p : Bool) (n : ℕ) → n < 2 ^ 31 → (if p then 2 * n else n) < 2 ^ 32
+    doubled true n lt = omega arith
+    doubled false n lt = omega arith
+    even-told : (t : Term) (p : Bool) (n : ℕ) → p ≡ t.rules.payloads → Stated num (states_payload t (if p then 2 * n else n)) None
+    even-told t true n e = let test : states_payload t (2 * n) ≡ false = rw (sym e, even n) refl in rw test tt
+    even-told t false n e = let test : states_payload t n ≡ false = rw (sym e) refl in rw test tt
+
+abbrev made_point : ℕ → ℕ → ℕ → ℕ → ℕ → ℕ → Point
+made_point doc freq prox payload child place = record { doc = doc; freq = freq; prox = prox; payload = payload; child = child; place = place }
+
+-- where it leads
+point-is-written : (t : Term) (ps : List Posting) (r : Rise) (above : List (List Point)) (stated : Option ℕ) (base m : ℕ) → Rises t ps r above stated base → m < rise_count r
+    → point_of t (last_point r base m) (base + length (data_bytes r m)) (datum (written_skip r m)) ≡ written_point r base m
+point-is-written t ps r above stated base m h lt =
+    let last = last-is r base m in
+    let up = h.up m lt in
+    let a = mark_after r m in
+    let b = mark_after r (suc m) in
+    let p = last_point r base m in
+    let d = written_skip r m in
+    let place = base + length (data_bytes r m) in
+    let child = number_or 0 (child_after r m) in
+    let skip = skipped-is t r.payloads (b.doc - a.doc) h.payloads in
+    let doc : p.doc + skipped t d.doc ≡ b.doc = omega (arith, last.0, skip, up.0) in
+    let freq : p.freq + d.freq ≡ b.freq = omega (arith, last.1, up.1) in
+    let prox : p.prox + d.prox ≡ b.prox = omega (arith, last.2, up.2) in
+    ap (λ (x : ℕ). made_point x (p.freq + d.freq) (p.prox + d.prox) p.payload child place) doc ∙ ap (λ (x : ℕ). made_point b.doc x (p.prox + d.prox) p.payload child place) freq
+    ∙ ap (λ (x : ℕ). made_point b.doc b.freq x p.payload child place) prox ∙ ap (λ (x : ℕ). made_point b.doc b.freq b.prox x child place) last.3
+
+-- so many data are written
+pub Writes-data : (t : Term) (ps : List Posting) (r : Rise) (above : List (List Point)) (stated : Option ℕ) (base m : ℕ) → Rises t ps r above stated base → m ≤ rise_count r
+    → Writes (times (datum_kind t ps (level_of r.number stated above)) m no_datum) base (data_bytes r m) (written_along r base m)
+Writes-data t ps r above stated base zero h le =
+    subst (λ (b : List ℕ). Writes (times (datum_kind t ps (level_of r.number stated above)) 0 no_datum) base b no_datum) (sym (data_bytes-none r)) (Writes-none (one (datum_kind t ps (level_of r.number stated above))) base no_datum)
+Writes-data t ps r above stated base (suc m) h le =
+    let l = level_of r.number stated above in
+    let kind = datum_kind t ps l in
+    let lt : m < rise_count r = omega arith in
+    let d = written_skip r m in
+    let place = base + length (data_bytes r m) in
+    let s = written_along r base m in
+    let kept = ap (λ (n : ℕ). first_broken (datum_conditions t (wanted t ps l (suc n)) (level_start s.points place) s.last place (datum d))) (written_points-length r base m)
+        ∙ ap (λ (n : ℕ). first_broken (datum_conditions t (wanted t ps l (suc m)) n s.last place (datum d))) (points-begin r base m)
+        ∙ datum-kept t ps r above stated base m h lt in
+    let more = Writes-record kind no_datum base m (data_bytes r m) s (datum d) (datum_bytes d) (Writes-data t ps r above stated base m h (omega arith)) (Spells-datum t r.number d (skip-told t ps r above stated base m h lt)) kept in
+    let after : with_point s (point_of t s.last place (datum d)) ≡ written_along r base (suc m) = ap (λ (p : Point). with_point s p) (point-is-written t ps r above stated base m h lt) in
+    subst (λ (n : ℕ). Writes (times kind n no_datum) base (data_bytes r (suc m)) (written_along r base (suc m))) (add-one m)
+      (subst (λ (b : List ℕ). Writes (times kind (m + 1) no_datum) base b (written_along r base (suc m))) (sym (data_bytes-more r m))
+        (subst (λ (w : Along). Writes (times kind (m + 1) no_datum) base (data_bytes r m ++ datum_bytes d) w) after more))

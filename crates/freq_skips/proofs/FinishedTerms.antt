@@ -3,19 +3,29 @@ use Rattle.std.proofs.Common.{◌≡◌, ◌≢◌, ℕ, zero, suc, add-one, ◌
 use Rattle.std.specs.Prelude.{◌==◌, if◌then◌else◌, slice_index, slice_index_or}
 use Rattle.std.proofs.lemmas.Bool.{cases_eq, cases_lt, eq-eqb, ne_eqb}
 use Rattle.std.proofs.lemmas.List.{length-append, append-nil}
-use Rattle.std.proofs.Math.Nat.{div-div-eq-div-mul, div-mul-le_self, mul-le-mul_right, mul-le-mul_left, mul_assoc, mul_comm, pow-suc}
+use Rattle.std.proofs.Math.Nat.{div-div-eq-div-mul, div-mul-le_self, mul-le-mul_right, mul-le-mul_left, mul_assoc, mul_comm, pow-suc, pow-zero}
 use Rattle.freq_skips.specs.declared.rules.Term.{Term}
 use Rattle.freq_skips.specs.declared.datum.Point.{Point}
 use Rattle.freq_skips.specs.declared.writer.Mark.{Mark}
-use Rattle.freq_skips.specs.Entries.{Posting, no_posting}
-use Rattle.freq_skips.specs.Levels.{stride, data_count, posting_at}
-use Rattle.freq_skips.specs.Written.{Handed, no_handed, no_mark, optional_bytes, entry_bytes, entries_bytes, last_doc, mark_of, written_postings, AreInOrder, Rise, mark_after, data_bytes, places_after, rise_count, risen, with_length, skip_bytes, front_bytes, written_skip}
-use Rattle.freq_skips.specs.Writing.{IsRisingProx}
+use Rattle.freq_skips.specs.Entries.{Posting, no_posting, no_entry, entries}
+use Rattle.freq_skips.specs.Levels.{greatest_power, level_count, levels, stride, data_count, posting_at, no_point}
+use Rattle.freq_skips.specs.Written.{Handed, no_handed, no_mark, optional_bytes, entry_bytes, entries_bytes, last_doc, mark_of, written_postings, AreInOrder, Rise, mark_after, data_bytes, places_after, rise_count, risen, lowest, with_length, skip_bytes, front_bytes, written_skip}
+use Rattle.freq_skips.specs.Writing.{WriterState, levels_due, finished, IsRisingProx, term_written, IsFinishable, IsWriting, LeadsTo, IsAsHanded}
+use Rattle.freq_skips.specs.Terms.{TermData, term_plan, place_in}
+use Rattle.freq_skips.specs.Records.{Record}
+use Rattle.lu_grammar.specs.Plans.{done}
+use Rattle.freq_skips.proofs.TermLemmas.{levels_after}
+use Rattle.freq_skips.proofs.WrittenEntries.{passed_with, Writes-entries}
+use Rattle.lu_grammar.specs.Plans.{read_plan}
+use Rattle.lu_grammar.proofs.Plans.{ok_of}
+use Rattle.lu_grammar.proofs.Records.{at}
+use Rattle.lu_grammar.proofs.Writers.{Writes, Writes-done, Writes-and_then}
+use Rattle.freq_skips.proofs.LevelsLemmas.{levels-none}
 use Rattle.lu_grammar.specs.Parts.{vlong, spelling}
 use Rattle.freq_skips.proofs.Powers.{stride-two}
-use Rattle.freq_skips.proofs.WriterLemmas.{data_bytes-more, skip_bytes-next}
-use Rattle.freq_skips.proofs.WrittenLevels.{IsUpTo}
-use Rattle.freq_skips.proofs.WrittenTerms.{Leads, AllLead}
+use Rattle.freq_skips.proofs.WriterLemmas.{data_bytes-more, skip_bytes-none, skip_bytes-next}
+use Rattle.freq_skips.proofs.WrittenLevels.{IsUpTo, written_point, written_points}
+use Rattle.freq_skips.proofs.WrittenTerms.{Leads, AllLead, base_for, found_points, levels-written, written_points-at}
 
 -- ---- what marks and postings have in common
 
@@ -214,3 +224,125 @@ AllLead-rise t handed (suc k) r o h small =
     let more = with_length-more r.number bytes in
     let own : length bytes < 2 ^ 63 = omega arith in
     (Leads-rise t handed r o h own, AllLead-rise t handed k (risen r) o (IsRise-risen t handed r o h own) (omega arith))
+
+-- ---- the whole term
+
+HandedOver-finishable : (w : WriterState) (written : List ℕ) (handed : List Handed) (documents field prox skip : ℕ) → IsFinishable w written handed documents skip → IsHandedOver (term_written w written handed documents field prox skip) handed
+HandedOver-finishable w written handed documents field prox skip f = record {
+  two = f.interval;
+  doc_freq = refl;
+  order = f.order;
+  prox = f.prox;
+  small = omega (arith, f.small, ap length f.writing.bytes, length-append written (entries_bytes w.omit 0 handed));
+}
+
+Rise-lowest : (w : WriterState) (written : List ℕ) (handed : List Handed) (documents field prox skip : ℕ) → IsFinishable w written handed documents skip
+    → IsRise (term_written w written handed documents field prox skip) handed (lowest w.payloads w.marks w.interval)
+Rise-lowest w written handed documents field prox skip f = record {
+  interval = refl;
+  payloads = refl;
+  step = ap (λ (x : ℕ). x * w.interval) (sym (pow-zero w.interval)) ∙ sym (pow-suc w.interval 0);
+  step_pos = omega arith;
+  mark_count = f.writing.mark_count ∙ ap (λ (n : ℕ). n / w.interval) f.writing.count;
+  marks = f.writing.marks;
+  children_small = λ m. omega arith;
+}
+
+abbrev no_levels : List (List Point)
+no_levels = []
+
+-- its skip data
+Writes-levels : (w : WriterState) (written : List ℕ) (handed : List Handed) (documents field prox skip : ℕ) → IsFinishable w written handed documents skip
+    → Writes (levels (term_written w written handed documents field prox skip) (written_postings w.omit (length written) 0 handed) (level_count (term_written w written handed documents field prox skip)) []) (length written + length (entries_bytes w.omit 0 handed))
+        (skip_bytes (levels_due w) (lowest w.payloads w.marks w.interval)) (found_points (levels_due w) (lowest w.payloads w.marks w.interval) (length written + length (entries_bytes w.omit 0 handed)))
+Writes-levels w written handed documents field prox skip f =
+    let t = term_written w written handed documents field prox skip in
+    let ps = written_postings w.omit (length written) 0 handed in
+    let r = lowest w.payloads w.marks w.interval in
+    let place = length written + length (entries_bytes w.omit 0 handed) in
+    let due : level_count t ≡ levels_due w = ap (λ (n : ℕ). greatest_power w.interval n w.most) (sym f.writing.count) in
+    elim (cases_eq (levels_due w) 0) [
+      | inl e ↦
+          let none : Writes (levels t ps (level_count t) []) place (skip_bytes 0 r) no_levels = record {
+            reads = λ rest. ap (λ (b : List ℕ). read_plan (levels t ps (level_count t) []) (at place (b ++ rest))) (skip_bytes-none r 0 refl) ∙ levels-none t ps (level_count t) [] (at place rest) (due ∙ e)
+                ∙ ap (λ (n : ℕ). ok_of (no_levels, at n rest)) (let z : place ≡ place + length (skip_bytes 0 r) = omega (arith, ap length (skip_bytes-none r 0 refl)) in z);
+          } in
+          subst (λ (k : ℕ). Writes (levels t ps (level_count t) []) place (skip_bytes k r) (found_points k r place)) (sym e) none
+      | inr ne ↦
+          let start : place ≡ length written + skip = omega (arith, f.skip_is ne, f.writing.start, ap length f.writing.bytes, length-append written (entries_bytes w.omit 0 handed)) in
+          let all = AllLead-rise t handed (levels_due w) r (HandedOver-finishable w written handed documents field prox skip f) (Rise-lowest w written handed documents field prox skip f) f.skips_small in
+          record {
+            reads = λ rest. ap (λ (n : ℕ). read_plan (levels t ps n []) (at place (skip_bytes (levels_due w) r ++ rest))) (due ∙ (let z : levels_due w ≡ levels_due w + 0 = omega arith in z))
+                ∙ levels-written t ps (levels_due w) r place rest f.interval start all
+                ∙ levels-none t ps 0 (found_points (levels_due w) r place) (at (place + length (skip_bytes (levels_due w) r)) rest) refl;
+          }
+    ]
+
+-- the value of the term
+abbrev pub value_written : WriterState → List ℕ → List Handed → TermData
+value_written w written handed = record {
+  postings = written_postings w.omit (length written) 0 handed;
+  levels = found_points (levels_due w) (lowest w.payloads w.marks w.interval) (length written + length (entries_bytes w.omit 0 handed));
+}
+
+abbrev data_made : List Posting → List (List Point) → TermData
+data_made postings points = record { postings = postings; levels = points }
+
+Writes-term : (w : WriterState) (written : List ℕ) (handed : List Handed) (documents field prox skip : ℕ) → IsFinishable w written handed documents skip
+    → Writes (term_plan (term_written w written handed documents field prox skip)) (length written) (entries_bytes w.omit 0 handed ++ skip_bytes (levels_due w) (lowest w.payloads w.marks w.interval)) (value_written w written handed)
+Writes-term w written handed documents field prox skip f =
+    let t = term_written w written handed documents field prox skip in
+    let ps = written_postings w.omit (length written) 0 handed in
+    let entry_part = entries_bytes w.omit 0 handed in
+    let skip_part = skip_bytes (levels_due w) (lowest w.payloads w.marks w.interval) in
+    let found = found_points (levels_due w) (lowest w.payloads w.marks w.interval) (length written + length entry_part) in
+    let first = Writes-entries t handed no_entry (length written) f.order (λ e. refl) in
+    let nothing : Writes {R = Record} (done (data_made ps found)) (length written + length entry_part + length skip_part) [] (data_made ps found) = Writes-done (length written + length entry_part + length skip_part) (data_made ps found) in
+    let second = subst (λ (b : List ℕ). Writes (levels_after t ps) (length written + length entry_part) b (data_made ps found)) (append-nil skip_part)
+        (Writes-and_then (levels t ps (level_count t) []) (λ points. done (data_made ps points)) (length written + length entry_part) skip_part [] found (data_made ps found) (Writes-levels w written handed documents field prox skip f) nothing) in
+    Writes-and_then (entries t) (λ s. levels_after t s.postings) (length written) entry_part skip_part (passed_with (last_doc 0 handed) ps) (data_made ps found) first second
+
+-- ---- where its data lead
+
+found-at : (k : ℕ) (r : Rise) (place n : ℕ) → n < k → (base : ℕ) × (other : Rise) × (other.number ≡ r.number + n) × (get_or (found_points k r place) n [] ≡ written_points other base (rise_count other)) × ((t : Term) (handed : List Handed) → IsHandedOver t handed → IsRise t handed r → length (skip_bytes k r) < 2 ^ 63 → IsRise t handed other)
+found-at zero r place n lt = absurd (omega arith)
+found-at (suc k) r place zero lt = (base_for r.number (place + length (skip_bytes k (risen r))) (data_bytes r (rise_count r)), r, omega arith, refl, λ t handed o h small. h)
+found-at (suc k) r place (suc n) lt = go (found-at k (risen r) place n (omega arith))
+  where
+    go : ((base : ℕ) × (other : Rise) × (other.number ≡ suc r.number + n) × (get_or (found_points k (risen r) place) n [] ≡ written_points other base (rise_count other)) × ((t : Term) (handed : List Handed) → IsHandedOver t handed → IsRise t handed (risen r) → length (skip_bytes k (risen r)) < 2 ^ 63 → IsRise t handed other))
+        → (base : ℕ) × (other : Rise) × (other.number ≡ r.number + suc n) × (get_or (found_points (suc k) r place) (suc n) [] ≡ written_points other base (rise_count other)) × ((t : Term) (handed : List Handed) → IsHandedOver t handed → IsRise t handed r → length (skip_bytes (suc k) r) < 2 ^ 63 → IsRise t handed other)
+    go (base, other, number, is, rise) = (base, other, omega arith, is, λ t handed o h small.
+        let bytes = data_bytes r (rise_count r) in
+        let size = ap length (skip_bytes-next r k (suc k) refl) ∙ length-append (skip_bytes k (risen r)) (with_length r.number bytes) in
+        let more = with_length-more r.number bytes in
+        let own : length bytes < 2 ^ 63 = omega arith in
+        rise t handed o (IsRise-risen t handed r o h own) (omega arith))
+
+mark-leads : (r : Rise) (base m : ℕ) (k : Mark) → mark_after r (suc m) ≡ k → LeadsTo (written_point r base m) k
+mark-leads r base m k is = (ap (λ (x : Mark). x.doc) is, ap (λ (x : Mark). x.freq) is, ap (λ (x : Mark). x.prox) is, refl)
+
+leads-at : (t : Term) (handed : List Handed) (k : ℕ) (r : Rise) (place n m : ℕ) → IsHandedOver t handed → IsRise t handed r → length (skip_bytes k r) < 2 ^ 63 → n < k → r.number ≡ 0 → m < data_count t n
+    → LeadsTo (slice_index_or (slice_index_or (found_points k r place) n []) m no_point) (mark_of t.rules.omit_tf handed (suc m * stride t n - 1))
+leads-at t handed k r place n m o h small below zero_is lt = go (found-at k r place n below)
+  where
+    go : ((base : ℕ) × (other : Rise) × (other.number ≡ r.number + n) × (get_or (found_points k r place) n [] ≡ written_points other base (rise_count other)) × ((t : Term) (handed : List Handed) → IsHandedOver t handed → IsRise t handed r → length (skip_bytes k r) < 2 ^ 63 → IsRise t handed other))
+        → LeadsTo (slice_index_or (slice_index_or (found_points k r place) n []) m no_point) (mark_of t.rules.omit_tf handed (suc m * stride t n - 1))
+    go (base, other, number, is, rise) =
+        let own = rise t handed o h small in
+        let level : other.number ≡ n = omega arith in
+        let within : m < rise_count other = subst (λ (c : ℕ). m < c) (sym (rise-count t handed other o own ∙ ap (λ (l : ℕ). data_count t l) level)) lt in
+        let point = ap (λ (ps : List Point). slice_index_or ps m no_point) is ∙ written_points-at other base (rise_count other) m within in
+        subst (λ (p : Point). LeadsTo p (mark_of t.rules.omit_tf handed (suc m * stride t n - 1))) (sym point)
+          (mark-leads other base m _ (mark-at t handed other m own within ∙ ap (λ (l : ℕ). mark_of t.rules.omit_tf handed (suc m * stride t l - 1)) level))
+
+IsAsHanded-written : (w : WriterState) (written : List ℕ) (handed : List Handed) (documents field prox skip : ℕ) → IsFinishable w written handed documents skip
+    → IsAsHanded (term_written w written handed documents field prox skip) handed (value_written w written handed)
+IsAsHanded-written w written handed documents field prox skip f = record {
+  postings = refl;
+  leads = λ n m below lt.
+      let t = term_written w written handed documents field prox skip in
+      let r = lowest w.payloads w.marks w.interval in
+      let place = length written + length (entries_bytes w.omit 0 handed) in
+      let due : level_count t ≡ levels_due w = ap (λ (n : ℕ). greatest_power w.interval n w.most) (sym f.writing.count) in
+      leads-at t handed (levels_due w) r place n m (HandedOver-finishable w written handed documents field prox skip f) (Rise-lowest w written handed documents field prox skip f) f.skips_small (subst (λ (k : ℕ). n < k) due below) refl lt;
+}

@@ -2,8 +2,10 @@
 use Rattle.std.specs.Prelude.{◌≡◌, ◌≢◌, ◌^◌, true, ◌<◌, ◌≤◌, ℕ, suc, ◌+◌, ◌-◌, ◌*◌, ◌/◌, ◌%◌, Bool, List, [], ◌∷◌, ◌++◌, length, ◌==◌, if◌then◌else◌, slice_index_or}
 use Rattle.freq_skips.specs.declared.rules.Term.{Term}
 use Rattle.freq_skips.specs.declared.writer.Mark.{Mark}
-use Rattle.freq_skips.specs.Levels.{greatest_power}
-use Rattle.freq_skips.specs.Written.{Handed, no_handed, AreInOrder, canonical_parts, entry_parts_bytes, entries_bytes, last_doc, mark_of, no_mark, lowest, skip_bytes}
+use Rattle.freq_skips.specs.declared.datum.Point.{Point}
+use Rattle.freq_skips.specs.Levels.{greatest_power, level_count, stride, data_count, no_point}
+use Rattle.freq_skips.specs.Terms.{TermData}
+use Rattle.freq_skips.specs.Written.{Handed, no_handed, AreInOrder, canonical_parts, entry_parts_bytes, entries_bytes, last_doc, written_postings, mark_of, no_mark, lowest, skip_bytes}
 
 -- a writer: the interval and the most levels; the bytes of the file so far; of the term that is begun whether its field has no frequencies, whether it has payloads, and where it starts;
 -- how many entries it has, the document of the last, and the marks of its lowest level
@@ -87,3 +89,12 @@ pub record IsFinishable (w : WriterState) (written : List ℕ) (handed : List Ha
   pub small : length w.bytes < 2 ^ 31
   pub skips_small : length (skip_bytes (levels_due w) (lowest w.payloads w.marks w.interval)) < 2 ^ 63
   pub skip_is : levels_due w ≢ 0 → skip ≡ length w.bytes - w.start
+
+-- a datum leads where a mark does, and no payload length is carried there
+abbrev pub LeadsTo : Point → Mark → Type 0
+LeadsTo p k = (p.doc ≡ k.doc) × (p.freq ≡ k.freq) × (p.prox ≡ k.prox) × (p.payload ≡ 0)
+
+-- what a term's bytes stand for is what was handed over: these postings, and on each level, for each datum, the mark of the entry that it belongs to
+pub record IsAsHanded (t : Term) (handed : List Handed) (value : TermData) : Type 0 where
+  pub postings : value.postings ≡ written_postings t.rules.omit_tf t.info.freq 0 handed
+  pub leads : (n m : ℕ) → n < level_count t → m < data_count t n → LeadsTo (slice_index_or (slice_index_or value.levels n []) m no_point) (mark_of t.rules.omit_tf handed (suc m * stride t n - 1))

@@ -1,5 +1,5 @@
 -- A term that a writer finishes is good.
-use Rattle.std.proofs.Common.{◌≡◌, ◌≢◌, ℕ, zero, suc, add-one, ◌+◌, ◌-◌, ◌*◌, ◌/◌, ◌%◌, ◌^◌, ◌<◌, ◌≤◌, eqb, Bool, true, false, List, [], ◌∷◌, ◌++◌, length, take, get_or, Result, Ok, inl, inr, refl, sym, ap, subst, ◌∙◌, append_assoc, arith}
+use Rattle.std.proofs.Common.{◌≡◌, ◌≢◌, ℕ, zero, suc, add-one, ◌+◌, ◌-◌, ◌*◌, ◌/◌, ◌%◌, ◌^◌, ◌<◌, ◌≤◌, eqb, Bool, true, false, List, [], ◌∷◌, ◌++◌, length, take, drop, get_or, Result, Ok, inl, inr, refl, sym, ap, subst, ◌∙◌, append_assoc, arith}
 use Rattle.std.specs.Prelude.{◌==◌, if◌then◌else◌, slice_index, slice_index_or}
 use Rattle.std.proofs.lemmas.Bool.{cases_eq, cases_lt, eq-eqb, ne_eqb}
 use Rattle.std.proofs.lemmas.List.{length-append, append-nil}
@@ -17,7 +17,11 @@ use Rattle.lu_grammar.specs.Plans.{done}
 use Rattle.freq_skips.proofs.TermLemmas.{levels_after}
 use Rattle.freq_skips.proofs.WrittenEntries.{passed_with, Writes-entries}
 use Rattle.lu_grammar.specs.Plans.{read_plan}
-use Rattle.lu_grammar.proofs.Plans.{ok_of}
+use Rattle.std.proofs.Math.Seq.{drop-append_seam}
+use Rattle.lu_grammar.specs.Bytes.{IsBytes}
+use Rattle.lu_grammar.specs.Meaning.{ReadsTo}
+use Rattle.lu_grammar.proofs.Parts.{IsBytes-drop}
+use Rattle.lu_grammar.proofs.Plans.{ok_of, reads-read_plan}
 use Rattle.lu_grammar.proofs.Records.{at}
 use Rattle.lu_grammar.proofs.Writers.{Writes, Writes-done, Writes-and_then}
 use Rattle.freq_skips.proofs.LevelsLemmas.{levels-none}
@@ -346,3 +350,30 @@ IsAsHanded-written w written handed documents field prox skip f = record {
       let due : level_count t ≡ levels_due w = ap (λ (n : ℕ). greatest_power w.interval n w.most) (sym f.writing.count) in
       leads-at t handed (levels_due w) r place n m (HandedOver-finishable w written handed documents field prox skip f) (Rise-lowest w written handed documents field prox skip f) f.skips_small (subst (λ (k : ℕ). n < k) due below) refl lt;
 }
+
+-- ---- in the file
+
+-- the file after the term, around its own bytes
+file-is : (w : WriterState) (written : List ℕ) (handed : List Handed) (frq rest : List ℕ) → IsWriting w written handed → frq ≡ (finished w).bytes ++ rest
+    → frq ≡ written ++ ((entries_bytes w.omit 0 handed ++ skip_bytes (levels_due w) (lowest w.payloads w.marks w.interval)) ++ rest)
+file-is w written handed frq rest i e =
+    let entry_part = entries_bytes w.omit 0 handed in
+    let skip_part = skip_bytes (levels_due w) (lowest w.payloads w.marks w.interval) in
+    e ∙ ap (λ (b : List ℕ). b ++ skip_part ++ rest) i.bytes ∙ ap (λ (b : List ℕ). b ++ rest) (append_assoc written entry_part skip_part) ∙ append_assoc written (entry_part ++ skip_part) rest
+
+pub ReadsTo-finished : (w : WriterState) (written : List ℕ) (handed : List Handed) (documents field prox skip : ℕ) (frq rest : List ℕ) → IsFinishable w written handed documents skip → frq ≡ (finished w).bytes ++ rest → IsBytes frq
+    → (value : TermData) × IsAsHanded (term_written w written handed documents field prox skip) handed value
+      × ReadsTo (term_plan (term_written w written handed documents field prox skip)) (place_in frq (length written)) value (place_in frq (length (finished w).bytes))
+ReadsTo-finished w written handed documents field prox skip frq rest f e fits =
+    let t = term_written w written handed documents field prox skip in
+    let v = value_written w written handed in
+    let own = entries_bytes w.omit 0 handed ++ skip_bytes (levels_due w) (lowest w.payloads w.marks w.interval) in
+    let is = file-is w written handed frq rest f.writing e in
+    let start : drop (length written) frq ≡ own ++ rest = ap (λ (b : List ℕ). drop (length written) b) is ∙ drop-append_seam written (own ++ rest) in
+    let size : length (finished w).bytes ≡ length written + length own =
+    ap (λ (b : List ℕ). length (b ++ skip_bytes (levels_due w) (lowest w.payloads w.marks w.interval))) f.writing.bytes ∙ ap length (append_assoc written (entries_bytes w.omit 0 handed) (skip_bytes (levels_due w) (lowest w.payloads w.marks w.interval)))
+    ∙ length-append written own in
+    let end : drop (length (finished w).bytes) frq ≡ rest = ap (λ (b : List ℕ). drop (length (finished w).bytes) b) e ∙ drop-append_seam (finished w).bytes rest in
+    let reads = ap (λ (b : List ℕ). read_plan (term_plan t) (at (length written) b)) start ∙ (Writes-term w written handed documents field prox skip f).reads rest
+        ∙ ap (λ (n : ℕ). ok_of (v, at n rest)) (sym size) ∙ ap (λ (b : List ℕ). ok_of (v, at (length (finished w).bytes) b)) (sym end) in
+    (v, IsAsHanded-written w written handed documents field prox skip f, reads-read_plan (term_plan t) (place_in frq (length written)) v (place_in frq (length (finished w).bytes)) (IsBytes-drop (length written) frq fits) reads)

@@ -1,14 +1,14 @@
 -- A term that a writer finishes is good.
-use Rattle.std.proofs.Common.{◌≡◌, ◌≢◌, ℕ, zero, suc, add-one, ◌+◌, ◌-◌, ◌*◌, ◌/◌, ◌%◌, ◌^◌, ◌<◌, ◌≤◌, eqb, Bool, true, false, List, [], ◌∷◌, ◌++◌, length, take, drop, get_or, Result, Ok, inl, inr, refl, sym, ap, subst, ◌∙◌, append_assoc, arith}
-use Rattle.std.specs.Prelude.{◌==◌, if◌then◌else◌, slice_index, slice_index_or}
-use Rattle.std.proofs.lemmas.Bool.{cases_eq, cases_lt, eq-eqb, ne_eqb}
+use Rattle.std.proofs.Common.{◌≡◌, ℕ, zero, suc, ◌+◌, ◌-◌, ◌*◌, ◌/◌, ◌%◌, ◌^◌, ◌<◌, ◌≤◌, eqb, Bool, true, false, List, [], ◌∷◌, ◌++◌, length, take, drop, get_or, inl, inr, refl, sym, ap, subst, ◌∙◌, append_assoc, arith}
+use Rattle.std.specs.Prelude.{if◌then◌else◌, slice_index, slice_index_or}
+use Rattle.std.proofs.lemmas.Bool.{cases_eq, eq-eqb, ne_eqb}
 use Rattle.std.proofs.lemmas.List.{length-append, append-nil}
 use Rattle.std.proofs.Math.Nat.{div-div-eq-div-mul, div-mul-le_self, mul-le-mul_right, mul-le-mul_left, mul_assoc, mul_comm, pow-suc, pow-zero}
 use Rattle.freq_skips.specs.declared.rules.Term.{Term}
 use Rattle.freq_skips.specs.declared.datum.Point.{Point}
 use Rattle.freq_skips.specs.declared.writer.Mark.{Mark}
 use Rattle.freq_skips.specs.Entries.{Posting, no_posting, no_entry, entries}
-use Rattle.freq_skips.specs.Levels.{greatest_power, level_count, levels, stride, data_count, posting_at, no_point}
+use Rattle.freq_skips.specs.Levels.{greatest_power, level_count, levels, stride, data_count, no_point}
 use Rattle.freq_skips.specs.Written.{Handed, no_handed, no_mark, optional_bytes, entry_bytes, entries_bytes, last_doc, mark_of, written_postings, AreInOrder, Rise, mark_after, data_bytes, places_after, rise_count, risen, lowest, with_length, skip_bytes, front_bytes, written_skip}
 use Rattle.freq_skips.specs.Writing.{WriterState, levels_due, finished, IsRisingProx, term_written, IsFinishable, IsWriting, LeadsTo, IsAsHanded}
 use Rattle.freq_skips.specs.Terms.{TermData, term_plan, place_in}
@@ -137,7 +137,7 @@ mark-at : (t : Term) (handed : List Handed) (r : Rise) (m : ℕ) → IsRise t ha
 mark-at t handed r m h lt =
     let never : eqb (suc m) 0 ≡ false = ne_eqb _ _ (λ z. absurd (omega arith)) in
     rw never (h.marks (suc m * r.step - 1) (mark-index m r.step (length r.marks) h.step_pos lt)
-      ∙ ap (λ (n : ℕ). mark_of t.rules.omit_tf handed n) (entry-index m r.step t.rules.skip_interval (stride t r.number) h.step_pos h.step))
+    ∙ ap (λ (n : ℕ). mark_of t.rules.omit_tf handed n) (entry-index m r.step t.rules.skip_interval (stride t r.number) h.step_pos h.step))
 
 rise-count : (t : Term) (handed : List Handed) (r : Rise) → IsHandedOver t handed → IsRise t handed r → rise_count r ≡ data_count t r.number
 rise-count t handed r o h =
@@ -159,7 +159,7 @@ step-up t handed r (suc m) o h lt =
     let up : suc m * st ≤ suc (suc m) * st = mul-le-mul_right st (let le : suc m ≤ suc (suc m) = omega arith in le) in
     let both = marks-up t.rules.documents t.rules.omit_tf handed (suc m * st - 1) (suc (suc m) * st - 1) o.order o.prox (omega arith) (entry-within t handed r (suc m) o h lt) in
     subst (λ (a : Mark). IsUpTo a (mark_after r (suc (suc m)))) (sym (mark-at t handed r m h (omega arith)))
-      (subst (λ (b : Mark). IsUpTo (mark_of t.rules.omit_tf handed (suc m * st - 1)) b) (sym (mark-at t handed r (suc m) h lt)) both)
+    (subst (λ (b : Mark). IsUpTo (mark_of t.rules.omit_tf handed (suc m * st - 1)) b) (sym (mark-at t handed r (suc m) h lt)) both)
 
 no-prox : (omit : Bool) (handed : List Handed) (k : ℕ) → omit ≡ true → (mark_of omit handed k).prox ≡ 0
 no-prox omit handed k e = rw e refl
@@ -258,7 +258,7 @@ no_levels = []
 -- its skip data
 Writes-levels : (w : WriterState) (written : List ℕ) (handed : List Handed) (documents field prox skip : ℕ) → IsFinishable w written handed documents skip
     → Writes (levels (term_written w written handed documents field prox skip) (written_postings w.omit (length written) 0 handed) (level_count (term_written w written handed documents field prox skip)) []) (length written + length (entries_bytes w.omit 0 handed))
-        (skip_bytes (levels_due w) (lowest w.payloads w.marks w.interval)) (found_points (levels_due w) (lowest w.payloads w.marks w.interval) (length written + length (entries_bytes w.omit 0 handed)))
+    (skip_bytes (levels_due w) (lowest w.payloads w.marks w.interval)) (found_points (levels_due w) (lowest w.payloads w.marks w.interval) (length written + length (entries_bytes w.omit 0 handed)))
 Writes-levels w written handed documents field prox skip f =
     let t = term_written w written handed documents field prox skip in
     let ps = written_postings w.omit (length written) 0 handed in
@@ -303,7 +303,7 @@ Writes-term w written handed documents field prox skip f =
     let first = Writes-entries t handed no_entry (length written) f.order (λ e. refl) in
     let nothing : Writes {R = Record} (done (data_made ps found)) (length written + length entry_part + length skip_part) [] (data_made ps found) = Writes-done (length written + length entry_part + length skip_part) (data_made ps found) in
     let second = subst (λ (b : List ℕ). Writes (levels_after t ps) (length written + length entry_part) b (data_made ps found)) (append-nil skip_part)
-        (Writes-and_then (levels t ps (level_count t) []) (λ points. done (data_made ps points)) (length written + length entry_part) skip_part [] found (data_made ps found) (Writes-levels w written handed documents field prox skip f) nothing) in
+    (Writes-and_then (levels t ps (level_count t) []) (λ points. done (data_made ps points)) (length written + length entry_part) skip_part [] found (data_made ps found) (Writes-levels w written handed documents field prox skip f) nothing) in
     Writes-and_then (entries t) (λ s. levels_after t s.postings) (length written) entry_part skip_part (passed_with (last_doc 0 handed) ps) (data_made ps found) first second
 
 -- ---- where its data lead
@@ -315,12 +315,18 @@ found-at (suc k) r place (suc n) lt = go (found-at k (risen r) place n (omega ar
   where
     go : ((base : ℕ) × (other : Rise) × (other.number ≡ suc r.number + n) × (get_or (found_points k (risen r) place) n [] ≡ written_points other base (rise_count other)) × ((t : Term) (handed : List Handed) → IsHandedOver t handed → IsRise t handed (risen r) → length (skip_bytes k (risen r)) < 2 ^ 63 → IsRise t handed other))
         → (base : ℕ) × (other : Rise) × (other.number ≡ r.number + suc n) × (get_or (found_points (suc k) r place) (suc n) [] ≡ written_points other base (rise_count other)) × ((t : Term) (handed : List Handed) → IsHandedOver t handed → IsRise t handed r → length (skip_bytes (suc k) r) < 2 ^ 63 → IsRise t handed other)
-    go (base, other, number, is, rise) = (base, other, omega arith, is, λ t handed o h small.
-        let bytes = data_bytes r (rise_count r) in
-        let size = ap length (skip_bytes-next r k (suc k) refl) ∙ length-append (skip_bytes k (risen r)) (with_length r.number bytes) in
-        let more = with_length-more r.number bytes in
-        let own : length bytes < 2 ^ 63 = omega arith in
-        rise t handed o (IsRise-risen t handed r o h own) (omega arith))
+    go (base, other, number, is, rise) = (
+      base,
+      other,
+      omega arith,
+      is,
+      λ t handed o h small.
+          let bytes = data_bytes r (rise_count r) in
+          let size = ap length (skip_bytes-next r k (suc k) refl) ∙ length-append (skip_bytes k (risen r)) (with_length r.number bytes) in
+          let more = with_length-more r.number bytes in
+          let own : length bytes < 2 ^ 63 = omega arith in
+          rise t handed o (IsRise-risen t handed r o h own) (omega arith),
+    )
 
 mark-leads : (r : Rise) (base m : ℕ) (k : Mark) → mark_after r (suc m) ≡ k → LeadsTo (written_point r base m) k
 mark-leads r base m k is = (ap (λ (x : Mark). x.doc) is, ap (λ (x : Mark). x.freq) is, ap (λ (x : Mark). x.prox) is, refl)
@@ -337,7 +343,7 @@ leads-at t handed k r place n m o h small below zero_is lt = go (found-at k r pl
         let within : m < rise_count other = subst (λ (c : ℕ). m < c) (sym (rise-count t handed other o own ∙ ap (λ (l : ℕ). data_count t l) level)) lt in
         let point = ap (λ (ps : List Point). slice_index_or ps m no_point) is ∙ written_points-at other base (rise_count other) m within in
         subst (λ (p : Point). LeadsTo p (mark_of t.rules.omit_tf handed (suc m * stride t n - 1))) (sym point)
-          (mark-leads other base m _ (mark-at t handed other m own within ∙ ap (λ (l : ℕ). mark_of t.rules.omit_tf handed (suc m * stride t l - 1)) level))
+        (mark-leads other base m _ (mark-at t handed other m own within ∙ ap (λ (l : ℕ). mark_of t.rules.omit_tf handed (suc m * stride t l - 1)) level))
 
 IsAsHanded-written : (w : WriterState) (written : List ℕ) (handed : List Handed) (documents field prox skip : ℕ) → IsFinishable w written handed documents skip
     → IsAsHanded (term_written w written handed documents field prox skip) handed (value_written w written handed)
@@ -363,7 +369,7 @@ file-is w written handed frq rest i e =
 
 pub ReadsTo-finished : (w : WriterState) (written : List ℕ) (handed : List Handed) (documents field prox skip : ℕ) (frq rest : List ℕ) → IsFinishable w written handed documents skip → frq ≡ (finished w).bytes ++ rest → IsBytes frq
     → (value : TermData) × IsAsHanded (term_written w written handed documents field prox skip) handed value
-      × ReadsTo (term_plan (term_written w written handed documents field prox skip)) (place_in frq (length written)) value (place_in frq (length (finished w).bytes))
+    × ReadsTo (term_plan (term_written w written handed documents field prox skip)) (place_in frq (length written)) value (place_in frq (length (finished w).bytes))
 ReadsTo-finished w written handed documents field prox skip frq rest f e fits =
     let t = term_written w written handed documents field prox skip in
     let v = value_written w written handed in
@@ -375,5 +381,5 @@ ReadsTo-finished w written handed documents field prox skip frq rest f e fits =
     ∙ length-append written own in
     let end : drop (length (finished w).bytes) frq ≡ rest = ap (λ (b : List ℕ). drop (length (finished w).bytes) b) e ∙ drop-append_seam (finished w).bytes rest in
     let reads = ap (λ (b : List ℕ). read_plan (term_plan t) (at (length written) b)) start ∙ (Writes-term w written handed documents field prox skip f).reads rest
-        ∙ ap (λ (n : ℕ). ok_of (v, at n rest)) (sym size) ∙ ap (λ (b : List ℕ). ok_of (v, at (length (finished w).bytes) b)) (sym end) in
+    ∙ ap (λ (n : ℕ). ok_of (v, at n rest)) (sym size) ∙ ap (λ (b : List ℕ). ok_of (v, at (length (finished w).bytes) b)) (sym end) in
     (v, IsAsHanded-written w written handed documents field prox skip f, reads-read_plan (term_plan t) (place_in frq (length written)) v (place_in frq (length (finished w).bytes)) (IsBytes-drop (length written) frq fits) reads)

@@ -1,6 +1,6 @@
 -- What a writer holds after each entry that it was handed.
-use Rattle.std.proofs.Common.{◌≡◌, ◌≢◌, ℕ, zero, suc, add-one, ◌+◌, ◌-◌, ◌*◌, ◌/◌, ◌%◌, ◌^◌, ◌<◌, ◌≤◌, eqb, Bool, true, false, List, [], ◌∷◌, ◌++◌, length, take, get_or, inl, inr, refl, sym, ap, subst, ◌∙◌, append_assoc, arith}
-use Rattle.std.specs.Prelude.{◌⊎◌, slice_index_or, ◌==◌, if◌then◌else◌}
+use Rattle.std.proofs.Common.{◌≡◌, ℕ, suc, add-one, ◌+◌, ◌-◌, ◌*◌, ◌/◌, ◌%◌, ◌<◌, ◌≤◌, eqb, Bool, true, false, List, [], ◌∷◌, ◌++◌, length, take, get_or, inl, inr, refl, sym, ap, subst, ◌∙◌, append_assoc, arith}
+use Rattle.std.specs.Prelude.{slice_index_or, if◌then◌else◌}
 use Rattle.std.proofs.lemmas.Bool.{cases_eq, cases_lt, eq-eqb, ne_eqb}
 use Rattle.std.proofs.lemmas.List.{length-append, append-nil, take-append-le}
 use Rattle.std.proofs.Math.ListN.{get_or-append}
@@ -9,7 +9,7 @@ use Rattle.std.proofs.Math.Nat.{zero-div, div-mul-le_self, mul-le-mul_right}
 use Rattle.freq_skips.specs.declared.writer.Mark.{Mark}
 use Rattle.freq_skips.specs.Written.{Handed, no_handed, entry_bytes, entries_bytes, last_doc, mark_of, no_mark}
 use Rattle.freq_skips.specs.Writing.{WriterState, begun, added, mark_now, IsWriting}
-use Rattle.freq_skips.proofs.Powers.{quotient-next, quotient-same, multiple-index, multiple-next}
+use Rattle.freq_skips.proofs.Powers.{quotient-same, multiple-index, multiple-next}
 
 -- one entry more at the end
 pub entries_bytes-more : (omit : Bool) (last : ℕ) (handed : List Handed) (h : Handed) → entries_bytes omit last (handed ++ h ∷ []) ≡ entries_bytes omit last handed ++ entry_bytes omit (last_doc last handed) h
@@ -85,35 +85,35 @@ mark-new w written handed h i =
 pub IsWriting-added : (w : WriterState) (written : List ℕ) (handed : List Handed) (h : Handed) → 2 ≤ w.interval → IsWriting w written handed → IsWriting (added w h) written (handed ++ h ∷ [])
 unfolding HasMarks
 IsWriting-added w written handed h two i = elim (cases_eq ((w.count + 1) % w.interval) 0) [
-    | inl e ↦
-        let test : eqb ((w.count + 1) % w.interval) 0 ≡ true = eq-eqb _ _ e in
-        let next = multiple-next w.count w.interval (omega arith) e in
-        let size = length-append w.marks (mark_now w h.prox ∷ []) in
-        let is : (added w h).marks ≡ w.marks ++ mark_now w h.prox ∷ [] = rw test refl in
-        record {
-          bytes = added-bytes w written handed h i;
-          start = i.start;
-          count = omega (arith, i.count, length-append handed (h ∷ []));
-          doc = sym (last_doc-more 0 handed h);
-          mark_count = ap length is ∙ omega (arith, size, i.mark_count, next);
-          marks = subst (HasMarks w.omit w.interval (handed ++ h ∷ [])) (sym is) (λ j lt. elim (cases_lt j (length w.marks)) [
-            | inl low ↦ get_or-append w.marks (mark_now w h.prox ∷ []) no_mark j low ∙ marks-kept w written handed h two i j low
-            | inr ge ↦
-                let last : j ≡ length w.marks = omega (arith, size) in
-                let index : suc j * w.interval - 1 ≡ length handed = multiple-index w.count w.interval j (omega arith) e (last ∙ i.mark_count) ∙ omega (arith, i.count) in
-                ap (λ (n : ℕ). get_or (w.marks ++ mark_now w h.prox ∷ []) n no_mark) last ∙ get_or-append_seam w.marks (mark_now w h.prox) [] no_mark
-                ∙ mark-new w written handed h i ∙ ap (λ (n : ℕ). mark_of w.omit (handed ++ h ∷ []) n) (sym index)
-          ]);
-        }
-    | inr ne ↦
-        let test : eqb ((w.count + 1) % w.interval) 0 ≡ false = ne_eqb _ _ ne in
-        let is : (added w h).marks ≡ w.marks = rw test refl in
-        record {
-          bytes = added-bytes w written handed h i;
-          start = i.start;
-          count = omega (arith, i.count, length-append handed (h ∷ []));
-          doc = sym (last_doc-more 0 handed h);
-          mark_count = ap length is ∙ i.mark_count ∙ sym (quotient-same w.count w.interval (omega arith) ne) ∙ ap (λ (n : ℕ). n / w.interval) (sym (add-one w.count));
-          marks = subst (HasMarks w.omit w.interval (handed ++ h ∷ [])) (sym is) (marks-kept w written handed h two i);
-        }
-  ]
+  | inl e ↦
+      let test : eqb ((w.count + 1) % w.interval) 0 ≡ true = eq-eqb _ _ e in
+      let next = multiple-next w.count w.interval (omega arith) e in
+      let size = length-append w.marks (mark_now w h.prox ∷ []) in
+      let is : (added w h).marks ≡ w.marks ++ mark_now w h.prox ∷ [] = rw test refl in
+      record {
+        bytes = added-bytes w written handed h i;
+        start = i.start;
+        count = omega (arith, i.count, length-append handed (h ∷ []));
+        doc = sym (last_doc-more 0 handed h);
+        mark_count = ap length is ∙ omega (arith, size, i.mark_count, next);
+        marks = subst (HasMarks w.omit w.interval (handed ++ h ∷ [])) (sym is) (λ j lt. elim (cases_lt j (length w.marks)) [
+          | inl low ↦ get_or-append w.marks (mark_now w h.prox ∷ []) no_mark j low ∙ marks-kept w written handed h two i j low
+          | inr ge ↦
+              let last : j ≡ length w.marks = omega (arith, size) in
+              let index : suc j * w.interval - 1 ≡ length handed = multiple-index w.count w.interval j (omega arith) e (last ∙ i.mark_count) ∙ omega (arith, i.count) in
+              ap (λ (n : ℕ). get_or (w.marks ++ mark_now w h.prox ∷ []) n no_mark) last ∙ get_or-append_seam w.marks (mark_now w h.prox) [] no_mark
+              ∙ mark-new w written handed h i ∙ ap (λ (n : ℕ). mark_of w.omit (handed ++ h ∷ []) n) (sym index)
+        ]);
+      }
+  | inr ne ↦
+      let test : eqb ((w.count + 1) % w.interval) 0 ≡ false = ne_eqb _ _ ne in
+      let is : (added w h).marks ≡ w.marks = rw test refl in
+      record {
+        bytes = added-bytes w written handed h i;
+        start = i.start;
+        count = omega (arith, i.count, length-append handed (h ∷ []));
+        doc = sym (last_doc-more 0 handed h);
+        mark_count = ap length is ∙ i.mark_count ∙ sym (quotient-same w.count w.interval (omega arith) ne) ∙ ap (λ (n : ℕ). n / w.interval) (sym (add-one w.count));
+        marks = subst (HasMarks w.omit w.interval (handed ++ h ∷ [])) (sym is) (marks-kept w written handed h two i);
+      }
+]

@@ -1,13 +1,12 @@
 -- Entries that were written are good.
-use Rattle.std.proofs.Common.{◌≡◌, ◌≢◌, ℕ, zero, suc, add-one, ◌+◌, ◌-◌, ◌*◌, ◌/◌, ◌%◌, ◌^◌, ◌<◌, ◌≤◌, eqb, ltb, leb, true≢false, Bool, true, false, not, List, [], ◌∷◌, ◌++◌, length, Option, Some, None, inl, inr, refl, sym, ap, subst, ◌∙◌, append_assoc, arith}
+use Rattle.std.proofs.Common.{◌≡◌, ℕ, suc, ◌+◌, ◌-◌, ◌*◌, ◌/◌, ◌%◌, ◌^◌, ◌<◌, ◌≤◌, eqb, true≢false, Bool, true, false, not, List, [], ◌∷◌, ◌++◌, length, Option, Some, None, inl, inr, refl, sym, ap, subst, ◌∙◌, append_assoc, arith}
 use Rattle.std.specs.Prelude.{◌==◌, ◌&&◌, if◌then◌else◌, nat_le, nat_lt}
 use Rattle.std.proofs.lemmas.Bool.{cases_eq, eq-eqb, ne_eqb}
 use Rattle.std.proofs.lemmas.Bool.Decides.{nat_tests}
 use Rattle.std.proofs.lemmas.List.{length-append, append-nil}
-use Rattle.std.proofs.lemmas.Nat.{div-mul-add}
-use Rattle.lu_grammar.specs.Parts.{Part, Value, IsValue, vint, num, spelling}
-use Rattle.lu_grammar.specs.Records.{Shape, whole, Condition, optional, Spells, first_broken}
-use Rattle.lu_grammar.specs.Plans.{Plan, done, and_then, one, each, times}
+use Rattle.lu_grammar.specs.Parts.{Part, Value, IsValue, num}
+use Rattle.lu_grammar.specs.Records.{Shape, whole, optional, Spells, first_broken}
+use Rattle.lu_grammar.specs.Plans.{done, one, each, times}
 use Rattle.lu_grammar.proofs.Writers.{Writes, Writes-due, Writes-done, Writes-and_then}
 use Rattle.freq_skips.specs.declared.rules.Term.{Term}
 use Rattle.freq_skips.specs.Records.{Record, entry, alone, entry_shape, states_frequency}
@@ -73,10 +72,14 @@ IsCanonical-parts t distance freq small some few = go t.rules.omit_tf refl
 
 -- the spelling of an entry
 Spells-entry : (t : Term) (distance freq : ℕ) (x : ℕ × Option ℕ) → IsCanonical t distance freq x → Spells (entry_shape t) (entry x.0 x.1) (entry_parts_bytes x.0 x.1)
-Spells-entry t distance freq x h =
-    (x.0, optional_bytes num x.1, h.delta_fits, refl,
-     subst (λ (b : List ℕ). Spells (optional (states_frequency t x.0) (alone num) (λ stated. whole (entry x.0 stated))) (entry x.0 x.1) b) (append-nil (optional_bytes num x.1))
-       (Spells-optional num (states_frequency t x.0) x.1 (λ stated. whole (entry x.0 stated)) (entry x.0 x.1) [] h.states (refl, refl)))
+Spells-entry t distance freq x h = (
+  x.0,
+  optional_bytes num x.1,
+  h.delta_fits,
+  refl,
+  subst (λ (b : List ℕ). Spells (optional (states_frequency t x.0) (alone num) (λ stated. whole (entry x.0 stated))) (entry x.0 x.1) b) (append-nil (optional_bytes num x.1))
+      (Spells-optional num (states_frequency t x.0) x.1 (λ stated. whole (entry x.0 stated)) (entry x.0 x.1) [] h.states (refl, refl)),
+)
 
 -- no condition is broken by it
 none_of : (b0 b1 b2 b3 : Bool) (r0 r1 r2 r3 : ℕ) → b0 ≡ false → b1 ≡ false → b2 ≡ false → b3 ≡ false
@@ -94,14 +97,15 @@ entry-kept : (t : Term) (first : Bool) (last place : ℕ) (h : Handed) (x : ℕ 
     → first_broken (entry_conditions t first last place (entry x.0 x.1)) ≡ None
 entry-kept t first last place h x c at order below =
     none_of _ _ _ _ _ _ _ _
-      (and-false first (not (place == t.info.freq)) (λ e. not-same place t.info.freq (at e)))
-      (later first order)
-      (let is = c.leads in let up : last ≤ h.doc = up_to first order in let e : nat_le t.rules.documents (last + gap t x.0) ≡ false = grind (arith, nat_tests) in e)
-      c.high
+    (and-false first (not (place == t.info.freq)) (λ e. not-same place t.info.freq (at e)))
+    (later first order)
+    (let is = c.leads in let up : last ≤ h.doc = up_to first order in let e : nat_le t.rules.documents (last + gap t x.0) ≡ false = grind (arith, nat_tests) in e)
+    c.high
   where
     up_to : (b : Bool) → last + (if b then 0 else 1) ≤ h.doc → last ≤ h.doc
     up_to true o = omega arith
     up_to false o = omega arith
+
     later : (b : Bool) → last + (if b then 0 else 1) ≤ h.doc → (not b && (gap t x.0 == 0)) ≡ false
     later true o = refl
     later false o = ne_eqb (gap t x.0) 0 (λ z. absurd (omega (arith, c.leads)))
@@ -127,10 +131,10 @@ one-written t s place h at order below small some few =
     let is : posting_of t s.doc place (entry x.0 x.1) ≡ handed_posting t s.doc place h =
     ap (λ (d : ℕ). made_posting d (frequency x.1) s.doc place) leads ∙ ap (λ (f : ℕ). made_posting h.doc f s.doc place) c.tells in
     let after = subst (λ (q : Posting). Writes {R = Record} (done (with_posting s (posting_of t s.doc place (entry x.0 x.1)))) (place + length (entry_bytes t.rules.omit_tf s.doc h)) [] (with_posting s q)) is
-        (Writes-done (place + length (entry_bytes t.rules.omit_tf s.doc h)) (with_posting s (posting_of t s.doc place (entry x.0 x.1)))) in
+    (Writes-done (place + length (entry_bytes t.rules.omit_tf s.doc h)) (with_posting s (posting_of t s.doc place (entry x.0 x.1)))) in
     subst (λ (b : List ℕ). Writes (one (entry_kind t) s) place b (with_posting s (handed_posting t s.doc place h))) (append-nil (entry_bytes t.rules.omit_tf s.doc h))
-      (Writes-due (entry_shape t) (λ p r. entry_conditions t (length s.postings == 0) s.doc p r) (λ p r. done (with_posting s (posting_of t s.doc p r))) place (entry x.0 x.1) (entry_bytes t.rules.omit_tf s.doc h) []
-        (with_posting s (handed_posting t s.doc place h)) (Spells-entry t (h.doc - s.doc) h.freq x c) (entry-kept t (length s.postings == 0) s.doc place h x c at order below) after)
+    (Writes-due (entry_shape t) (λ p r. entry_conditions t (length s.postings == 0) s.doc p r) (λ p r. done (with_posting s (posting_of t s.doc p r))) place (entry x.0 x.1) (entry_bytes t.rules.omit_tf s.doc h) []
+    (with_posting s (handed_posting t s.doc place h)) (Spells-entry t (h.doc - s.doc) h.freq x c) (entry-kept t (length s.postings == 0) s.doc place h x c at order below) after)
   where
     up_to : (b : Bool) → s.doc + (if b then 0 else 1) ≤ h.doc → s.doc ≤ h.doc
     up_to true o = omega arith
@@ -146,6 +150,6 @@ Writes-entries t (h ∷ hs) s place order at =
     let some : (length (s.postings ++ p ∷ []) == 0) ≡ false = ne_eqb _ _ (λ e. absurd (omega (arith, length-append s.postings (p ∷ [])))) in
     let rest = Writes-entries t hs (with_posting s p) (place + length front) (subst (λ (b : Bool). AreInOrder t.rules.documents b h.doc hs) (sym some) order.5) (λ e. absurd (true≢false (sym e ∙ some))) in
     subst (λ (ps : List Posting). Writes (times (entry_kind t) (suc (length hs)) s) place (entries_bytes t.rules.omit_tf s.doc (h ∷ hs)) (passed_with (last_doc h.doc hs) ps))
-      (append_assoc s.postings (p ∷ []) (written_postings t.rules.omit_tf (place + length front) h.doc hs))
-      (Writes-and_then (one (entry_kind t) s) (each (one (entry_kind t)) (length hs)) place front (entries_bytes t.rules.omit_tf h.doc hs) (with_posting s p) _
-        (one-written t s place h at order.0 order.1 order.2 order.3 order.4) rest)
+    (append_assoc s.postings (p ∷ []) (written_postings t.rules.omit_tf (place + length front) h.doc hs))
+    (Writes-and_then (one (entry_kind t) s) (each (one (entry_kind t)) (length hs)) place front (entries_bytes t.rules.omit_tf h.doc hs) (with_posting s p) _
+    (one-written t s place h at order.0 order.1 order.2 order.3 order.4) rest)

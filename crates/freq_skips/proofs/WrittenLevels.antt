@@ -1,22 +1,20 @@
 -- Skip data that were written are good.
-use Rattle.std.proofs.Common.{◌≡◌, ◌≢◌, ℕ, zero, suc, add-one, ◌+◌, ◌-◌, ◌*◌, ◌/◌, ◌%◌, ◌^◌, ◌<◌, ◌≤◌, eqb, ltb, true≢false, Bool, true, false, not, List, [], ◌∷◌, ◌++◌, length, get_or, Option, Some, None, inl, inr, refl, sym, ap, subst, ◌∙◌, append_assoc, arith}
-use Rattle.std.specs.Prelude.{◌==◌, ◌&&◌, if◌then◌else◌, nat_lt, slice_index}
-use Rattle.std.proofs.lemmas.Bool.{cases_eq, cases_lt, eq-eqb, ne_eqb, eqb-true}
-use Rattle.std.proofs.lemmas.Bool.Decides.{nat_tests}
+use Rattle.std.proofs.Common.{◌≡◌, ℕ, zero, suc, add-one, ◌+◌, ◌-◌, ◌*◌, ◌^◌, ◌<◌, ◌≤◌, true≢false, Bool, true, false, not, List, [], ◌∷◌, ◌++◌, length, Option, Some, None, refl, sym, ap, subst, ◌∙◌, append_assoc, arith}
+use Rattle.std.specs.Prelude.{◌==◌, ◌&&◌, if◌then◌else◌, nat_lt}
+use Rattle.std.proofs.lemmas.Bool.{eqb-true}
 use Rattle.std.proofs.lemmas.List.{length-append, append-nil}
-use Rattle.lu_grammar.specs.Parts.{Part, Value, IsValue, vint, num, vlong, spelling}
-use Rattle.lu_grammar.specs.Records.{Shape, whole, part, Condition, optional, Spells, first_broken}
-use Rattle.lu_grammar.specs.Plans.{Plan, done, due, one, each, times}
+use Rattle.lu_grammar.specs.Parts.{Part, Value, vint, num, vlong, spelling}
+use Rattle.lu_grammar.specs.Records.{whole, part, optional, Spells, first_broken}
+use Rattle.lu_grammar.specs.Plans.{one, times}
 use Rattle.lu_grammar.proofs.Writers.{Writes, Writes-none, Writes-record}
 use Rattle.freq_skips.specs.declared.rules.Term.{Term}
 use Rattle.freq_skips.specs.declared.datum.Point.{Point}
 use Rattle.freq_skips.specs.declared.datum.Skip.{Skip}
-use Rattle.freq_skips.specs.declared.datum.Wanted.{Wanted}
 use Rattle.freq_skips.specs.declared.writer.Mark.{Mark}
-use Rattle.freq_skips.specs.Records.{Record, datum, alone, is_odd, states_payload, datum_shape, length_to_child, datum_length, optional_length}
+use Rattle.freq_skips.specs.Records.{datum, alone, states_payload, datum_shape, length_to_child, datum_length, optional_length}
 use Rattle.freq_skips.specs.Entries.{Posting}
-use Rattle.freq_skips.specs.Levels.{Along, no_datum, no_point, Level, level_of, level_start, wanted, child_above, length_at, is_first_datum, differs, skipped, number_or, datum_conditions, point_of, with_point, datum_kind, posting_at, data_count}
-use Rattle.freq_skips.specs.Written.{optional_bytes, skip_between, front_bytes, datum_bytes, Rise, mark_after, child_after, written_skip, data_bytes, rise_count}
+use Rattle.freq_skips.specs.Levels.{Along, no_datum, no_point, Level, level_of, level_start, wanted, child_above, length_at, is_first_datum, differs, skipped, number_or, datum_conditions, point_of, with_point, datum_kind, posting_at}
+use Rattle.freq_skips.specs.Written.{optional_bytes, front_bytes, datum_bytes, Rise, mark_after, child_after, written_skip, data_bytes, rise_count}
 use Rattle.freq_skips.proofs.LevelLemmas.{level_start-push}
 use Rattle.freq_skips.proofs.WriterLemmas.{data_bytes-none, data_bytes-more}
 use Rattle.freq_skips.proofs.WrittenEntries.{Stated, Spells-optional, not-same, and-false, even, half-even}
@@ -24,8 +22,13 @@ use Rattle.freq_skips.proofs.WrittenEntries.{Stated, Spells-optional, not-same, 
 -- how many bytes a datum takes
 pub front_bytes-length : (d : Skip) → length (front_bytes d) ≡ length_to_child d
 front_bytes-length d =
-    omega (arith, length-append (spelling vint d.doc ++ optional_bytes num d.payload ++ spelling num d.freq) (spelling num d.prox), length-append (spelling vint d.doc ++ optional_bytes num d.payload) (spelling num d.freq),
-    length-append (spelling vint d.doc) (optional_bytes num d.payload), optional-length num d.payload)
+    omega (
+      arith,
+      length-append (spelling vint d.doc ++ optional_bytes num d.payload ++ spelling num d.freq) (spelling num d.prox),
+      length-append (spelling vint d.doc ++ optional_bytes num d.payload) (spelling num d.freq),
+      length-append (spelling vint d.doc) (optional_bytes num d.payload),
+      optional-length num d.payload,
+    )
   where
     optional-length : (p : Part) (o : Option (Value p)) → length (optional_bytes p o) ≡ optional_length p o
     optional-length p None = refl
@@ -53,12 +56,25 @@ pub Spells-datum : (t : Term) (level : ℕ) (d : Skip) → IsTold t level d → 
 Spells-datum t level d told =
     let last = optional_bytes vlong d.child ++ [] in
     let nested : spelling vint d.doc ++ (optional_bytes num d.payload ++ (spelling num d.freq ++ (spelling num d.prox ++ last))) ≡ datum_bytes d = simp (append_assoc, append-nil) in
-    subst (λ (b : List ℕ). Spells (datum_shape t level) (datum d) b) nested
-    (d.doc, optional_bytes num d.payload ++ (spelling num d.freq ++ (spelling num d.prox ++ last)), told.doc, refl,
-     Spells-optional num (states_payload t d.doc) d.payload (λ payload. part num (λ freq. part num (λ prox. optional (nat_lt 0 level) (alone vlong) (λ child. whole (datum (made d.doc payload freq prox child)))))) (datum d) _ told.payload
-       (d.freq, spelling num d.prox ++ last, told.freq, refl, (d.prox, last, told.prox, refl,
-         Spells-optional vlong (nat_lt 0 level) d.child (λ child. whole (datum (made d.doc d.payload d.freq d.prox child))) (datum d) [] told.child (refl, refl))))
-
+    subst (λ (b : List ℕ). Spells (datum_shape t level) (datum d) b) nested (
+      d.doc,
+      optional_bytes num d.payload ++ (spelling num d.freq ++ (spelling num d.prox ++ last)),
+      told.doc,
+      refl,
+      Spells-optional num (states_payload t d.doc) d.payload (λ payload. part num (λ freq. part num (λ prox. optional (nat_lt 0 level) (alone vlong) (λ child. whole (datum (made d.doc payload freq prox child)))))) (datum d) _ told.payload (
+        d.freq,
+        spelling num d.prox ++ last,
+        told.freq,
+        refl,
+        (
+          d.prox,
+          last,
+          told.prox,
+          refl,
+          Spells-optional vlong (nat_lt 0 level) d.child (λ child. whole (datum (made d.doc d.payload d.freq d.prox child))) (datum d) [] told.child (refl, refl),
+        ),
+      ),
+    )
 
 -- ---- the data of a level
 
@@ -144,15 +160,15 @@ datum-kept t ps r above stated base m h lt =
     let b = mark_after r (suc m) in
     let skip = skipped-is t r.payloads (b.doc - a.doc) h.payloads in
     none_of_six _ _ _ _ _ _ _ _ _ _ _ _
-      (and-false w.first (not (place == t.info.freq + t.info.skip)) (λ e.
-        let one = first-one t l m e in
-        let none : length (data_bytes r m) ≡ 0 = ap (λ (k : ℕ). length (data_bytes r k)) one.0 ∙ ap length (data_bytes-none r) in
-        not-same place _ (omega (arith, none, h.first one.1))))
-      (not-same _ w.doc (omega (arith, last.0, skip, up.0, h.doc m lt)))
-      (not-same _ w.freq (omega (arith, last.1, up.1, h.freq m lt)))
-      (and-false t.rules.omit_tf (not (d.prox == 0)) (λ e. not-same d.prox 0 (omega (arith, h.omit m lt e))))
-      (ap (λ (n : ℕ). differs w.child n) (omega (arith, front_bytes-length d)) ∙ h.child m lt)
-      (ap (λ (n : ℕ). differs w.size n) (omega (arith, datum_bytes-length d, data_bytes-size r m)) ∙ h.size m lt)
+    (and-false w.first (not (place == t.info.freq + t.info.skip)) (λ e.
+    let one = first-one t l m e in
+    let none : length (data_bytes r m) ≡ 0 = ap (λ (k : ℕ). length (data_bytes r k)) one.0 ∙ ap length (data_bytes-none r) in
+    not-same place _ (omega (arith, none, h.first one.1))))
+    (not-same _ w.doc (omega (arith, last.0, skip, up.0, h.doc m lt)))
+    (not-same _ w.freq (omega (arith, last.1, up.1, h.freq m lt)))
+    (and-false t.rules.omit_tf (not (d.prox == 0)) (λ e. not-same d.prox 0 (omega (arith, h.omit m lt e))))
+    (ap (λ (n : ℕ). differs w.child n) (omega (arith, front_bytes-length d)) ∙ h.child m lt)
+    (ap (λ (n : ℕ). differs w.size n) (omega (arith, datum_bytes-length d, data_bytes-size r m)) ∙ h.size m lt)
 
 -- the numbers of a datum that is written can be told
 skip-told : (t : Term) (ps : List Posting) (r : Rise) (above : List (List Point)) (stated : Option ℕ) (base m : ℕ) → Rises t ps r above stated base → m < rise_count r → IsTold t r.number (written_skip r m)
@@ -171,6 +187,7 @@ skip-told t ps r above stated base m h lt =
     doubled : (p : Bool) (n : ℕ) → n < 2 ^ 31 → (if p then 2 * n else n) < 2 ^ 32
     doubled true n lt = omega arith
     doubled false n lt = omega arith
+
     even-told : (t : Term) (p : Bool) (n : ℕ) → p ≡ t.rules.payloads → Stated num (states_payload t (if p then 2 * n else n)) None
     even-told t true n e = let test : states_payload t (2 * n) ≡ false = rw (sym e, even n) refl in rw test tt
     even-told t false n e = let test : states_payload t n ≡ false = rw (sym e) refl in rw test tt
@@ -210,10 +227,10 @@ Writes-data t ps r above stated base (suc m) h le =
     let place = base + length (data_bytes r m) in
     let s = written_along r base m in
     let kept = ap (λ (n : ℕ). first_broken (datum_conditions t (wanted t ps l (suc n)) (level_start s.points place) s.last place (datum d))) (written_points-length r base m)
-        ∙ ap (λ (n : ℕ). first_broken (datum_conditions t (wanted t ps l (suc m)) n s.last place (datum d))) (points-begin r base m)
-        ∙ datum-kept t ps r above stated base m h lt in
+    ∙ ap (λ (n : ℕ). first_broken (datum_conditions t (wanted t ps l (suc m)) n s.last place (datum d))) (points-begin r base m)
+    ∙ datum-kept t ps r above stated base m h lt in
     let more = Writes-record kind no_datum base m (data_bytes r m) s (datum d) (datum_bytes d) (Writes-data t ps r above stated base m h (omega arith)) (Spells-datum t r.number d (skip-told t ps r above stated base m h lt)) kept in
     let after : with_point s (point_of t s.last place (datum d)) ≡ written_along r base (suc m) = ap (λ (p : Point). with_point s p) (point-is-written t ps r above stated base m h lt) in
     subst (λ (n : ℕ). Writes (times kind n no_datum) base (data_bytes r (suc m)) (written_along r base (suc m))) (add-one m)
-      (subst (λ (b : List ℕ). Writes (times kind (m + 1) no_datum) base b (written_along r base (suc m))) (sym (data_bytes-more r m))
-        (subst (λ (w : Along). Writes (times kind (m + 1) no_datum) base (data_bytes r m ++ datum_bytes d) w) after more))
+    (subst (λ (b : List ℕ). Writes (times kind (m + 1) no_datum) base b (written_along r base (suc m))) (sym (data_bytes-more r m))
+    (subst (λ (w : Along). Writes (times kind (m + 1) no_datum) base (data_bytes r m ++ datum_bytes d) w) after more))

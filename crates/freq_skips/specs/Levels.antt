@@ -1,12 +1,10 @@
 -- The skip levels of a term: which data each has, to which entries they belong, and what they must meet.
-use Rattle.std.specs.Prelude.{◌≡◌, ◌≤◌, Result, Ok, ℕ, zero, suc, ◌+◌, ◌-◌, ◌*◌, ◌/◌, ◌%◌, ◌^◌, Bool, not, List, [], ◌∷◌, ◌++◌, length, Option, Some, None, nat_le, ◌==◌, ◌&&◌, if◌then◌else◌, slice_index_or}
+use Rattle.std.specs.Prelude.{◌≡◌, ◌≤◌, Ok, ℕ, zero, suc, ◌+◌, ◌-◌, ◌*◌, ◌/◌, ◌%◌, ◌^◌, Bool, not, List, [], ◌∷◌, ◌++◌, length, Option, Some, None, nat_le, ◌==◌, ◌&&◌, if◌then◌else◌, slice_index_or}
 use Rattle.lu_types.specs.declared.rules.TheConstants.{SKIP_START, SKIP_DOC, SKIP_FREQ, SKIP_OMIT, SKIP_CHILD, SKIP_LENGTH}
-use Rattle.lu_grammar.specs.Parts.{vlong, spelling}
 use Rattle.lu_grammar.specs.Records.{Condition}
 use Rattle.lu_grammar.specs.Bytes.{Cursor}
 use Rattle.lu_grammar.specs.Plans.{Plan, done, due, and_then, Kind, times, read_plan}
 use Rattle.freq_skips.specs.declared.rules.Term.{Term}
-use Rattle.freq_skips.specs.declared.datum.Skip.{Skip}
 use Rattle.freq_skips.specs.declared.datum.Wanted.{Wanted}
 use Rattle.freq_skips.specs.declared.datum.Point.{Point}
 use Rattle.freq_skips.specs.Records.{Record, length_of, skip_of, length_shape, datum_shape, length_to_child, datum_length}

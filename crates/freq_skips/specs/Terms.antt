@@ -1,5 +1,5 @@
 -- A term's part of `.frq`, and the whole file.
-use Rattle.std.specs.Prelude.{◌≡◌, ◌≤◌, ℕ, List, [], length, drop}
+use Rattle.std.specs.Prelude.{◌≤◌, ℕ, List, [], length, drop}
 use Rattle.lu_types.specs.declared.term.TermInfo.{TermInfo}
 use Rattle.freq_skips.specs.declared.datum.Point.{Point}
 use Rattle.freq_skips.specs.declared.rules.TermRules.{TermRules}

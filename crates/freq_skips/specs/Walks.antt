@@ -1,5 +1,5 @@
 -- A walk over a term: its entries in order, and with each the data that belong to it.
-use Rattle.std.specs.Prelude.{◌≡◌, ◌≢◌, ◌⊎◌, ◌<◌, ◌≤◌, ◌+◌, ◌-◌, ◌/◌, ◌%◌, ℕ, List, [], Option, Some, None, Result, Ok, Err, length, nat_lt, ◌==◌, ◌&&◌, if◌then◌else◌, slice_index_or}
+use Rattle.std.specs.Prelude.{◌≡◌, ◌≢◌, ◌⊎◌, ◌<◌, ◌≤◌, ◌-◌, ◌/◌, ◌%◌, ℕ, List, [], Option, Some, None, Result, Ok, Err, length, slice_index_or}
 use Rattle.lu_grammar.specs.Bytes.{Cursor}
 use Rattle.lu_grammar.specs.Plans.{Broken, read_plan}
 use Rattle.freq_skips.specs.declared.rules.Term.{Term}

@@ -27,6 +27,5 @@ pub fn what_is_written()
     ensures added { (w : WriterState) (written : List ℕ) (handed : List Handed) (h : Handed) → 2 ≤ w.interval → IsWriting w written handed → IsWriting (added w h) written (handed ++ h ∷ []) }
     ensures finished { (w : WriterState) (written : List ℕ) (handed : List Handed) (documents field prox skip : ℕ) (frq rest : List ℕ) → IsFinishable w written handed documents skip → frq ≡ (finished w).bytes ++ rest → IsBytes frq
         → (value : TermData) × IsAsHanded (term_written w written handed documents field prox skip) handed value
-          × ReadsTo (term_plan (term_written w written handed documents field prox skip)) (place_in frq (length written)) value (place_in frq (length (finished w).bytes)) }
-{
-}
+        × ReadsTo (term_plan (term_written w written handed documents field prox skip)) (place_in frq (length written)) value (place_in frq (length (finished w).bytes)) }
+{}

@@ -40,6 +40,7 @@ pub record Along : Type 0 where
   pub last : Point
   pub points : List Point
 
+-- before the first datum
 abbrev pub no_datum : Along
 no_datum = record { last = no_point; points = [] }
 
@@ -72,6 +73,7 @@ abbrev pub differs : Option ℕ → ℕ → Bool
 differs None n = nat_le 1 0
 differs (Some m) n = not (m == n)
 
+-- the first record of the skip data is to stand as far behind the first entry as the dictionary says
 abbrev pub skip_start : Term → Bool → ℕ → Condition
 skip_start t first place = record { rule = SKIP_START; broken = first && not (place == t.info.freq + t.info.skip) }
 
@@ -120,6 +122,7 @@ point_of t last place r = record {
 abbrev pub with_point : Along → Point → Along
 with_point s p = record { last = p; points = s.points ++ p ∷ [] }
 
+-- the data of a level, which differ by those before
 abbrev pub datum_kind : Term → List Posting → Level → Kind Along Record
 datum_kind t postings l = record {
   shape = λ s. datum_shape t l.number;
@@ -135,6 +138,7 @@ level_data t postings l = times (datum_kind t postings l) (data_count t l.number
 abbrev pub length_conditions : Term → Level → ℕ → Record → List Condition
 length_conditions t l place r = skip_start t (length l.above == 0) place ∷ []
 
+-- a level by its parts
 abbrev pub level_of : ℕ → Option ℕ → List (List Point) → Level
 level_of number stated above = record { number = number; stated = stated; above = above }
 

@@ -28,6 +28,7 @@ frq_plan terms = in_turn term_plan terms
 abbrev pub place_in : List ℕ → ℕ → Cursor
 place_in bytes place = record { place = place; rest = drop place bytes }
 
+-- a term by the line of the dictionary and the rules
 abbrev pub term_of : TermInfo → TermRules → Term
 term_of info rules = record { info = info; rules = rules }
 

@@ -36,6 +36,7 @@ pub record StandPoints (t : Term) (postings : List Posting) (level : ℕ) (point
   pub end : Cursor
   pub all : AreData t postings (level_of level stated rest) (place_in frq place) points end
 
+-- there is a level above exactly where there are points
 abbrev pub StandAbove : Term → List Posting → ℕ → List (List Point) → List ℕ → Option ℕ → Type 0
 StandAbove t postings level [] frq None = Unit {0}
 StandAbove t postings level [] frq (Some place) = ⊥

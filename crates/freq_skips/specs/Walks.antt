@@ -43,6 +43,7 @@ abbrev pub read_value : Result (TermData × Cursor) Broken → TermData
 read_value (Ok x) = x.0
 read_value (Err b) = record { postings = []; levels = [] }
 
+-- what a term that is good and starts here stands for
 abbrev pub value_from : Term → Cursor → TermData
 value_from t start = read_value (read_plan (term_plan t) start)
 

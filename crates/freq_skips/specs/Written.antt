@@ -16,6 +16,7 @@ pub record Handed : Type 0 where
   pub freq : ℕ
   pub prox : ℕ
 
+-- no entry
 abbrev pub no_handed : Handed
 no_handed = record { doc = 0; freq = 0; prox = 0 }
 
@@ -23,6 +24,7 @@ no_handed = record { doc = 0; freq = 0; prox = 0 }
 abbrev pub canonical_parts : Bool → ℕ → ℕ → ℕ × Option ℕ
 canonical_parts omit gap freq = if omit then (gap, None) else (if freq == 1 then (2 * gap + 1, None) else (2 * gap, Some freq))
 
+-- the bytes of a delta and a frequency that may be stated
 abbrev pub entry_parts_bytes : ℕ → Option ℕ → List ℕ
 entry_parts_bytes delta stated = spelling vint delta ++ optional_bytes num stated
 
@@ -48,6 +50,7 @@ mark_of omit handed k = record {
   prox = if omit then 0 else (slice_index_or handed k no_handed).prox;
 }
 
+-- before the first datum
 abbrev pub no_mark : Mark
 no_mark = record { doc = 0; freq = 0; prox = 0 }
 
@@ -65,6 +68,7 @@ skip_between payloads from to child = record {
 abbrev pub front_bytes : Skip → List ℕ
 front_bytes d = spelling vint d.doc ++ optional_bytes num d.payload ++ spelling num d.freq ++ spelling num d.prox
 
+-- all bytes of a datum
 abbrev pub datum_bytes : Skip → List ℕ
 datum_bytes d = front_bytes d ++ optional_bytes vlong d.child
 
@@ -129,6 +133,7 @@ AreSmallMarks marks = (k : ℕ) → k < length marks → ((slice_index_or marks 
 abbrev pub AreSmallPlaces : List ℕ → Type 0
 AreSmallPlaces places = (k : ℕ) → slice_index places k < 2 ^ 63
 
+-- a level by its parts
 abbrev pub rise_of : Bool → List Mark → ℕ → ℕ → ℕ → List ℕ → Rise
 rise_of payloads marks interval number step children = record { payloads = payloads; marks = marks; interval = interval; number = number; step = step; children = children }
 

@@ -6,7 +6,7 @@ use Rattle.lu_grammar.specs.declared.bad.Bad.{Bad}
 use Rattle.lu_grammar.specs.Bytes.{Cursor}
 use Rattle.lu_grammar.specs.Records.{Shape, Condition, read_shape, judged, unless_broken, first_broken, record_at}
 use Rattle.lu_grammar.proofs.Records.{ok_pair, same_pair}
-use Rattle.lu_grammar.proofs.Plans.{ok_of, err_is_not_ok}
+use Rattle.lu_grammar.proofs.Plans.{err_is_not_ok}
 
 -- a good record breaks no condition
 pub record_at-kept : {R : Type 0} (shape : Shape R) (conditions : R → List Condition) (c : Cursor) (r : R) (d : Cursor) → record_at shape conditions c ≡ ok_pair r d → first_broken (conditions r) ≡ None

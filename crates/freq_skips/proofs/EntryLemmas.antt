@@ -1,13 +1,12 @@
 -- So many entries are good, and are read again.
-use Rattle.std.proofs.Common.{◌≡◌, ℕ, zero, suc, add-one, drop, ◌+◌, ◌-◌, ◌<◌, ◌≤◌, List, [], ◌∷◌, ◌++◌, length, get_or, Bool, ◌==◌, Result, Ok, Err, refl, sym, ap, subst, ◌∙◌, append_assoc, arith}
+use Rattle.std.proofs.Common.{◌≡◌, ℕ, zero, suc, add-one, drop, ◌+◌, ◌-◌, ◌<◌, ◌≤◌, List, [], ◌∷◌, ◌++◌, length, get_or, ◌==◌, Result, Ok, Err, refl, sym, ap, subst, ◌∙◌, append_assoc, arith}
 use Rattle.std.proofs.lemmas.List.{length-append, append-nil, drop-map, drop_all}
 use Rattle.std.proofs.Math.Seq.{get_or-append_seam, drop-cons}
 use Rattle.std.specs.Prelude.{slice_index_or, map}
 use Rattle.lu_grammar.specs.Bytes.{Cursor}
 use Rattle.lu_grammar.specs.Records.{record_at}
-use Rattle.lu_grammar.specs.Plans.{Broken, Kind, times, read_plan}
-use Rattle.lu_grammar.proofs.Plans.{ok_of, err_is_not_ok}
-use Rattle.lu_grammar.proofs.Records.{ok_pair, same_pair}
+use Rattle.lu_grammar.specs.Plans.{Broken, times, read_plan}
+use Rattle.lu_grammar.proofs.Plans.{err_is_not_ok}
 use Rattle.lu_grammar.proofs.Loops.{each-none, each-rest, times-more, times-fault, times-again, times-keeps}
 use Rattle.freq_skips.specs.declared.rules.Term.{Term}
 use Rattle.freq_skips.specs.declared.entry.Entry.{Entry}

@@ -1,11 +1,11 @@
 -- A term is its entries and then its levels, each good or at fault.
-use Rattle.std.proofs.Common.{◌≡◌, ℕ, ◌≤◌, List, [], length, Result, Ok, Err, refl, sym, ap, subst, ◌∙◌}
+use Rattle.std.proofs.Common.{◌≡◌, ℕ, List, [], Result, Ok, Err, sym, ap, ◌∙◌}
 use Rattle.std.specs.Prelude.{MatchResult}
 use Rattle.lu_types.specs.declared.fault.Spot.{Spot}
 use Rattle.lu_types.specs.declared.kind.FileKind.TheVariants.{Frq}
 use Rattle.lu_grammar.specs.Bytes.{IsBytes, Cursor}
 use Rattle.lu_grammar.specs.Reading.{◌>>=◌}
-use Rattle.lu_grammar.specs.Plans.{Plan, done, Broken, read_plan}
+use Rattle.lu_grammar.specs.Plans.{done, Broken, read_plan}
 use Rattle.lu_grammar.specs.Meaning.{ReadsTo}
 use Rattle.lu_grammar.proofs.Parts.{IsBytes-drop}
 use Rattle.lu_grammar.proofs.Plans.{reads-read_plan, fault-read_plan, read_plan-ReadsTo, err_is_not_ok}

@@ -1,12 +1,12 @@
 -- The length of a level, and then its data.
-use Rattle.std.proofs.Common.{◌≡◌, ◌≢◌, ℕ, zero, suc, ◌≤◌, Bool, List, [], ◌∷◌, length, Option, Some, None, Result, Ok, Err, refl, sym, ap, subst, ◌∙◌, arith}
+use Rattle.std.proofs.Common.{◌≡◌, ◌≢◌, ℕ, zero, suc, ◌≤◌, Bool, List, [], ◌∷◌, length, Option, Some, None, Result, Ok, Err, refl, sym, ap, ◌∙◌, arith}
 use Rattle.std.specs.Prelude.{◌==◌, not}
 use Rattle.std.specs.Option.{is_some}
 use Rattle.std.proofs.lemmas.Bool.{ne_eqb}
 use Rattle.freq_skips.proofs.WantedLemmas.{turned}
 use Rattle.lu_grammar.specs.Bytes.{IsBytes, Cursor}
 use Rattle.lu_grammar.specs.Records.{record_at}
-use Rattle.lu_grammar.specs.Plans.{Plan, done, due, Broken, read_plan}
+use Rattle.lu_grammar.specs.Plans.{Plan, done, due, read_plan}
 use Rattle.lu_grammar.proofs.Plans.{ok_of, read_due, read_due_broken}
 use Rattle.freq_skips.specs.declared.rules.Term.{Term}
 use Rattle.freq_skips.specs.declared.datum.Point.{Point}
@@ -14,7 +14,7 @@ use Rattle.freq_skips.specs.Records.{Record, level_length, length_shape, length_
 use Rattle.freq_skips.specs.Entries.{Posting}
 use Rattle.freq_skips.specs.Levels.{skip_start, length_conditions, level_of, level_data, level_plan, AreGoodData}
 use Rattle.freq_skips.specs.Terms.{place_in}
-use Rattle.freq_skips.specs.Walking.{StandPoints, StandAbove, IsGoodLevel}
+use Rattle.freq_skips.specs.Walking.{StandAbove, IsGoodLevel}
 use Rattle.freq_skips.proofs.PlaceLemmas.{place_in-after}
 
 -- what is asked of the length of a level

@@ -1,5 +1,5 @@
 -- So many data of a level are good, and are read again.
-use Rattle.std.proofs.Common.{◌≡◌, ℕ, suc, add-one, ◌+◌, ◌-◌, ◌*◌, ◌/◌, ◌<◌, ◌≤◌, List, [], ◌∷◌, ◌++◌, length, get_or, Option, Some, None, Result, Ok, Err, refl, sym, ap, subst, ◌∙◌, append_assoc, arith}
+use Rattle.std.proofs.Common.{◌≡◌, ℕ, suc, ◌+◌, ◌-◌, ◌<◌, ◌≤◌, List, [], ◌∷◌, ◌++◌, get_or, Option, Some, None, Result, Ok, Err, refl, sym, ap, ◌∙◌, append_assoc, arith}
 use Rattle.std.specs.Prelude.{slice_index_or}
 use Rattle.std.proofs.lemmas.List.{length-append, append-nil}
 use Rattle.std.proofs.Math.Seq.{get_or-append_seam}
@@ -7,7 +7,7 @@ use Rattle.lu_grammar.specs.Bytes.{Cursor}
 use Rattle.lu_grammar.specs.declared.bad.Bad.{Bad}
 use Rattle.lu_grammar.specs.Records.{Shape, Condition, first_broken, unless_broken, judged, read_shape, record_at}
 use Rattle.lu_grammar.proofs.Records.{ok_pair, same_pair}
-use Rattle.lu_grammar.specs.Plans.{Broken, Kind, times, read_plan}
+use Rattle.lu_grammar.specs.Plans.{times, read_plan}
 use Rattle.lu_grammar.proofs.Plans.{ok_of, err_is_not_ok}
 use Rattle.lu_grammar.proofs.Loops.{each-none, each-rest, times-more, times-fault, times-again, times-keeps}
 use Rattle.freq_skips.proofs.ConditionLemmas.{record_at-kept, all_unbroken, same-of}
@@ -34,7 +34,7 @@ kind_at t postings l start count last here h =
     ∙ ap (λ (p : Point). datum_at t l (wanted t postings l (suc count)) start.place p here) h.last_is
 
 -- one datum more starts the level only where it is the first
-level_start-push : (points : List Point) (p : Point) (place : ℕ) → level_start (points ++ p ∷ []) place ≡ level_start points p.place
+pub level_start-push : (points : List Point) (p : Point) (place : ℕ) → level_start (points ++ p ∷ []) place ≡ level_start points p.place
 level_start-push [] p place = refl
 level_start-push (q ∷ qs) p place = refl
 

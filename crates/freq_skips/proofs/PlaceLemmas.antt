@@ -1,5 +1,5 @@
 -- How far reading moves.
-use Rattle.std.proofs.Common.{◌≡◌, ℕ, ◌+◌, ◌≤◌, ◌++◌, length, drop, List, Result, Ok, sym, ap, subst, ◌∙◌, arith}
+use Rattle.std.proofs.Common.{◌≡◌, ℕ, ◌+◌, ◌≤◌, ◌++◌, length, drop, List, Ok, sym, ap, subst, ◌∙◌, arith}
 use Rattle.std.proofs.lemmas.List.{length-append, length-drop, drop-drop}
 use Rattle.std.proofs.Math.Seq.{drop-append_seam}
 use Rattle.freq_skips.specs.Terms.{place_in}
@@ -11,7 +11,7 @@ use Rattle.lu_grammar.specs.Plans.{Plan, read_plan}
 use Rattle.lu_grammar.specs.Meaning.{bytes_of}
 use Rattle.lu_grammar.proofs.Parts.{IsBytes-drop, IsBytes-back}
 use Rattle.lu_grammar.proofs.Records.{ok_pair, same_pair}
-use Rattle.lu_grammar.proofs.Plans.{ok_of, reads-read_plan}
+use Rattle.lu_grammar.proofs.Plans.{reads-read_plan}
 use Rattle.lu_grammar.proofs.Loops.{then_ok}
 use Rattle.lu_grammar.proofs.LawLemmas.{read_is_spelled}
 

@@ -3,7 +3,7 @@ use Rattle.std.proofs.Common.{◌≡◌, ◌≢◌, ℕ, zero, suc, add-one, ◌
 use Rattle.std.specs.Prelude.{nat_le}
 use Rattle.std.proofs.lemmas.Bool.{cases_eq, cases_lt}
 use Rattle.std.proofs.lemmas.Bool.Decides.{nat_tests}
-use Rattle.std.proofs.lemmas.Nat.{div-add-mod', mul-lt, pow-add}
+use Rattle.std.proofs.lemmas.Nat.{div-add-mod', pow-add}
 use Rattle.std.proofs.Math.Nat.{pow-le-pow_right, pow-le-pow_left, pow-suc, one-le-pow, div-eq_of_lt-le, div-div-eq-div-mul, le-div_iff_mul-le, div-mul-le_self, div-lt_iff_lt-mul, mod-lt, mul-le-mul_left, mul_comm, mul_assoc, mul-mod_left, eq_of_mul-eq-mul_right}
 use Rattle.freq_skips.specs.Levels.{greatest_power}
 

@@ -1,5 +1,5 @@
 -- Worked rows on the definitions.
-use Rattle.std.proofs.Common.{◌≡◌, ℕ, ◌+◌, true, false, Bool, List, [], ◌∷◌, ◌++◌, length, map, Result, Ok, Err, refl}
+use Rattle.std.proofs.Common.{◌≡◌, ℕ, true, false, Bool, List, [], ◌∷◌, ◌++◌, map, Result, Ok, Err, refl}
 use Rattle.std.specs.Prelude.{replicate}
 use Rattle.lu_grammar.specs.Parts.{groups}
 use Rattle.lu_grammar.specs.Bytes.{Cursor, start_of}

@@ -1,5 +1,5 @@
 -- What a term that was read is made of.
-use Rattle.std.proofs.Common.{◌≡◌, ℕ, List, [], Result, Ok, Err, refl, sym, ap, ◌∙◌}
+use Rattle.std.proofs.Common.{◌≡◌, List, [], Ok, sym, ap, ◌∙◌}
 use Rattle.lu_grammar.specs.Bytes.{Cursor}
 use Rattle.lu_grammar.specs.Plans.{Plan, done, and_then, read_plan}
 use Rattle.lu_grammar.specs.Meaning.{ReadsTo}

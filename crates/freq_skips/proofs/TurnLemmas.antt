@@ -1,17 +1,17 @@
 -- The terms of a file, one after another.
-use Rattle.std.proofs.Common.{◌≡◌, ◌≢◌, ℕ, ◌+◌, ◌-◌, ◌<◌, ◌≤◌, eqb, false, inl, inr, List, [], ◌∷◌, ◌++◌, length, drop, Result, Ok, Err, refl, sym, ap, subst, ◌∙◌, arith}
+use Rattle.std.proofs.Common.{◌≡◌, ℕ, ◌<◌, eqb, false, inl, inr, List, [], ◌∷◌, ◌++◌, length, drop, Result, Err, refl, ap, subst, ◌∙◌, arith}
 use Rattle.std.proofs.lemmas.Bool.{ne_eqb}
 use Rattle.std.proofs.lemmas.List.{length-drop}
 use Rattle.std.proofs.Math.Seq.{drop-length}
 use Rattle.lu_grammar.specs.declared.general.TheConstants.{TRAILING}
-use Rattle.lu_grammar.specs.Bytes.{IsBytes, Cursor, start_of, end_of}
-use Rattle.lu_grammar.specs.Plans.{Broken, read_plan, read_file}
+use Rattle.lu_grammar.specs.Bytes.{IsBytes, Cursor, start_of}
+use Rattle.lu_grammar.specs.Plans.{Broken, read_plan}
 use Rattle.lu_grammar.specs.Reading.{◌>>=◌}
 use Rattle.lu_grammar.specs.Plans.{ended}
-use Rattle.lu_grammar.specs.Meaning.{ReadsTo, Reads, FaultFrom, FirstFault}
+use Rattle.lu_grammar.specs.Meaning.{ReadsTo, Reads, FirstFault}
 use Rattle.lu_grammar.proofs.Parts.{IsBytes-drop}
-use Rattle.lu_grammar.proofs.Plans.{err_is_not_ok, ok_of, read_plan-ReadsTo, reads-read_plan}
-use Rattle.lu_grammar.proofs.Files.{read_plan-FaultFrom, FaultReads, FirstFault-from}
+use Rattle.lu_grammar.proofs.Plans.{read_plan-ReadsTo, reads-read_plan}
+use Rattle.lu_grammar.proofs.Files.{read_plan-FaultFrom, FirstFault-from}
 use Rattle.lu_grammar.proofs.Loops.{in_turn-more, in_turn-fault}
 use Rattle.lu_grammar.proofs.Records.{at}
 use Rattle.freq_skips.specs.declared.rules.Term.{Term}

@@ -1,22 +1,21 @@
 -- What a walk over a term keeps.
-use Rattle.std.proofs.Common.{◌≡◌, ◌≢◌, ℕ, zero, suc, add-one, ◌+◌, ◌-◌, ◌*◌, ◌/◌, ◌%◌, ◌^◌, ◌<◌, ◌≤◌, Bool, true, false, eqb, not, List, [], ◌∷◌, length, drop, get_or, Option, Some, None, Result, Ok, Err, inl, inr, refl, sym, ap, subst, ◌∙◌, arith}
+use Rattle.std.proofs.Common.{◌≡◌, ℕ, zero, suc, add-one, ◌+◌, ◌-◌, ◌<◌, ◌≤◌, true, List, [], ◌∷◌, length, drop, get_or, Option, Some, None, Result, Ok, Err, inl, inr, refl, sym, ap, subst, ◌∙◌, arith}
 use Rattle.lu_types.specs.declared.fault.Spot.{Spot}
 use Rattle.lu_types.specs.declared.kind.FileKind.TheVariants.{Frq}
-use Rattle.std.specs.Prelude.{MatchResult, IfOk, slice_index_or, ◌==◌, ◌&&◌}
+use Rattle.std.specs.Prelude.{MatchResult, IfOk, slice_index_or, ◌==◌}
 use Rattle.std.proofs.lemmas.List.{drop-drop, get_or-drop}
 use Rattle.std.proofs.lemmas.Bool.{cases_eq, eq-eqb, ne_eqb}
-use Rattle.lu_grammar.specs.declared.bad.Bad.{Bad}
 use Rattle.std.proofs.Math.Nat.{le-div_iff_mul-le, zero-div}
 use Rattle.lu_grammar.specs.Reading.{◌>>=◌}
 use Rattle.lu_grammar.specs.Meaning.{ReadsTo}
 use Rattle.lu_grammar.specs.Bytes.{IsBytes, Cursor}
-use Rattle.lu_grammar.specs.Records.{Shape, Condition, read_shape, judged, unless_broken, first_broken, record_at}
+use Rattle.lu_grammar.specs.Records.{Shape, Condition, record_at}
 use Rattle.lu_grammar.specs.Plans.{Plan, due, broken_at, read_plan}
 use Rattle.lu_grammar.proofs.Records.{ok_pair, same_pair}
 use Rattle.lu_grammar.proofs.Plans.{ok_of, err_is_not_ok, read_plan-ReadsTo}
 use Rattle.freq_skips.specs.declared.rules.Term.{Term}
 use Rattle.freq_skips.specs.declared.datum.Point.{Point}
-use Rattle.freq_skips.specs.Records.{Record, entry_shape, datum_shape, length_shape, length_of}
+use Rattle.freq_skips.specs.Records.{entry_shape, datum_shape, length_shape, length_of}
 use Rattle.freq_skips.specs.Entries.{Posting, AreEntries, entries, postings_from, entry_conditions}
 use Rattle.freq_skips.specs.Levels.{Along, no_point, level_of, level_count, stride, data_count, wanted, datum_conditions, length_conditions, level_data, level_plan, levels, AreData}
 use Rattle.freq_skips.specs.Terms.{TermData, IsGoodTerm, IsTermFault, term_plan, place_in}

@@ -1,5 +1,5 @@
 -- What is wanted of a datum is what the walks show.
-use Rattle.std.proofs.Common.{◌≡◌, ℕ, suc, add-one, ◌+◌, ◌-◌, ◌*◌, ◌^◌, ◌<◌, ◌≤◌, Bool, true, false, List, [], ◌∷◌, length, Option, Some, None, refl, sym, ap, subst, ◌∙◌, arith}
+use Rattle.std.proofs.Common.{◌≡◌, ℕ, suc, ◌-◌, ◌*◌, ◌<◌, Bool, true, false, List, [], ◌∷◌, length, Option, Some, None, refl, sym, ap, ◌∙◌, arith}
 use Rattle.std.specs.Option.{is_some}
 use Rattle.std.specs.Prelude.{not, slice_index_or, ◌==◌, ◌&&◌}
 use Rattle.std.proofs.lemmas.Bool.{ne_eqb}
@@ -8,8 +8,8 @@ use Rattle.freq_skips.specs.declared.rules.Term.{Term}
 use Rattle.freq_skips.specs.declared.datum.Point.{Point}
 use Rattle.freq_skips.specs.declared.datum.Wanted.{Wanted}
 use Rattle.freq_skips.specs.declared.following.Following.{Following}
-use Rattle.freq_skips.specs.Entries.{Posting, no_posting, posting_of, postings_from, AreEntries, Stands}
-use Rattle.freq_skips.specs.Levels.{level_of, stride, child_above, length_at, is_first_datum, wanted}
+use Rattle.freq_skips.specs.Entries.{Posting, no_posting, postings_from, AreEntries, Stands}
+use Rattle.freq_skips.specs.Levels.{level_of, stride, child_above, length_at, wanted}
 use Rattle.freq_skips.specs.Walking.{FollowsAbove}
 use Rattle.freq_skips.proofs.EntryLemmas.{Stands-again, posting-is}
 

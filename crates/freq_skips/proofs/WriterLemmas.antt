@@ -1,6 +1,6 @@
 -- One datum more of a level that is written.
-use Rattle.std.proofs.Common.{◌≡◌, ◌≢◌, ℕ, zero, suc, add-one, ◌+◌, ◌-◌, ◌*◌, ◌%◌, ◌^◌, ◌<◌, ◌≤◌, eqb, Bool, true, false, List, [], ◌∷◌, ◌++◌, length, get_or, Option, None, Some, inl, inr, ◌/◌, refl, sym, ap, subst, ◌∙◌, append_assoc, arith}
-use Rattle.std.specs.Prelude.{◌⊎◌, OnOk, Result, Ok, Err, slice_index, slice_index_or, ◌==◌, if◌then◌else◌}
+use Rattle.std.proofs.Common.{◌≡◌, ◌≢◌, ℕ, zero, suc, add-one, ◌+◌, ◌-◌, ◌*◌, ◌%◌, ◌^◌, ◌<◌, ◌≤◌, eqb, true, false, List, [], ◌∷◌, ◌++◌, length, Option, inl, inr, ◌/◌, refl, sym, ap, subst, ◌∙◌, append_assoc, arith}
+use Rattle.std.specs.Prelude.{◌⊎◌, OnOk, Result, Ok, Err, slice_index_or}
 use Rattle.std.proofs.lemmas.Bool.{cases_eq, cases_lt, eq-eqb, ne_eqb}
 use Rattle.std.proofs.Math.ListN.{get_or-append}
 use Rattle.std.proofs.Math.Seq.{get_or-append_seam}
@@ -149,3 +149,7 @@ AreWithin-same marks size more h le k lt = let old = h k lt in (old.0, omega (ar
 pub order-more : (count doc n d next : ℕ) → (count ≡ 0) ⊎ (doc < next) → n ≡ count → d ≡ doc → n ≤ d + 1 → n + 1 ≤ next + 1
 order-more count doc n d next (inl e) a b le = omega arith
 order-more count doc n d next (inr lt) a b le = omega arith
+
+pub data_bytes-more : (r : Rise) (m : ℕ) → data_bytes r (suc m) ≡ data_bytes r m ++ datum_bytes (written_skip r m)
+unfolding data_bytes
+data_bytes-more r m = refl

@@ -24,6 +24,7 @@ pub record Passed : Type 0 where
   pub doc : ℕ
   pub postings : List Posting
 
+-- before the first entry
 abbrev pub no_entry : Passed
 no_entry = record { doc = 0; postings = [] }
 
@@ -58,6 +59,7 @@ entry_conditions t first last place r =
 abbrev pub with_posting : Passed → Posting → Passed
 with_posting s p = record { doc = p.doc; postings = s.postings ++ p ∷ [] }
 
+-- the entries of a term, which differ by what those before stand for
 abbrev pub entry_kind : Term → Kind Passed Record
 entry_kind t = record {
   shape = λ s. entry_shape t;

@@ -1,12 +1,10 @@
 -- The skip levels of a term: which data each has, to which entries they belong, and what they must meet.
-use Rattle.std.specs.Prelude.{◌≡◌, ◌≤◌, Result, Ok, ℕ, zero, suc, ◌+◌, ◌-◌, ◌*◌, ◌/◌, ◌%◌, ◌^◌, Bool, not, List, [], ◌∷◌, ◌++◌, length, Option, Some, None, nat_le, ◌==◌, ◌&&◌, if◌then◌else◌, slice_index_or}
+use Rattle.std.specs.Prelude.{◌≡◌, ◌≤◌, Ok, ℕ, zero, suc, ◌+◌, ◌-◌, ◌*◌, ◌/◌, ◌%◌, ◌^◌, Bool, not, List, [], ◌∷◌, ◌++◌, length, Option, Some, None, nat_le, ◌==◌, ◌&&◌, if◌then◌else◌, slice_index_or}
 use Rattle.lu_types.specs.declared.rules.TheConstants.{SKIP_START, SKIP_DOC, SKIP_FREQ, SKIP_OMIT, SKIP_CHILD, SKIP_LENGTH}
-use Rattle.lu_grammar.specs.Parts.{vlong, spelling}
 use Rattle.lu_grammar.specs.Records.{Condition}
 use Rattle.lu_grammar.specs.Bytes.{Cursor}
 use Rattle.lu_grammar.specs.Plans.{Plan, done, due, and_then, Kind, times, read_plan}
 use Rattle.freq_skips.specs.declared.rules.Term.{Term}
-use Rattle.freq_skips.specs.declared.datum.Skip.{Skip}
 use Rattle.freq_skips.specs.declared.datum.Wanted.{Wanted}
 use Rattle.freq_skips.specs.declared.datum.Point.{Point}
 use Rattle.freq_skips.specs.Records.{Record, length_of, skip_of, length_shape, datum_shape, length_to_child, datum_length}
@@ -42,6 +40,7 @@ pub record Along : Type 0 where
   pub last : Point
   pub points : List Point
 
+-- before the first datum
 abbrev pub no_datum : Along
 no_datum = record { last = no_point; points = [] }
 
@@ -74,6 +73,7 @@ abbrev pub differs : Option ℕ → ℕ → Bool
 differs None n = nat_le 1 0
 differs (Some m) n = not (m == n)
 
+-- the first record of the skip data is to stand as far behind the first entry as the dictionary says
 abbrev pub skip_start : Term → Bool → ℕ → Condition
 skip_start t first place = record { rule = SKIP_START; broken = first && not (place == t.info.freq + t.info.skip) }
 
@@ -122,6 +122,7 @@ point_of t last place r = record {
 abbrev pub with_point : Along → Point → Along
 with_point s p = record { last = p; points = s.points ++ p ∷ [] }
 
+-- the data of a level, which differ by those before
 abbrev pub datum_kind : Term → List Posting → Level → Kind Along Record
 datum_kind t postings l = record {
   shape = λ s. datum_shape t l.number;
@@ -137,6 +138,7 @@ level_data t postings l = times (datum_kind t postings l) (data_count t l.number
 abbrev pub length_conditions : Term → Level → ℕ → Record → List Condition
 length_conditions t l place r = skip_start t (length l.above == 0) place ∷ []
 
+-- a level by its parts
 abbrev pub level_of : ℕ → Option ℕ → List (List Point) → Level
 level_of number stated above = record { number = number; stated = stated; above = above }
 

@@ -57,9 +57,11 @@ states_frequency t delta = not t.rules.omit_tf && not (is_odd delta)
 abbrev pub states_payload : Term → ℕ → Bool
 states_payload t doc = t.rules.payloads && is_odd doc
 
+-- an entry is a delta, and a frequency where one follows
 abbrev pub entry_shape : Term → Shape Record
 entry_shape t = part vint (λ delta. optional (states_frequency t delta) (alone num) (λ stated. whole (entry delta stated)))
 
+-- the length of a level
 abbrev pub length_shape : Shape Record
 length_shape = part vlong (λ n. whole (level_length n))
 

@@ -1,5 +1,5 @@
 -- A term's part of `.frq`, and the whole file.
-use Rattle.std.specs.Prelude.{◌≡◌, ◌≤◌, ℕ, List, [], length, drop}
+use Rattle.std.specs.Prelude.{◌≤◌, ℕ, List, [], length, drop}
 use Rattle.lu_types.specs.declared.term.TermInfo.{TermInfo}
 use Rattle.freq_skips.specs.declared.datum.Point.{Point}
 use Rattle.freq_skips.specs.declared.rules.TermRules.{TermRules}
@@ -28,6 +28,7 @@ frq_plan terms = in_turn term_plan terms
 abbrev pub place_in : List ℕ → ℕ → Cursor
 place_in bytes place = record { place = place; rest = drop place bytes }
 
+-- a term by the line of the dictionary and the rules
 abbrev pub term_of : TermInfo → TermRules → Term
 term_of info rules = record { info = info; rules = rules }
 

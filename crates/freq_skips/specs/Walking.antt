@@ -1,5 +1,5 @@
 -- What the walks of the check keep: where they stand in the level above.
-use Rattle.std.specs.Prelude.{◌≡◌, ◌≤◌, ◌<◌, ◌^◌, ℕ, ◌/◌, List, [], ◌∷◌, Option, Some, None, Ok, length}
+use Rattle.std.specs.Prelude.{◌≡◌, ◌≤◌, ℕ, ◌/◌, List, [], ◌∷◌, Option, Some, None, Ok, length}
 use Rattle.lu_grammar.specs.Bytes.{Cursor}
 use Rattle.lu_grammar.specs.Plans.{read_plan}
 use Rattle.freq_skips.specs.declared.rules.Term.{Term}
@@ -36,6 +36,7 @@ pub record StandPoints (t : Term) (postings : List Posting) (level : ℕ) (point
   pub end : Cursor
   pub all : AreData t postings (level_of level stated rest) (place_in frq place) points end
 
+-- there is a level above exactly where there are points
 abbrev pub StandAbove : Term → List Posting → ℕ → List (List Point) → List ℕ → Option ℕ → Type 0
 StandAbove t postings level [] frq None = Unit {0}
 StandAbove t postings level [] frq (Some place) = ⊥

@@ -1,5 +1,5 @@
 -- A walk over a term: its entries in order, and with each the data that belong to it.
-use Rattle.std.specs.Prelude.{◌≡◌, ◌≢◌, ◌⊎◌, ◌<◌, ◌≤◌, ◌+◌, ◌-◌, ◌/◌, ◌%◌, ℕ, List, [], Option, Some, None, Result, Ok, Err, length, nat_lt, ◌==◌, ◌&&◌, if◌then◌else◌, slice_index_or}
+use Rattle.std.specs.Prelude.{◌≡◌, ◌≢◌, ◌⊎◌, ◌<◌, ◌≤◌, ◌-◌, ◌/◌, ◌%◌, ℕ, List, [], Option, Some, None, Result, Ok, Err, length, slice_index_or}
 use Rattle.lu_grammar.specs.Bytes.{Cursor}
 use Rattle.lu_grammar.specs.Plans.{Broken, read_plan}
 use Rattle.freq_skips.specs.declared.rules.Term.{Term}
@@ -43,6 +43,7 @@ abbrev pub read_value : Result (TermData × Cursor) Broken → TermData
 read_value (Ok x) = x.0
 read_value (Err b) = record { postings = []; levels = [] }
 
+-- what a term that is good and starts here stands for
 abbrev pub value_from : Term → Cursor → TermData
 value_from t start = read_value (read_plan (term_plan t) start)
 

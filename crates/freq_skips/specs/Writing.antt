@@ -1,8 +1,11 @@
 -- A writer of `.frq`, and what it does with each entry that it is handed.
-use Rattle.std.specs.Prelude.{◌≡◌, ◌<◌, ◌≤◌, ℕ, suc, ◌+◌, ◌-◌, ◌*◌, ◌/◌, ◌%◌, Bool, List, [], ◌∷◌, ◌++◌, length, ◌==◌, if◌then◌else◌, slice_index_or}
+use Rattle.std.specs.Prelude.{◌≡◌, ◌≢◌, ◌^◌, true, ◌<◌, ◌≤◌, ℕ, suc, ◌+◌, ◌-◌, ◌*◌, ◌/◌, ◌%◌, Bool, List, [], ◌∷◌, ◌++◌, length, ◌==◌, if◌then◌else◌, slice_index_or}
+use Rattle.freq_skips.specs.declared.rules.Term.{Term}
 use Rattle.freq_skips.specs.declared.writer.Mark.{Mark}
-use Rattle.freq_skips.specs.Levels.{greatest_power}
-use Rattle.freq_skips.specs.Written.{Handed, canonical_parts, entry_parts_bytes, entries_bytes, last_doc, mark_of, no_mark, lowest, skip_bytes}
+use Rattle.freq_skips.specs.declared.datum.Point.{Point}
+use Rattle.freq_skips.specs.Levels.{greatest_power, level_count, stride, data_count, no_point}
+use Rattle.freq_skips.specs.Terms.{TermData}
+use Rattle.freq_skips.specs.Written.{Handed, no_handed, AreInOrder, canonical_parts, entry_parts_bytes, entries_bytes, last_doc, written_postings, mark_of, no_mark, lowest, skip_bytes}
 
 -- a writer: the interval and the most levels; the bytes of the file so far; of the term that is begun whether its field has no frequencies, whether it has payloads, and where it starts;
 -- how many entries it has, the document of the last, and the marks of its lowest level
@@ -65,3 +68,33 @@ pub record IsWriting (w : WriterState) (written : List ℕ) (handed : List Hande
   pub doc : w.doc ≡ last_doc 0 handed
   pub mark_count : length w.marks ≡ w.count / w.interval
   pub marks : (j : ℕ) → j < length w.marks → slice_index_or w.marks j no_mark ≡ mark_of w.omit handed (suc j * w.interval - 1)
+
+-- the bytes of positions do not fall from entry to entry
+abbrev pub IsRisingProx : List Handed → Type 0
+IsRisingProx handed = (j k : ℕ) → j ≤ k → k < length handed → ((slice_index_or handed j no_handed).prox ≤ (slice_index_or handed k no_handed).prox) × ((slice_index_or handed k no_handed).prox < 2 ^ 31)
+
+-- the term that a writer is to finish: what the dictionary is to say of it, in a segment with so many documents
+abbrev pub term_written : WriterState → List ℕ → List Handed → ℕ → ℕ → ℕ → ℕ → Term
+term_written w written handed documents field prox skip = record {
+  info = record { field = field; doc_freq = length handed; freq = length written; prox = prox; skip = skip };
+  rules = record { documents = documents; skip_interval = w.interval; max_levels = w.most; omit_tf = w.omit; payloads = w.payloads };
+}
+
+-- what a writer may finish: entries in order of documents below so many, with bytes of positions that do not fall
+pub record IsFinishable (w : WriterState) (written : List ℕ) (handed : List Handed) (documents skip : ℕ) : Type 0 where
+  pub interval : 2 ≤ w.interval
+  pub writing : IsWriting w written handed
+  pub order : AreInOrder documents true 0 handed
+  pub prox : IsRisingProx handed
+  pub small : length w.bytes < 2 ^ 31
+  pub skips_small : length (skip_bytes (levels_due w) (lowest w.payloads w.marks w.interval)) < 2 ^ 63
+  pub skip_is : levels_due w ≢ 0 → skip ≡ length w.bytes - w.start
+
+-- a datum leads where a mark does, and no payload length is carried there
+abbrev pub LeadsTo : Point → Mark → Type 0
+LeadsTo p k = (p.doc ≡ k.doc) × (p.freq ≡ k.freq) × (p.prox ≡ k.prox) × (p.payload ≡ 0)
+
+-- what a term's bytes stand for is what was handed over: these postings, and on each level, for each datum, the mark of the entry that it belongs to
+pub record IsAsHanded (t : Term) (handed : List Handed) (value : TermData) : Type 0 where
+  pub postings : value.postings ≡ written_postings t.rules.omit_tf t.info.freq 0 handed
+  pub leads : (n m : ℕ) → n < level_count t → m < data_count t n → LeadsTo (slice_index_or (slice_index_or value.levels n []) m no_point) (mark_of t.rules.omit_tf handed (suc m * stride t n - 1))

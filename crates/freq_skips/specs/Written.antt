@@ -1,10 +1,9 @@
 -- The one canonical spelling of entries and skip data.
-use Rattle.std.specs.Prelude.{◌≡◌, ◌⊎◌, ◌<◌, ◌≤◌, ◌^◌, ℕ, zero, suc, ◌+◌, ◌-◌, ◌*◌, ◌/◌, ◌%◌, Bool, List, [], ◌∷◌, ◌++◌, length, take, Option, Some, None, ◌==◌, if◌then◌else◌, slice_index_or, slice_index}
+use Rattle.std.specs.Prelude.{◌<◌, ◌≤◌, ◌^◌, ℕ, zero, suc, ◌+◌, ◌-◌, ◌*◌, ◌/◌, ◌%◌, Bool, false, List, [], ◌∷◌, ◌++◌, length, take, Option, Some, None, ◌==◌, if◌then◌else◌, slice_index_or, slice_index}
 use Rattle.lu_grammar.specs.Parts.{Part, Value, vint, num, vlong, spelling}
 use Rattle.freq_skips.specs.declared.datum.Skip.{Skip}
 use Rattle.freq_skips.specs.declared.writer.Mark.{Mark}
-use Rattle.freq_skips.specs.Records.{length_to_child}
-use Rattle.freq_skips.specs.Levels.{greatest_power}
+use Rattle.freq_skips.specs.Entries.{Posting}
 
 -- a number that may be there
 abbrev pub optional_bytes : (p : Part) → Option (Value p) → List ℕ
@@ -17,6 +16,7 @@ pub record Handed : Type 0 where
   pub freq : ℕ
   pub prox : ℕ
 
+-- no entry
 abbrev pub no_handed : Handed
 no_handed = record { doc = 0; freq = 0; prox = 0 }
 
@@ -24,6 +24,7 @@ no_handed = record { doc = 0; freq = 0; prox = 0 }
 abbrev pub canonical_parts : Bool → ℕ → ℕ → ℕ × Option ℕ
 canonical_parts omit gap freq = if omit then (gap, None) else (if freq == 1 then (2 * gap + 1, None) else (2 * gap, Some freq))
 
+-- the bytes of a delta and a frequency that may be stated
 abbrev pub entry_parts_bytes : ℕ → Option ℕ → List ℕ
 entry_parts_bytes delta stated = spelling vint delta ++ optional_bytes num stated
 
@@ -49,6 +50,7 @@ mark_of omit handed k = record {
   prox = if omit then 0 else (slice_index_or handed k no_handed).prox;
 }
 
+-- before the first datum
 abbrev pub no_mark : Mark
 no_mark = record { doc = 0; freq = 0; prox = 0 }
 
@@ -66,6 +68,7 @@ skip_between payloads from to child = record {
 abbrev pub front_bytes : Skip → List ℕ
 front_bytes d = spelling vint d.doc ++ optional_bytes num d.payload ++ spelling num d.freq ++ spelling num d.prox
 
+-- all bytes of a datum
 abbrev pub datum_bytes : Skip → List ℕ
 datum_bytes d = front_bytes d ++ optional_bytes vlong d.child
 
@@ -130,5 +133,16 @@ AreSmallMarks marks = (k : ℕ) → k < length marks → ((slice_index_or marks 
 abbrev pub AreSmallPlaces : List ℕ → Type 0
 AreSmallPlaces places = (k : ℕ) → slice_index places k < 2 ^ 63
 
+-- a level by its parts
 abbrev pub rise_of : Bool → List Mark → ℕ → ℕ → ℕ → List ℕ → Rise
 rise_of payloads marks interval number step children = record { payloads = payloads; marks = marks; interval = interval; number = number; step = step; children = children }
+
+-- the postings of entries that start at a place, after a document
+abbrev pub written_postings : Bool → ℕ → ℕ → List Handed → List Posting
+written_postings omit place last [] = []
+written_postings omit place last (h ∷ hs) = (record { doc = h.doc; freq = if omit then 1 else h.freq; before = last; place = place }) ∷ written_postings omit (place + length (entry_bytes omit last h)) h.doc hs
+
+-- entries that may be handed over in a segment with so many documents: each document is above the one before, but for the first
+abbrev pub AreInOrder : ℕ → Bool → ℕ → List Handed → Type 0
+AreInOrder documents first last [] = Unit {0}
+AreInOrder documents first last (h ∷ hs) = (last + (if first then 0 else 1) ≤ h.doc) × (h.doc < documents) × (h.doc < 2 ^ 31) × (1 ≤ h.freq) × (h.freq < 2 ^ 31) × AreInOrder documents false h.doc hs

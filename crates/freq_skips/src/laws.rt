@@ -1,9 +1,11 @@
 //! Laws on the terms of a file.
-ghost use Rattle.std.specs.Prelude.{◌<◌, ℕ, List, [], ◌∷◌, ◌++◌, length};
+ghost use Rattle.std.specs.Prelude.{◌≡◌, ◌<◌, ◌≤◌, Bool, ℕ, List, [], ◌∷◌, ◌++◌, length};
 ghost use Rattle.lu_grammar.specs.declared.general.TheConstants.{TRAILING};
 ghost use Rattle.lu_grammar.specs.Bytes.{IsBytes};
 ghost use Rattle.lu_grammar.specs.Meaning.{Reads, ReadsTo, FirstFault};
 ghost use Rattle.freq_skips.specs.declared.rules.Term.{Term};
+ghost use Rattle.freq_skips.specs.Written.{Handed};
+ghost use Rattle.freq_skips.specs.Writing.{WriterState, begun, added, finished, term_written, IsWriting, IsFinishable, IsAsHanded};
 ghost use Rattle.freq_skips.specs.Terms.{TermData, IsTermFault, AreTermsUpTo, term_plan, frq_plan, place_in};
 
 /// The terms of a file in turn: where each is good from where the one before ends, and the file ends with the last, the bytes
@@ -16,4 +18,14 @@ pub fn terms_in_turn()
     ensures fault { (terms : List Term) (t : Term) (rest : List Term) (frq : List ℕ) (place offset rule : ℕ) → IsBytes frq → AreTermsUpTo terms frq place
         → IsTermFault t (place_in frq place) offset rule → FirstFault (frq_plan (terms ++ t ∷ rest)) frq offset rule }
     ensures trailing { (terms : List Term) (frq : List ℕ) (place : ℕ) → IsBytes frq → AreTermsUpTo terms frq place → place < length frq → FirstFault (frq_plan terms) frq place TRAILING }
+{}
+
+/// What a writer does: it begins with nothing handed over; with each entry it holds what was handed over and that entry; and the
+/// term that it finishes, of entries in order, is good in the file, whatever follows, and stands for what was handed over.
+pub fn what_is_written()
+    ensures begun { (w : WriterState) (omit payloads : Bool) → IsWriting (begun w omit payloads) w.bytes [] }
+    ensures added { (w : WriterState) (written : List ℕ) (handed : List Handed) (h : Handed) → 2 ≤ w.interval → IsWriting w written handed → IsWriting (added w h) written (handed ++ h ∷ []) }
+    ensures finished { (w : WriterState) (written : List ℕ) (handed : List Handed) (documents field prox skip : ℕ) (frq rest : List ℕ) → IsFinishable w written handed documents skip → frq ≡ (finished w).bytes ++ rest → IsBytes frq
+        → (value : TermData) × IsAsHanded (term_written w written handed documents field prox skip) handed value
+        × ReadsTo (term_plan (term_written w written handed documents field prox skip)) (place_in frq (length written)) value (place_in frq (length (finished w).bytes)) }
 {}

@@ -18,7 +18,7 @@ mod writer;
 pub use check::check_term;
 pub use entries::Entries;
 pub use entry::Entry;
-pub use laws::terms_in_turn;
+pub use laws::{terms_in_turn, what_is_written};
 pub use rules::TermRules;
 pub use skip_point::SkipPoint;
 pub use walk::{Datum, Walk, Walked};

@@ -271,6 +271,127 @@ fn two_entries(rt: &impl Abort) {
     );
 }
 
+/// Numbers drawn one after another.
+#[derive(Drop)]
+struct Draw {
+    state: u64,
+}
+
+impl Draw {
+    fn below(&mut self, limit: u32) -> u32
+        requires { 0 < limit }
+        ensures { result < limit }
+    {
+        self.state = self
+            .state
+            .wrapping_mul(6_364_136_223_846_793_005)
+            .wrapping_add(1_442_695_040_888_963_407);
+        ((self.state >> 33) % u64::from(limit)) as u32
+    }
+}
+
+/// An entry that was drawn: its document, the bytes of the entries before, and those of their positions.
+#[derive(Clone, Copy)]
+struct Drawn {
+    doc: u32,
+    place: usize,
+    prox: u32,
+}
+
+/// The datum of a level for the entry with an index, computed from the entries.
+fn computed(drawn: &[Drawn], rules: &TermRules, index: usize, level: u32) -> Option<Datum> {
+    let interval = u64::from(rules.skip_interval);
+    let mut power = 1u64;
+    let mut stride = 0u64;
+    for turn in 0..=level.min(40) {
+        power = power.saturating_mul(interval);
+        if turn < rules.max_levels && power <= drawn.len() as u64 {
+            stride = power;
+        } else {
+            return None;
+        }
+    }
+    if (index as u64).saturating_add(1).checked_rem(stride) != Some(0) {
+        return None;
+    }
+    let before = drawn.get(index.checked_sub(1)?)?;
+    let entry = drawn.get(index)?;
+    Some(Datum {
+        doc: before.doc,
+        freq: u32::try_from(entry.place).ok()?,
+        prox: if rules.omit_tf {
+            0
+        } else {
+            u64::from(entry.prox)
+        },
+        payload: 0,
+    })
+}
+
+/// A term that is drawn is written, accepted, and walked.
+fn draws(rt: &impl Abort, alloc: Global, draw: &mut Draw) -> Result<(), Fail> {
+    let intervals = [2, 3, 4, 16];
+    let interval = intervals[draw.below(4) as usize];
+    let rules = TermRules {
+        documents: 10_000,
+        skip_interval: interval,
+        max_levels: 1 + draw.below(10),
+        omit_tf: draw.below(4) == 0,
+        payloads: draw.below(3) == 0,
+    };
+    assert!(rt; rules.skip_interval > 1);
+    let count = 1 + draw.below(150);
+    let mut writer = FreqWriter::new(alloc, rules.skip_interval, rules.max_levels)?;
+    writer.start(rules.omit_tf, rules.payloads);
+    let mut drawn: Vec<Drawn> = Vec::new(alloc);
+    let mut next = 0;
+    let mut prox = 0u32;
+    for _turn in 0..count {
+        let doc = next + draw.below(6);
+        drawn.push(Drawn {
+            doc,
+            place: writer.len(),
+            prox,
+        })?;
+        writer.add(doc, 1 + draw.below(3), prox)?;
+        next = doc + 1;
+        prox = prox.saturating_add(draw.below(9));
+    }
+    assert!(rt; writer.len() < 1 << 31);
+    let skip = writer.finish_term()?;
+    let bytes = writer.finish();
+    let term = info(count, skip);
+    assert!(rt; bytes.len() < 1 << 31);
+    assert!(rt; checked(&bytes, &term, &rules) == Ok(bytes.len()));
+    walks(rt, &bytes, &term, &rules, &drawn);
+    Ok(())
+}
+
+/// A walk gives each datum of a term as it is computed from the entries.
+fn walks(rt: &impl Abort, frq: &[u8], info: &TermInfo, rules: &TermRules, drawn: &[Drawn])
+    requires interval { 2 ≤ rules.now.skip_interval }
+    requires some { 0 < info.now.doc_freq }
+    requires within { info.now.freq ≤ length frq.now }
+    requires small { length frq.now < 2 ^ 32 }
+{
+    if check_term(frq, info.freq as usize, info, rules).is_err() {
+        assert!(rt; false);
+        return;
+    }
+    let mut walk = Walk::at(frq, info, rules);
+    for index in 0..info.doc_freq {
+        let walked = walk.next();
+        assert!(rt; walked.map(|walked| walked.index) == Some(index));
+        for level in 0..11 {
+            assert!(rt;
+                walk.datum(level) == computed(drawn, rules, index as usize, level),
+                "entry {index}, level {level}"
+            );
+        }
+    }
+    assert!(rt; walk.next() == None);
+}
+
 #[test]
 fn terms(rt: HostRuntime) -> Result<(), Fail> {
     let alloc = rt.alloc();
@@ -279,5 +400,9 @@ fn terms(rt: HostRuntime) -> Result<(), Fail> {
     refuses(&rt, alloc)?;
     reads(&rt, alloc)?;
     two_entries(&rt);
+    let mut draw = Draw { state: 5 };
+    for _turn in 0..300 {
+        draws(&rt, alloc, &mut draw)?;
+    }
     Ok(())
 }

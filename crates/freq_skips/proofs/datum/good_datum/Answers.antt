@@ -1,4 +1,4 @@
-use Rattle.std.proofs.Common.{◌≡◌, ℕ, sym, ap, ◌∙◌}
+use Rattle.std.proofs.Common.{ℕ, sym, ap, ◌∙◌}
 use Rattle.freq_skips.specs.Records.{Record, datum}
 use Rattle.freq_skips.specs.Levels.{point_of}
 use Rattle.freq_skips.proofs.datum.good_datum.Goals as goal

@@ -1,4 +1,4 @@
-use Rattle.std.proofs.Common.{◌≡◌, ℕ, ◌+◌, ◌^◌, ◌<◌, rules, None, Option, refl, sym, ap, ◌∙◌, arith}
+use Rattle.std.proofs.Common.{ℕ, ◌+◌, ◌^◌, ◌<◌, rules, refl, sym, ap, ◌∙◌}
 use Rattle.lu_grammar.specs.Records.{first_broken}
 use Rattle.lu_grammar.proofs.Records.{record_at-read, record_at-breaks, record_at-unread}
 use Rattle.freq_skips.specs.Records.{Record, entry, entry_shape}

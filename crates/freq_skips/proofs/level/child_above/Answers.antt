@@ -1,4 +1,3 @@
-use Rattle.std.proofs.Common.{arith}
 use Rattle.freq_skips.proofs.AboveLemmas.{above-skips, above-passes}
 use Rattle.freq_skips.proofs.level.child_above.Goals as goal
 

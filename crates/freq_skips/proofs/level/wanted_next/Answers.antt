@@ -1,5 +1,5 @@
-use Rattle.std.proofs.Common.{◌≡◌, ℕ, suc, add-one, ◌*◌, ◌-◌, ◌<◌, ◌≤◌, Option, arith, refl, sym, subst, ap, ◌∙◌}
-use Rattle.freq_skips.specs.Entries.{postings_from, Stands}
+use Rattle.std.proofs.Common.{ℕ, suc, add-one, ◌*◌, ◌-◌, ◌<◌, arith, refl, sym, subst, ap, ◌∙◌}
+use Rattle.freq_skips.specs.Entries.{postings_from}
 use Rattle.freq_skips.specs.Walking.{FollowsAbove}
 use Rattle.freq_skips.proofs.Powers.{power-pos, stride-next, stride-passed}
 use Rattle.freq_skips.proofs.WantedLemmas.{posting-at, highest-is, wanted-is}

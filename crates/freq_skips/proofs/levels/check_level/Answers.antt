@@ -1,7 +1,7 @@
-use Rattle.std.proofs.Common.{suc, ◌∙◌}
+use Rattle.std.proofs.Common.{suc}
 use Rattle.freq_skips.specs.Entries.{postings_from}
 use Rattle.freq_skips.specs.Terms.{place_in}
-use Rattle.freq_skips.proofs.LengthLemmas.{none_above, IsGoodLevel-data}
+use Rattle.freq_skips.proofs.LengthLemmas.{none_above}
 use Rattle.freq_skips.proofs.levels.check_level.Goals as goal
 
 pub returns-in-Err : goal.returns-in-Err

@@ -1,6 +1,4 @@
-use Rattle.std.proofs.Common.{◌≡◌, ℕ, suc, ◌-◌, ◌≤◌, List, [], ◌∷◌, Some, length, arith, refl, sym, ap, subst, ◌∙◌}
-use Rattle.lu_grammar.specs.Plans.{read_plan}
-use Rattle.freq_skips.specs.declared.datum.Point.{Point}
+use Rattle.std.proofs.Common.{◌≡◌, ℕ, suc, ◌-◌, ◌∷◌, arith, subst, ◌∙◌}
 use Rattle.freq_skips.specs.Entries.{postings_from}
 use Rattle.freq_skips.specs.Terms.{place_in}
 use Rattle.freq_skips.specs.Walking.{StandAbove}

@@ -1,4 +1,4 @@
-use Rattle.std.proofs.Common.{◌≡◌, ℕ, [], ◌∷◌, sym, ap, ◌∙◌, rules}
+use Rattle.std.proofs.Common.{ℕ, [], ◌∷◌, sym, ap, ◌∙◌, rules}
 use Rattle.lu_grammar.specs.Records.{first_broken}
 use Rattle.lu_grammar.proofs.Records.{record_at-read, record_at-breaks, record_at-unread}
 use Rattle.freq_skips.specs.Records.{level_length, length_shape}

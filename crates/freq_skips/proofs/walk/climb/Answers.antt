@@ -1,10 +1,9 @@
-use Rattle.std.proofs.Common.{◌≡◌, ◌≢◌, ℕ, suc, add-one, ◌+◌, ◌*◌, ◌/◌, ◌%◌, ◌^◌, ◌<◌, ◌≤◌, inl, inr, List, length, set, get_or, get_or-set_same, get_or-set_other, below_more, refl, sym, subst, ap, ◌∙◌, arith}
+use Rattle.std.proofs.Common.{◌≡◌, ◌≢◌, ℕ, add-one, ◌+◌, ◌*◌, ◌/◌, ◌^◌, ◌<◌, inl, inr, List, length, set, get_or, get_or-set_same, get_or-set_other, below_more, refl, sym, subst, ap, ◌∙◌, arith}
 use Rattle.std.proofs.lemmas.Bool.{cases_lt}
 use Rattle.std.proofs.Math.ListN.{length-set}
 use Rattle.std.proofs.Math.Nat.{pow-suc}
 use Rattle.freq_skips.specs.declared.walk.Rung.{Rung}
 use Rattle.freq_skips.specs.Entries.{postings_from}
-use Rattle.freq_skips.specs.Levels.{level_count}
 use Rattle.freq_skips.specs.Walks.{IsOnLevel, IsFresh, no_rung, start_in, points_in}
 use Rattle.freq_skips.proofs.Powers.{divides-next, divides-power, divides-not}
 use Rattle.freq_skips.proofs.RungLemmas.{IsOnLevel-same}

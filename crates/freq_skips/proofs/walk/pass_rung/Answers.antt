@@ -1,7 +1,6 @@
-use Rattle.std.proofs.Common.{◌≡◌, ℕ, ◌^◌, ◌<◌, sym, subst, arith}
+use Rattle.std.proofs.Common.{ℕ, ◌^◌, ◌<◌, sym, subst, arith}
 use Rattle.lu_grammar.specs.Bytes.{Cursor}
 use Rattle.freq_skips.specs.Entries.{postings_from}
-use Rattle.freq_skips.specs.Terms.{place_in}
 use Rattle.freq_skips.specs.Walks.{start_in, points_in}
 use Rattle.freq_skips.proofs.Powers.{stride-two, quotient-half}
 use Rattle.freq_skips.proofs.RungLemmas.{TakesNext, IsOnLevel-next, IsFresh-next}

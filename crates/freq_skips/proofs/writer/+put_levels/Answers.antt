@@ -1,4 +1,4 @@
-use Rattle.std.proofs.Common.{◌≡◌, ℕ, suc, add-one, ◌+◌, ◌-◌, ◌*◌, ◌^◌, ◌<◌, ◌≤◌, ◌≢◌, ◌⊎◌, inl, inr, [], ◌++◌, List, length, rules, refl, sym, ap, subst, ◌∙◌, append_assoc, arith}
+use Rattle.std.proofs.Common.{◌≡◌, ℕ, suc, add-one, ◌+◌, ◌-◌, ◌*◌, ◌^◌, ◌<◌, ◌≤◌, ◌≢◌, ◌⊎◌, inl, inr, ◌++◌, List, rules, sym, ap, subst, ◌∙◌, append_assoc, arith}
 use Rattle.std.proofs.lemmas.List.{append-nil}
 use Rattle.freq_skips.specs.Written.{Rise, rise_of, rise_count, risen, data_bytes, places_after, skip_bytes, with_length, AreSmallPlaces}
 use Rattle.freq_skips.proofs.WriterLemmas.{skip_bytes-none, skip_bytes-next, OnOk-then, step-fits, step-next, step-pos, places-enough}

@@ -1,7 +1,7 @@
-use Rattle.std.proofs.Common.{◌≡◌, ℕ, ◌+◌, ◌%◌, [], ◌∷◌, ◌++◌, List, Option, length, vec_len, refl, sym, ap, subst, ◌∙◌, arith}
+use Rattle.std.proofs.Common.{◌≡◌, ℕ, ◌+◌, ◌%◌, ◌++◌, List, Option, length, sym, ap, subst, ◌∙◌, arith}
 use Rattle.lu_grammar.specs.Parts.{vlong}
 use Rattle.freq_skips.specs.declared.datum.Skip.{Skip}
-use Rattle.freq_skips.specs.Written.{optional_bytes, rise_of, written_skip, data_bytes, places_after, AreSmallPlaces, front_bytes}
+use Rattle.freq_skips.specs.Written.{optional_bytes, rise_of, AreSmallPlaces, front_bytes}
 use Rattle.freq_skips.proofs.WriterLemmas.{data_bytes-none, places_after-none, data_bytes-next, places_after-next, places_after-same, written_skip-is, AreSmallPlaces-none, AreSmallPlaces-more}
 use Rattle.freq_skips.proofs.writer.written_level.Goals as goal
 use Rattle.freq_skips.proofs.writer.written_level.Goals.{then-index-from-eq0+in_ok-push, else-index-from-eq0}

@@ -1,4 +1,4 @@
-use Rattle.std.proofs.Common.{◌≡◌, ap, sym, subst, ◌∙◌, map, arith}
+use Rattle.std.proofs.Common.{ap, sym, subst, map, arith}
 use Rattle.lu_grammar.specs.Bytes.{Cursor}
 use Rattle.freq_skips.specs.Entries.{Stands, entry_of}
 use Rattle.freq_skips.specs.Terms.{term_of, place_in}

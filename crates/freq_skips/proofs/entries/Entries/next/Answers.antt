@@ -1,5 +1,4 @@
-use Rattle.std.proofs.Common.{◌≡◌, ℕ, ◌+◌, ◌∷◌, ap, sym, ◌∙◌, drop, List, arith}
-use Rattle.freq_skips.specs.declared.entry.Entry.{Entry}
+use Rattle.std.proofs.Common.{ℕ, ◌∷◌, ap, sym, ◌∙◌, drop, arith}
 use Rattle.freq_skips.specs.Entries.{entries_from}
 use Rattle.freq_skips.specs.Terms.{place_in}
 use Rattle.freq_skips.proofs.EntryLemmas.{never_broken, entries_from-next}

@@ -1,4 +1,4 @@
-use Rattle.std.proofs.Common.{◌<◌, suc, ◌^◌, sym, subst, ℕ}
+use Rattle.std.proofs.Common.{◌<◌, suc, sym, subst, ℕ}
 use Rattle.freq_skips.proofs.Powers.{power-pos}
 use Rattle.freq_skips.proofs.level.Level.length_due.Goals as goal
 

@@ -1,4 +1,4 @@
-use Rattle.std.proofs.Common.{◌≡◌, ◌≤◌, arith}
+use Rattle.std.proofs.Common.{◌≡◌, arith}
 use Rattle.freq_skips.proofs.EntryLemmas.{never_broken, Stands-as}
 use Rattle.freq_skips.proofs.passing.Passing.pass_to.Goals as goal
 

@@ -1,4 +1,4 @@
-use Rattle.std.proofs.Common.{◌≡◌, ℕ, ◌-◌, ◌≤◌}
+use Rattle.std.proofs.Common.{◌-◌, ◌≤◌}
 use Rattle.lu_grammar.specs.Bytes.{Cursor}
 use Rattle.freq_skips.specs.Entries.{AreEntries, Stands}
 use Rattle.freq_skips.proofs.passing.Passing.pass_to.Given as goal

@@ -1,4 +1,4 @@
-use Rattle.std.proofs.Common.{◌≡◌, ℕ, ◌^◌, inl, refl, ap, sym, subst, ◌∙◌, arith}
+use Rattle.std.proofs.Common.{inl, refl, ap, sym, subst, ◌∙◌, arith}
 use Rattle.lu_grammar.specs.Bytes.{Cursor}
 use Rattle.freq_skips.specs.Entries.{Stands}
 use Rattle.freq_skips.specs.Terms.{TermData, term_of}

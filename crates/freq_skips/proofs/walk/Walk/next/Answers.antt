@@ -1,9 +1,9 @@
-use Rattle.std.proofs.Common.{◌≡◌, ◌≢◌, ℕ, ◌+◌, ◌-◌, ◌%◌, ◌^◌, ◌<◌, ◌≤◌, length, inl, inr, rules, refl, ap, sym, subst, ◌∙◌, arith}
+use Rattle.std.proofs.Common.{◌≡◌, ℕ, ◌+◌, ◌-◌, ◌^◌, ◌<◌, length, inl, inr, rules, ap, sym, subst, ◌∙◌, arith}
 use Rattle.std.specs.Prelude.{slice_index_or}
 use Rattle.lu_grammar.specs.Plans.{times}
 use Rattle.freq_skips.specs.declared.walk.Walked.{Walked}
 use Rattle.freq_skips.specs.declared.rules.Term.{Term}
-use Rattle.freq_skips.specs.Entries.{Posting, no_posting, no_entry, entry_kind, postings_from, Stands}
+use Rattle.freq_skips.specs.Entries.{Posting, no_posting, no_entry, entry_kind, postings_from}
 use Rattle.freq_skips.specs.Terms.{TermData}
 use Rattle.freq_skips.specs.Walks.{WalkState, AreOnLevels, IsFresh, IsStale, IsBefore, no_rung, start_in, value_from}
 use Rattle.freq_skips.proofs.EntryLemmas.{Stands-as, postings_from-length}

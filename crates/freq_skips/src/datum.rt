@@ -7,10 +7,12 @@ ghost use Rattle.lu_grammar.specs.Records.{read_shape, record_at, first_broken, 
 ghost use Rattle.freq_skips.specs.Records.{Record, GivesPart, datum, datum_shape, states_payload, optional_length, length_to_child, datum_length};
 ghost use Rattle.freq_skips.specs.Levels.{datum_conditions, differs as is_another, skipped as skipped_by, point_of, number_or};
 
-use crate::entry::{is_odd, optional_num, rule_of_bad};
+use crate::entry::{is_odd, optional_num};
 use crate::rules::Term;
 use lu_prims::{Bad, Cur};
-use lu_types::rules::{SKIP_CHILD, SKIP_DOC, SKIP_FREQ, SKIP_LENGTH, SKIP_OMIT, SKIP_START};
+use lu_types::rules::{
+    SKIP_CHILD, SKIP_DOC, SKIP_FREQ, SKIP_LENGTH, SKIP_OMIT, SKIP_START, rule_of,
+};
 
 /// A skip datum as it stands: the number that tells the skipped documents, the payload length where it is stated, the skipped
 /// bytes of the entries and of the positions, and the child pointer where there is one.
@@ -235,7 +237,7 @@ pub fn next_datum(
 {
     let place = cur.place();
     let (skip, child) = match datum_parts(cur, term, level) {
-        Err(bad) => return Err(rule_of_bad(bad)),
+        Err(bad) => return Err(rule_of(bad)),
         Ok(parts) => parts,
     };
     match datum_broken(term, wanted, start, last, place, &skip, child, cur.place()) {

@@ -2,15 +2,13 @@
 ghost use Rattle.std.specs.Prelude.{◌≡◌, ℕ, ◌+◌, ◌/◌, ◌%◌, ◌^◌, ◌<◌, ◌==◌, ◌&&◌, not, nat_le, IfOk, MatchResult, Ok, Err, None, if◌then◌else◌};
 ghost use Rattle.lu_grammar.specs.Bytes.{IsBytes};
 ghost use Rattle.lu_grammar.specs.Parts.{num};
-ghost use Rattle.lu_grammar.specs.Records.{read_shape, record_at, first_broken, rule_of};
+ghost use Rattle.lu_grammar.specs.Records.{read_shape, record_at, first_broken};
 ghost use Rattle.freq_skips.specs.Records.{Record, GivesPart, optional_length, entry, entry_shape, states_frequency, is_odd as is_odd_number};
 ghost use Rattle.freq_skips.specs.Entries.{entry_conditions, gap as gap_of, posting_of, frequency, is_low};
 
 use crate::rules::Term;
 use lu_prims::{Bad, Cur};
-use lu_types::rules::{
-    DOC_ORDER, DOC_RANGE, ENDS, FREQ, FREQ_START, LONG_NUMBER, NOT_UTF8, TOO_GREAT,
-};
+use lu_types::rules::{DOC_ORDER, DOC_RANGE, FREQ, FREQ_START, rule_of};
 
 /// A document that has the term, and how often the term stands in it.
 #[derive(Clone, Copy, Debug, PartialEq, Eq)]
@@ -129,18 +127,6 @@ fn entry_broken(
     None
 }
 
-/// The rule that a part without a spelling breaks.
-pub fn rule_of_bad(bad: Bad) -> u16
-    ensures { result ≡ rule_of bad }
-{
-    match bad {
-        Bad::Ends => ENDS,
-        Bad::LongNumber => LONG_NUMBER,
-        Bad::TooGreat => TOO_GREAT,
-        Bad::NotUtf8 => NOT_UTF8,
-    }
-}
-
 /// The entry that stands here, the first of its term or not, after a document; or the first rule that it breaks.
 pub fn next_entry(cur: &mut Cur<'_>, term: &Term, first: bool, last: u32) -> Result<Entry, u16>
     ensures { MatchResult result
@@ -150,7 +136,7 @@ pub fn next_entry(cur: &mut Cur<'_>, term: &Term, first: bool, last: u32) -> Res
 {
     let place = cur.place();
     let (delta, stated) = match entry_parts(cur, term) {
-        Err(bad) => return Err(rule_of_bad(bad)),
+        Err(bad) => return Err(rule_of(bad)),
         Ok(parts) => parts,
     };
     match entry_broken(term, first, last, place, delta, stated) {

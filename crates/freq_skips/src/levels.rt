@@ -11,13 +11,12 @@ ghost use Rattle.freq_skips.specs.Terms.{place_in};
 ghost use Rattle.freq_skips.specs.Walking.{StandAbove, IsGoodLevel, AreGoodLevels};
 
 use crate::datum::skips_start_elsewhere;
-use crate::entry::rule_of_bad;
 use crate::level::{Level, check_data, level_count};
 use crate::passing::fault_at;
 use crate::rules::Term;
 use lu_prims::Cur;
 use lu_types::Spot;
-use lu_types::rules::SKIP_START;
+use lu_types::rules::{SKIP_START, rule_of};
 
 /// The first rule that the length of a level breaks at a place, the first record of the skip data or not.
 fn length_broken(term: &Term, first: bool, place: usize) -> Option<u16>
@@ -37,7 +36,7 @@ fn read_length(cur: &mut Cur<'_>, term: &Term, first: bool) -> Result<u64, u16>
 {
     let place = cur.place();
     match cur.vlong() {
-        Err(bad) => Err(rule_of_bad(bad)),
+        Err(bad) => Err(rule_of(bad)),
         Ok(stated) => match length_broken(term, first, place) {
             Some(rule) => Err(rule),
             None => Ok(stated),

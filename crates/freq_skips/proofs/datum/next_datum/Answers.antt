@@ -6,7 +6,7 @@ use Rattle.freq_skips.specs.Levels.{datum_conditions, point_of}
 use Rattle.freq_skips.proofs.datum.next_datum.Goals as goal
 
 pub returns-in-Err-clause-read : goal.returns-in-Err-clause-read
-returns-in-Err-clause-read c = rw c.rule_of_bad.ensures (record_at-unread _ _ c.args.cur.now c.in-Err.bad c.in-Err.ensures.parts)
+returns-in-Err-clause-read c = rw c.rule_of.ensures (record_at-unread _ _ c.args.cur.now c.in-Err.bad c.in-Err.ensures.parts)
 
 -- the conditions by the place that was asked for
 pub returns-in-Some-clause-read : goal.returns-in-Some-clause-read

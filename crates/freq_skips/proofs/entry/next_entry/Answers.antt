@@ -6,7 +6,7 @@ use Rattle.freq_skips.specs.Entries.{entry_conditions, gap}
 use Rattle.freq_skips.proofs.entry.next_entry.Goals as goal
 
 pub returns-in-Err : goal.returns-in-Err
-returns-in-Err c = rw c.rule_of_bad.ensures (record_at-unread _ _ c.args.cur.now c.in-Err.bad c.in-Err.ensures)
+returns-in-Err c = rw c.rule_of.ensures (record_at-unread _ _ c.args.cur.now c.in-Err.bad c.in-Err.ensures)
 
 pub overflow_add-result : goal.overflow_add-result
 overflow_add-result c = let below : c.args.last + gap c.args.term.now c.in-Ok.parts.0 < 2 ^ 32 = c.in-None.ensures.below refl in rw c.gap.ensures (search rules)

@@ -6,7 +6,7 @@ use Rattle.freq_skips.specs.Levels.{skip_start}
 use Rattle.freq_skips.proofs.levels.read_length.Goals as goal
 
 pub returns-in-Err : goal.returns-in-Err
-returns-in-Err c = rw c.rule_of_bad.ensures (record_at-unread length_shape _ c.args.cur.now c.in-Err.bad (search rules))
+returns-in-Err c = rw c.rule_of.ensures (record_at-unread length_shape _ c.args.cur.now c.in-Err.bad (search rules))
 
 pub returns-in-Some : goal.returns-in-Some
 returns-in-Some c =

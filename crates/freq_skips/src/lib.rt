@@ -25,4 +25,6 @@ pub use walk::{Datum, Walk, Walked};
 pub use writer::FreqWriter;
 
 #[cfg(test)]
+mod drawn_tests;
+#[cfg(test)]
 mod tests;

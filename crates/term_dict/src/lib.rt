@@ -19,3 +19,4 @@ pub use heading::{FORMAT, Heading, bad_rule, heading_at};
 pub use last::follow;
 pub use lu_types::TermInfo;
 pub use numbers::TermNumbers;
+pub use writer::{TermFiles, TermWriter};

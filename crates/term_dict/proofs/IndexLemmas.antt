@@ -22,9 +22,11 @@ begun-next interval n some =
 pub begun-at : (interval n : ℕ) → 1 ≤ interval → n % interval ≡ 0 → (begun interval n ≡ n / interval) × (n / interval * interval ≡ n)
 begun-at interval n some none =
     let q = n / interval in
-    let whole : q * interval ≡ n = omega (arith, div-add-mod' n interval, none) in
-    (ap (λ (m : ℕ). m / interval) (let e : n + (interval - 1) ≡ q * interval + (interval - 1) = omega (arith, whole) in e)
-    ∙ mul-add-div_right (omega arith) q (interval - 1) ∙ ap (λ (m : ℕ). q + m) (div-eq_of_lt (omega arith)) ∙ omega arith, whole)
+    let whole : q * interval ≡ n = omega (arith, div-add-mod' n interval, none) in (
+      ap (λ (m : ℕ). m / interval) (let e : n + (interval - 1) ≡ q * interval + (interval - 1) = omega (arith, whole) in e)
+          ∙ mul-add-div_right (omega arith) q (interval - 1) ∙ ap (λ (m : ℕ). q + m) (div-eq_of_lt (omega arith)) ∙ omega arith,
+      whole,
+    )
 
 -- and where it is not
 pub begun-inside : (interval n : ℕ) → 1 ≤ interval → (n % interval ≡ 0 → ⊥) → begun interval n ≡ n / interval + 1

@@ -119,14 +119,37 @@ entry-spells any interval e h =
     let after_prox = spelling vlong e.prox ++ (skip_bytes interval e ++ []) in
     let after_freq = spelling vlong e.freq ++ after_prox in
     let after_field = spelling num e.doc_freq ++ after_freq in
-    let after_suffix = spelling vint e.field ++ after_field in
-    (e.prefix, spelling num (length e.suffix) ++ (e.suffix ++ after_suffix), h.prefix, refl,
-      (length e.suffix, e.suffix ++ after_suffix, h.count, refl,
-        (e.suffix, after_suffix, (refl, h.suffix), refl,
-          Spells-followed (field_number any) _ e.field e (spelling vint e.field) after_field h.field
-          (e.doc_freq, after_freq, h.doc_freq, refl,
-            (e.freq, after_prox, h.freq, refl,
-              (e.prox, skip_bytes interval e ++ [], h.prox, refl, skip-spells e (leb interval e.doc_freq) h.skip (λ f. h.no_skip (leb-false interval e.doc_freq f))))))))
+    let after_suffix = spelling vint e.field ++ after_field in (
+      e.prefix,
+      spelling num (length e.suffix) ++ (e.suffix ++ after_suffix),
+      h.prefix,
+      refl,
+      (
+        length e.suffix,
+        e.suffix ++ after_suffix,
+        h.count,
+        refl,
+        (
+          e.suffix,
+          after_suffix,
+          (refl, h.suffix),
+          refl,
+          Spells-followed (field_number any) _ e.field e (spelling vint e.field) after_field h.field (
+            e.doc_freq,
+            after_freq,
+            h.doc_freq,
+            refl,
+            (
+              e.freq,
+              after_prox,
+              h.freq,
+              refl,
+              (e.prox, skip_bytes interval e ++ [], h.prox, refl, skip-spells e (leb interval e.doc_freq) h.skip (λ f. h.no_skip (leb-false interval e.doc_freq f))),
+            ),
+          ),
+        ),
+      ),
+    )
 
 -- ---- so many terms
 

@@ -147,14 +147,20 @@ written-more index_interval interval levels count tis tis' last t tii tii' point
           let to_tii = entered.0 ∙ ap (λ (x : Term). tii ++ point_bytes interval point (point_of (term_before count x) (length tis))) h.is_last in
           let to_point = entered.1 ∙ ap (λ (x : Term). point_of (term_before count x) (length tis)) h.is_last in
           let index = indexed-more index_interval interval ts t tii tii' point point' count (length tis) h.intervals.index_interval.0 h.counted old none place to_tii to_point in
-          record { terms = terms; written = subst (λ (xs : List Term). IsWritten (written index_interval interval levels xs) tis' t tii' point' (count + 1)) (sym terms) (kept index
-            (subst (λ (p : Point). Follows p.term.info t.info) (sym entered.1) (blank-follows count last.info t.info follows follows.freq)) (omega (arith, ap (λ (p : Point). p.place) entered.1, long))) }
+          record {
+            terms = terms;
+            written = subst (λ (xs : List Term). IsWritten (written index_interval interval levels xs) tis' t tii' point' (count + 1)) (sym terms) (kept index
+                (subst (λ (p : Point). Follows p.term.info t.info) (sym entered.1) (blank-follows count last.info t.info follows follows.freq)) (omega (arith, ap (λ (p : Point). p.place) entered.1, long)));
+          }
       | inr some ↦
           let same = passed.same some in
           let index = indexed-same index_interval interval ts t tii point count h.intervals.index_interval.0 h.counted old some in
           let moved : IsIndexed index_interval interval us tii' point' (count + 1) = subst (λ (b : List ℕ). IsIndexed index_interval interval us b point' (count + 1)) (sym same.0) (subst (λ (p : Point). IsIndexed index_interval interval us tii p (count + 1)) (sym same.1) index) in
-          record { terms = terms; written = subst (λ (xs : List Term). IsWritten (written index_interval interval levels xs) tis' t tii' point' (count + 1)) (sym terms) (kept moved
-            (subst (λ (p : Point). Follows p.term.info t.info) (sym same.1) (record { doc_freq = follows.doc_freq; skip = follows.skip; freq = omega (arith, h.follows.freq, follows.freq); prox = omega (arith, h.follows.prox, follows.prox) })) (omega (arith, ap (λ (p : Point). p.place) same.1, h.place, long))) }
+          record {
+            terms = terms;
+            written = subst (λ (xs : List Term). IsWritten (written index_interval interval levels xs) tis' t tii' point' (count + 1)) (sym terms) (kept moved
+                (subst (λ (p : Point). Follows p.term.info t.info) (sym same.1) (record { doc_freq = follows.doc_freq; skip = follows.skip; freq = omega (arith, h.follows.freq, follows.freq); prox = omega (arith, h.follows.prox, follows.prox) })) (omega (arith, ap (λ (p : Point). p.place) same.1, h.place, long)));
+          }
     ]
   where
     written_parts : (index_interval interval levels : ℕ) (us : List Term) (tis' : List ℕ) (t : Term) (tii' : List ℕ) (point' : Point) (count : ℕ) → t ≡ last_term us → AreSpellable interval no_term us → IsBehind (terms_bytes interval no_term us) tis' → count + 1 ≡ length us

@@ -19,4 +19,8 @@ pub use heading::{FORMAT, Heading, bad_rule, heading_at};
 pub use last::follow;
 pub use lu_types::TermInfo;
 pub use numbers::TermNumbers;
+
+#[cfg(test)]
+mod tests;
+
 pub use writer::{TermFiles, TermWriter};

@@ -9,9 +9,9 @@ ghost use Rattle.term_dict.specs.Writing.{Written, Follows, IsSame, IsEntered, I
 ghost use Rattle.term_dict.specs.Index.{blank};
 
 use crate::cursor::HEADER_BYTES;
+use crate::heading::FORMAT;
 use crate::last::LastTerm;
 use crate::spelling::{entry_between, push_entry};
-use crate::heading::FORMAT;
 use lu_prims::{OutOfMemory, put_i32, put_i64, put_vlong};
 use lu_types::{Bytes, TermInfo};
 use std::alloc::Global;
@@ -345,7 +345,13 @@ impl TermWriter {
         let interval = u64::from(index_interval);
         let entries = (count + (interval - 1)) / interval;
         let tis = headed(tis, count, index_interval, skip_interval, max_levels)?;
-        let tii = headed(index.bytes, entries, index_interval, skip_interval, max_levels)?;
+        let tii = headed(
+            index.bytes,
+            entries,
+            index_interval,
+            skip_interval,
+            max_levels,
+        )?;
         Ok(TermFiles {
             tis: Bytes::new(tis),
             tii: Bytes::new(tii),

@@ -83,3 +83,5 @@ ord_max-above a b = (grind (arith, nat_tests), grind (arith, nat_tests))
 pub IsBrokenSo-map : {A B : Type 0} (kind : FileKind) (read : Result A Broken) (other : Result B Broken) (fault : CodecFault) → ((b : Broken) → read ≡ Err b → other ≡ Err b) → IsBrokenSo kind read fault → IsBrokenSo kind other fault
 IsBrokenSo-map kind read other (Spot s) same h = (h.0, same (record { offset = s.offset; rule = s.rule }) h.1)
 IsBrokenSo-map kind read other OutOfMemory same h = tt
+
+pub ruleset pushing = (last_term-push)

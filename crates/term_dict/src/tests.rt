@@ -1,4 +1,4 @@
-ghost use Rattle.std.specs.Prelude.{◌≤◌, length};
+ghost use Rattle.std.specs.Prelude.{◌≡◌, ◌≤◌, length};
 
 use super::*;
 use lu_prims::OutOfMemory;
@@ -31,6 +31,7 @@ fn once(field: u32, place: u32) -> TermInfo
 }
 
 /// The files of the terms `t000`, `t001` and so on, each in one document, with its number for both places.
+#[tactic(auto, using(crate::proofs::LoopLemmas::pushing))]
 fn numbered(alloc: Global, count: u32) -> Result<TermFiles, OutOfMemory>
     requires { count ≤ 1000 }
 {

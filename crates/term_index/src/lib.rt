@@ -6,5 +6,8 @@ mod index;
 mod point;
 mod walk;
 
+#[cfg(test)]
+mod tests;
+
 pub use checking::check_tii;
 pub use index::TermIndex;

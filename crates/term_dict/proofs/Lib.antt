@@ -1,3 +1,4 @@
+pub mod ByteLemmas
 pub mod CheckLemmas
 pub mod ConditionLemmas
 pub mod FileLemmas

@@ -16,7 +16,7 @@ use Rattle.term_dict.specs.Headings.{Line, entry, on_entry}
 use Rattle.term_dict.specs.Entries.{Entry, entry_shape, field_number}
 use Rattle.term_dict.specs.Terms.{Term, no_term, last_term, term_after}
 use Rattle.term_dict.specs.Dictionary.{Progress, no_terms, with_term, Standing, term_conditions, terms_by, term_kind}
-use Rattle.term_dict.specs.Canonical.{shared, entry_between, skip_bytes, entry_bytes, terms_bytes, start_of_term}
+use Rattle.term_dict.specs.Canonical.{shared, entry_between, skip_bytes, entry_bytes, terms_bytes, start_of_term, starts_of}
 use Rattle.term_dict.specs.Writing.{Follows, IsSpellable, AreSpellable, any_terms, terms_in, IsBehind}
 use Rattle.term_dict.specs.Content.{or_else}
 use Rattle.term_dict.specs.Walk.{at_place}
@@ -177,8 +177,7 @@ plain-entry interval before t here follows = record {
 pub record Spelled (conditions : List Term → Entry → List Condition) (interval : ℕ) (ts : List Term) (n : ℕ) : Type 0 where
   pub s : Progress
   pub terms : s.terms ≡ take n ts
-  pub count : length s.starts ≡ n
-  pub starts : (j : ℕ) → j < n → get_or s.starts j 0 ≡ start_of_term interval ts j
+  pub starts : s.starts ≡ starts_of interval ts n
   pub writes : Writes (times (terms_by conditions interval) n no_terms) 24 (terms_bytes interval no_term (take n ts)) s
 
 take-last : (ts : List Term) (n : ℕ) → last_after no_term (take n ts) ≡ last_term (take n ts)
@@ -207,11 +206,7 @@ spelled-more conditions interval ts n h lt good w =
     record {
       s = new;
       terms = new_terms;
-      count = omega (arith, length-append w.s.starts (place ∷ []), w.count);
-      starts = λ j less. elim (cases_lt j n) [
-        | inl lt_n ↦ get_or_append_left w.s.starts (place ∷ []) 0 j (omega (arith, w.count)) ∙ w.starts j lt_n
-        | inr ge ↦ let is : j ≡ n = omega arith in get_or_push w.s.starts place 0 j (omega (arith, w.count, is)) ∙ ap (start_of_term interval ts) (sym is)
-      ];
+      starts = ap (λ (ns : List ℕ). ns ++ place ∷ []) w.starts ∙ ap (starts_of interval ts) (sym (add-one n));
       writes = subst (λ (b : List ℕ). Writes (times (terms_by conditions interval) (n + 1) no_terms) 24 b new) bytes_are more;
     }
 
@@ -220,8 +215,7 @@ pub spelled : (conditions : List Term → Entry → List Condition) (interval : 
 spelled conditions interval ts zero h le good = record {
   s = no_terms;
   terms = refl;
-  count = refl;
-  starts = λ j lt. absurd (omega (arith, lt));
+  starts = refl;
   writes = Writes-none (one (terms_by conditions interval)) 24 no_terms;
 }
 spelled conditions interval ts (suc n) h le good =

@@ -51,6 +51,11 @@ canonical_tis numbers terms = header_bytes numbers numbers.count ++ terms_bytes 
 abbrev pub start_of_term : ℕ → List Term → ℕ → ℕ
 start_of_term interval terms n = 24 + length (terms_bytes interval no_term (take n terms))
 
+-- where the first so many terms start
+abbrev pub starts_of : ℕ → List Term → ℕ → List ℕ
+starts_of interval terms zero = []
+starts_of interval terms (suc n) = starts_of interval terms n ++ start_of_term interval terms n ∷ []
+
 -- a term and a place in the file of terms
 pub record Point : Type 0 where
   pub term : Term

@@ -69,9 +69,11 @@ next-read : (d : Dictionary) (n : ℕ) (last : Term) (place : ℕ) (old new : Cu
     → o ≡ first_broken (index_conditions d (progress n last place) e) → IsNextPoint d (progress n last place) old new o
 next-read d n last place old new e None read is =
     let s = progress n last place in
-    let good = good_entry last place e (indexed_term d n) (indexed_place d n) (sym is) in
-    (e, line_at-good (index_shape d.numbers.skip_interval) entry (λ line. on_entry [] (index_conditions d s) line) old e new read (sym is),
-      ap (λ (t : Term). progress (n + 1) t (place + e.step)) good.0 ∙ ap (progress (n + 1) (indexed_term d n)) good.1)
+    let good = good_entry last place e (indexed_term d n) (indexed_place d n) (sym is) in (
+      e,
+      line_at-good (index_shape d.numbers.skip_interval) entry (λ line. on_entry [] (index_conditions d s) line) old e new read (sym is),
+      ap (λ (t : Term). progress (n + 1) t (place + e.step)) good.0 ∙ ap (progress (n + 1) (indexed_term d n)) good.1,
+    )
 next-read d n last place old new e (Some rule) read is =
     line_at-broken (index_shape d.numbers.skip_interval) entry (λ line. on_entry [] (index_conditions d (progress n last place)) line) old e new rule read (sym is)
 

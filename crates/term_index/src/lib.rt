@@ -4,10 +4,9 @@
 mod checking;
 mod index;
 mod point;
-mod walk;
-
 #[cfg(test)]
 mod tests;
+mod walk;
 
 pub use checking::check_tii;
 pub use index::TermIndex;

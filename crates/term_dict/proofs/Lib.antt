@@ -12,3 +12,4 @@ pub mod TextLemmas
 pub mod WalkLemmas
 pub mod WriteLemmas
 pub mod WriterLemmas
+pub mod ReadBack

@@ -13,3 +13,4 @@ pub mod WalkLemmas
 pub mod WriteLemmas
 pub mod WriterLemmas
 pub mod ReadBack
+pub mod IndexBack

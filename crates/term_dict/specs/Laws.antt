@@ -27,3 +27,9 @@ dictionary_written w = record {
   starts = starts_of w.skip_interval w.terms (length w.terms);
   size = length (canonical_tis (numbers_written w) w.terms);
 }
+
+-- the index of what was written can be read: its file of terms has a length that a file can have
+pub record IsIndexable (w : Written) : Type 0 where
+  pub intervals : AreIntervals w
+  pub spellable : AreSpellable w.skip_interval no_term w.terms
+  pub small : length (canonical_tis (numbers_written w) w.terms) < 2 ^ 31

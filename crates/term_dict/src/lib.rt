@@ -18,7 +18,7 @@ pub use entry::{TermEntry, entry_at};
 pub use file::TermFile;
 pub use heading::{FORMAT, Heading, bad_rule, heading_at};
 pub use last::follow;
-pub use laws::written_is_read;
+pub use laws::{written_index_is_read, written_is_read};
 pub use lu_types::TermInfo;
 pub use numbers::TermNumbers;
 

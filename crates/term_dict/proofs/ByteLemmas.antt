@@ -1,15 +1,13 @@
 -- What is spelled are bytes.
-use Rattle.std.proofs.Common.{◌≡◌, ℕ, zero, suc, ◌+◌, ◌-◌, ◌/◌, ◌%◌, ◌^◌, ◌<◌, ◌≤◌, Bool, true, false, ltb, leb, List, [], ◌∷◌, ◌++◌, length, drop, pos, negsuc, refl, sym, ap, subst, arith, inl, inr}
+use Rattle.std.proofs.Common.{◌≡◌, ℕ, zero, suc, ◌+◌, ◌/◌, ◌%◌, ◌^◌, ◌<◌, Bool, true, false, ltb, leb, List, [], ◌∷◌, ◌++◌, length, pos, negsuc, arith, inl, inr}
 use Rattle.std.specs.Prelude.{if◌then◌else◌}
 use Rattle.std.proofs.lemmas.Bool.{cases_lt, lt-ltb, le-ltb}
 use Rattle.std.proofs.Math.Nat.{pow-suc, div-add-mod}
 use Rattle.lu_grammar.specs.Bytes.{IsBytes}
 use Rattle.lu_grammar.specs.Parts.{int32, int64, num, vint, vlong, groups, spelling}
-use Rattle.lu_grammar.proofs.Parts.{IsBytes-drop}
 use Rattle.term_dict.specs.declared.numbers.TermNumbers.{TermNumbers}
 use Rattle.term_dict.specs.Entries.{Entry}
-use Rattle.term_dict.specs.Terms.{Term}
-use Rattle.term_dict.specs.Canonical.{skip_bytes, entry_bytes, entry_between, terms_bytes, header_bytes}
+use Rattle.term_dict.specs.Canonical.{skip_bytes, entry_bytes, header_bytes}
 
 no_bytes : IsBytes []
 no_bytes i = omega arith

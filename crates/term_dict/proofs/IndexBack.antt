@@ -1,13 +1,12 @@
 -- The index of a writer is read as the index of the terms that it was handed.
-use Rattle.std.proofs.Common.{rules, ◌≡◌, ℕ, zero, suc, ◌+◌, ◌-◌, ◌*◌, ◌/◌, ◌<◌, ◌≤◌, ◌^◌, Bool, true, false, not, ◌&&◌, eqb, ltb, List, [], ◌∷◌, ◌++◌, length, take, drop, get_or, Option, Some, None, Result, Ok, Err, pos, negsuc, refl, sym, ap, subst, ◌∙◌, append_assoc, add-one, arith, inl, inr}
-use Rattle.std.specs.Prelude.{if◌then◌else◌, slice_index, slice_index_or}
+use Rattle.std.proofs.Common.{◌≡◌, ℕ, zero, suc, ◌+◌, ◌-◌, ◌*◌, ◌<◌, ◌≤◌, ◌^◌, true, false, eqb, ltb, List, [], ◌∷◌, ◌++◌, length, take, get_or, None, pos, refl, sym, ap, subst, ◌∙◌, append_assoc, add-one, arith, inl, inr}
 use Rattle.std.specs.Str.{bytes_eq}
 use Rattle.std.proofs.lemmas.Bool.{le-ltb, eq-eqb, cases_lt}
 use Rattle.std.proofs.lemmas.Slice.Eq.{bytes_eq-Decides}
 use Rattle.std.proofs.lemmas.List.{append-nil, length-append, length-drop, take_all, take_more, get_or_push, get_or_append_left}
 use Rattle.lu_grammar.specs.Bytes.{IsBytes}
 use Rattle.lu_grammar.specs.Parts.{vint, vlong, num, spelling}
-use Rattle.lu_grammar.specs.Records.{whole, part, followed, Spells, first_broken}
+use Rattle.lu_grammar.specs.Records.{whole, part, Spells, first_broken}
 use Rattle.lu_grammar.specs.Plans.{Plan, done, one, times}
 use Rattle.lu_grammar.specs.Meaning.{Reads}
 use Rattle.lu_grammar.proofs.Records.{Spells-followed}
@@ -16,13 +15,12 @@ use Rattle.lu_grammar.proofs.Parts.{IsBytes-drop}
 use Rattle.lu_grammar.proofs.Files.{Reads-from}
 use Rattle.lu_types.specs.declared.term.TermInfo.{TermInfo}
 use Rattle.term_dict.specs.declared.numbers.TermNumbers.{TermNumbers}
-use Rattle.term_dict.specs.Headings.{header, heading, heading_of, Line, entry, on_entry}
+use Rattle.term_dict.specs.Headings.{header, heading, heading_of, Line, entry}
 use Rattle.term_dict.specs.Entries.{Entry, entry_shape}
 use Rattle.term_dict.specs.Terms.{Term, no_term, last_term, term_after}
-use Rattle.term_dict.specs.Dictionary.{Dictionary}
-use Rattle.term_dict.specs.Index.{IndexEntry, index_shape, IndexProgress, no_entries, with_entry, index_kind, index_against, index_conditions, index_heading_conditions, indexed_term, indexed_place, entries_plan, tii_plan, entry_count, blank, point_after, same_info, same_term}
-use Rattle.term_dict.specs.Canonical.{shared, skip_bytes, entry_between, terms_bytes, entry_bytes, header_bytes, start_of_term, starts_of, begun, Point, point_before, point_bytes, points_bytes, canonical_tis, canonical_tii}
-use Rattle.term_dict.specs.Writing.{Written, numbers_written, Follows, IsSpellable, AreSpellable, AreIntervals}
+use Rattle.term_dict.specs.Index.{IndexEntry, index_shape, IndexProgress, no_entries, with_entry, index_kind, index_against, index_conditions, index_heading_conditions, indexed_place, entries_plan, tii_plan, entry_count, point_after, same_info, same_term}
+use Rattle.term_dict.specs.Canonical.{shared, skip_bytes, entry_between, terms_bytes, entry_bytes, header_bytes, start_of_term, starts_of, begun, Point, point_before, point_bytes, points_bytes, canonical_tii}
+use Rattle.term_dict.specs.Writing.{Written, numbers_written, Follows, AreSpellable}
 use Rattle.term_dict.specs.Laws.{IsIndexable, dictionary_written}
 use Rattle.term_dict.proofs.LoopLemmas.{last_term-push}
 use Rattle.term_dict.proofs.WriteLemmas.{SpellableAt, spellable-at, last_after, last_after-last, terms_bytes-push, IsPlainEntry, entry-spells, entry_between-again, shared-within}

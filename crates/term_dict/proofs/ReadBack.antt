@@ -1,35 +1,31 @@
 -- The files of a writer are read as the terms that it was handed.
-use Rattle.std.proofs.Common.{rules, ◌≡◌, ℕ, zero, suc, ◌+◌, ◌-◌, ◌*◌, ◌/◌, ◌<◌, ◌≤◌, ◌^◌, Bool, true, false, not, ◌||◌, ◌&&◌, eqb, ltb, leb, List, [], ◌∷◌, ◌++◌, length, take, drop, get_or, Option, Some, None, Result, Ok, Err, pos, negsuc, refl, sym, ap, subst, ◌∙◌, append_assoc, arith, inl, inr}
-use Rattle.std.specs.Prelude.{if◌then◌else◌, slice_index_or}
-use Rattle.std.specs.Str.{is_utf8}
-use Rattle.std.specs.Int.{w32, w64}
+use Rattle.std.proofs.Common.{rules, ◌≡◌, ℕ, ◌<◌, ◌≤◌, ◌^◌, false, ltb, leb, List, [], ◌∷◌, ◌++◌, length, take, None, Ok, pos, negsuc, refl, sym, ap, subst, ◌∙◌, arith}
+use Rattle.std.specs.Prelude.{slice_index_or}
 use Rattle.std.proofs.lemmas.Bool.{le-ltb, lt-leb}
 use Rattle.std.proofs.lemmas.Str.{is_utf8-from_IsUtf8}
-use Rattle.std.proofs.lemmas.List.{append-nil, length-append, length-drop}
+use Rattle.std.proofs.lemmas.List.{append-nil, length-drop}
 use Rattle.std.proofs.Math.Seq.{take-length}
-use Rattle.lu_grammar.specs.Bytes.{IsBytes, Cursor}
+use Rattle.lu_grammar.specs.Bytes.{IsBytes}
 use Rattle.lu_grammar.specs.Parts.{int32, int64, spelling, IsValue}
-use Rattle.lu_grammar.specs.Records.{whole, followed, Condition, Spells, first_broken}
-use Rattle.lu_grammar.specs.Plans.{times, done}
+use Rattle.lu_grammar.specs.Records.{Spells, first_broken}
+use Rattle.lu_grammar.specs.Plans.{times}
 use Rattle.lu_grammar.specs.Meaning.{Reads}
-use Rattle.lu_grammar.proofs.Records.{Spells-followed}
 use Rattle.lu_grammar.proofs.Writers.{Writes, Writes-due, Writes-done, Writes-and_then, read_file-Writes}
 use Rattle.lu_grammar.proofs.Parts.{IsBytes-drop}
 use Rattle.lu_grammar.proofs.Files.{Reads-from}
 use Rattle.lu_types.specs.Tables.{TableField}
 use Rattle.term_dict.specs.declared.heading.Heading.{Heading}
 use Rattle.term_dict.specs.declared.numbers.TermNumbers.{TermNumbers}
-use Rattle.term_dict.specs.Headings.{heading_shape, heading_conditions, header, numbers_of, Line, heading, entry, heading_of}
-use Rattle.term_dict.specs.Entries.{Entry}
+use Rattle.term_dict.specs.Headings.{heading_conditions, header, numbers_of, heading, heading_of}
 use Rattle.term_dict.specs.Terms.{Term, no_term, last_term, term_after}
-use Rattle.term_dict.specs.Dictionary.{Dictionary, Standing, Progress, no_terms, within, is_past, place_conditions, against, term_conditions, term_kind, terms_plan, dictionary_plan, tis_plan}
-use Rattle.term_dict.specs.Canonical.{shared, entry_between, terms_bytes, entry_bytes, header_bytes, canonical_tis, starts_of}
-use Rattle.term_dict.specs.Writing.{Written, numbers_written, Follows, IsSpellable, AreSpellable, AreIntervals}
-use Rattle.term_dict.specs.Laws.{StandIn, IsReadable, dictionary_written}
+use Rattle.term_dict.specs.Dictionary.{Dictionary, no_terms, within, place_conditions, against, term_conditions, term_kind, terms_plan, dictionary_plan, tis_plan}
+use Rattle.term_dict.specs.Canonical.{shared, entry_between, terms_bytes, entry_bytes, header_bytes, canonical_tis}
+use Rattle.term_dict.specs.Writing.{Written, numbers_written, Follows, IsSpellable, AreSpellable}
+use Rattle.term_dict.specs.Laws.{IsReadable, dictionary_written}
 use Rattle.term_dict.proofs.ByteLemmas.{IsSmallEntry, entry_bytes-bytes, header_bytes-bytes, bytes-append}
 use Rattle.term_dict.proofs.ConditionLemmas.{against-text, first_broken-after}
 use Rattle.term_dict.proofs.FileLemmas.{finish, dictionary_of}
-use Rattle.term_dict.proofs.WriteLemmas.{entry_at, spelled, Spelled, spellable-at, last_after-last, entry_between-again, shared-within}
+use Rattle.term_dict.proofs.WriteLemmas.{entry_at, spelled, spellable-at, last_after-last, entry_between-again, shared-within}
 
 -- ---- the header
 

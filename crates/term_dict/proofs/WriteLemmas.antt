@@ -1,27 +1,25 @@
 -- Terms that are spelled one after another are read as these terms.
-use Rattle.std.proofs.Common.{◌≡◌, ℕ, zero, suc, ◌+◌, ◌-◌, ◌<◌, ◌≤◌, ◌^◌, true, false, Bool, eqb, leb, List, [], ◌∷◌, ◌++◌, length, take, drop, get_or, Option, Some, None, Result, Ok, Err, refl, sym, ap, subst, ◌∙◌, append_assoc, arith, inl, inr, add-one}
+use Rattle.std.proofs.Common.{◌≡◌, ℕ, zero, suc, ◌+◌, ◌-◌, ◌<◌, ◌≤◌, ◌^◌, true, false, Bool, eqb, leb, List, [], ◌∷◌, ◌++◌, length, take, drop, get_or, None, Result, Ok, refl, sym, ap, subst, ◌∙◌, append_assoc, arith, add-one}
 use Rattle.std.specs.Prelude.{if◌then◌else◌}
 use Rattle.std.specs.Option.{unwrap_or}
-use Rattle.std.proofs.lemmas.List.{length-append, length-drop, append-nil, take_more, length-take-le, get_or_push, get_or_append_left}
-use Rattle.std.proofs.lemmas.Bool.{cases_lt, cases_eq, eqb-true, leb-false}
-use Rattle.std.specs.Str.{IsUtf8}
+use Rattle.std.proofs.lemmas.List.{length-drop, append-nil, take_more}
+use Rattle.std.proofs.lemmas.Bool.{eqb-true, leb-false}
 use Rattle.lu_grammar.specs.Bytes.{IsBytes, Cursor}
-use Rattle.lu_grammar.specs.Parts.{num, vint, vlong, bytes, spelling, IsValue}
-use Rattle.lu_grammar.specs.Records.{Shape, whole, part, followed, optional, Spells, Condition, first_broken}
-use Rattle.lu_grammar.specs.Plans.{Broken, Kind, one, times, read_plan}
+use Rattle.lu_grammar.specs.Parts.{num, vint, vlong, spelling}
+use Rattle.lu_grammar.specs.Records.{whole, part, optional, Spells, Condition, first_broken}
+use Rattle.lu_grammar.specs.Plans.{Broken, one, times, read_plan}
 use Rattle.lu_grammar.proofs.Records.{at, Spells-followed}
 use Rattle.lu_grammar.proofs.Parts.{IsBytes-drop}
 use Rattle.lu_grammar.proofs.Writers.{Writes, Writes-none, Writes-record}
-use Rattle.term_dict.specs.Headings.{Line, entry, on_entry}
+use Rattle.term_dict.specs.Headings.{entry, on_entry}
 use Rattle.term_dict.specs.Entries.{Entry, entry_shape, field_number}
 use Rattle.term_dict.specs.Terms.{Term, no_term, last_term, term_after}
-use Rattle.term_dict.specs.Dictionary.{Progress, no_terms, with_term, Standing, term_conditions, terms_by, term_kind}
-use Rattle.term_dict.specs.Canonical.{shared, entry_between, skip_bytes, entry_bytes, terms_bytes, start_of_term, starts_of}
+use Rattle.term_dict.specs.Dictionary.{Progress, no_terms, with_term, terms_by}
+use Rattle.term_dict.specs.Canonical.{shared, entry_between, skip_bytes, entry_bytes, terms_bytes, starts_of}
 use Rattle.term_dict.specs.Writing.{Follows, IsSpellable, AreSpellable, any_terms, terms_in, IsBehind}
 use Rattle.term_dict.specs.Content.{or_else}
 use Rattle.term_dict.specs.Walk.{at_place}
 use Rattle.std.proofs.Math.Seq.{take-length}
-use Rattle.term_dict.proofs.LoopLemmas.{last_term-push}
 
 -- ---- what two texts share
 

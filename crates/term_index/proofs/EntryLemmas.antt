@@ -6,14 +6,13 @@ use Rattle.std.proofs.lemmas.Bool.{eqb-true}
 use Rattle.std.proofs.lemmas.Slice.Eq.{bytes_eq-Decides}
 use Rattle.lu_grammar.specs.declared.bad.Bad.{Bad}
 use Rattle.lu_grammar.specs.Bytes.{Cursor}
-use Rattle.lu_grammar.specs.Records.{Condition, first_broken, rule_of, read_shape}
+use Rattle.lu_grammar.specs.Records.{first_broken, rule_of, read_shape}
 use Rattle.lu_types.specs.declared.term.TermInfo.{TermInfo}
 use Rattle.lu_types.specs.declared.rules.TheConstants.{TII_PREFIX, TII_TERM, TII_PLACE}
-use Rattle.term_dict.specs.Headings.{Line, entry, on_entry}
-use Rattle.term_dict.specs.Entries.{Entry}
+use Rattle.term_dict.specs.Headings.{entry, on_entry}
 use Rattle.term_dict.specs.Terms.{Term, term_after}
 use Rattle.term_dict.specs.Dictionary.{Dictionary}
-use Rattle.term_dict.specs.Index.{IndexEntry, IndexProgress, index_shape, index_kind, index_against, index_conditions, with_entry, indexed_term, indexed_place, same_info, same_term}
+use Rattle.term_dict.specs.Index.{IndexEntry, IndexProgress, index_shape, index_kind, index_against, index_conditions, indexed_term, indexed_place, same_info, same_term}
 use Rattle.term_dict.specs.Checks.{record_of}
 use Rattle.term_dict.proofs.LineLemmas.{line_at-good, line_at-broken, line_at-unread}
 use Rattle.term_index.specs.Points.{progress, IsNextPoint}

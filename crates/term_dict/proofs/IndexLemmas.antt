@@ -1,11 +1,10 @@
 -- The index of terms, while terms are added.
-use Rattle.std.proofs.Common.{◌≡◌, ℕ, zero, suc, ◌+◌, ◌-◌, ◌*◌, ◌/◌, ◌%◌, ◌<◌, ◌≤◌, ◌^◌, Bool, true, false, eqb, List, [], ◌∷◌, ◌++◌, length, take, drop, get_or, refl, sym, ap, subst, ◌∙◌, arith, inl, inr}
+use Rattle.std.proofs.Common.{◌≡◌, ℕ, zero, suc, ◌+◌, ◌-◌, ◌*◌, ◌/◌, ◌%◌, ◌<◌, ◌≤◌, Bool, false, eqb, List, [], ◌∷◌, ◌++◌, length, get_or, refl, ap, ◌∙◌, arith, inl, inr}
 use Rattle.std.specs.Prelude.{if◌then◌else◌}
-use Rattle.std.proofs.lemmas.Bool.{ne_eqb}
+use Rattle.std.proofs.lemmas.Bool.{ne_eqb, cases_lt}
 use Rattle.std.proofs.lemmas.Nat.{div-add-mod'}
-use Rattle.std.proofs.Math.Nat.{add-div_right, mul-add-div_right, div-eq_of_lt, mod-lt, le-div_iff_mul-le, suc-mul}
-use Rattle.std.proofs.Math.Seq.{take-length}
-use Rattle.std.proofs.lemmas.List.{length-append, take-append-le, get_or_append_left}
+use Rattle.std.proofs.Math.Nat.{add-div_right, mul-add-div_right, div-eq_of_lt, mod-lt, le-div_iff_mul-le, suc-mul, le-mul_of_pos_right}
+use Rattle.std.proofs.lemmas.List.{take-append-le, get_or_append_left}
 use Rattle.lu_types.specs.declared.term.TermInfo.{TermInfo}
 use Rattle.term_dict.specs.Terms.{Term, no_term, last_term}
 use Rattle.term_dict.specs.Index.{blank, point_after}
@@ -22,9 +21,11 @@ begun-next interval n some =
 pub begun-at : (interval n : ℕ) → 1 ≤ interval → n % interval ≡ 0 → (begun interval n ≡ n / interval) × (n / interval * interval ≡ n)
 begun-at interval n some none =
     let q = n / interval in
-    let whole : q * interval ≡ n = omega (arith, div-add-mod' n interval, none) in
-    (ap (λ (m : ℕ). m / interval) (let e : n + (interval - 1) ≡ q * interval + (interval - 1) = omega (arith, whole) in e)
-    ∙ mul-add-div_right (omega arith) q (interval - 1) ∙ ap (λ (m : ℕ). q + m) (div-eq_of_lt (omega arith)) ∙ omega arith, whole)
+    let whole : q * interval ≡ n = omega (arith, div-add-mod' n interval, none) in (
+      ap (λ (m : ℕ). m / interval) (let e : n + (interval - 1) ≡ q * interval + (interval - 1) = omega (arith, whole) in e)
+          ∙ mul-add-div_right (omega arith) q (interval - 1) ∙ ap (λ (m : ℕ). q + m) (div-eq_of_lt (omega arith)) ∙ omega arith,
+      whole,
+    )
 
 -- and where it is not
 pub begun-inside : (interval n : ℕ) → 1 ≤ interval → (n % interval ≡ 0 → ⊥) → begun interval n ≡ n / interval + 1
@@ -81,3 +82,16 @@ term_before-is (t ∷ ts) =
   where
     same : (x : Term) → term_before (suc (length ts)) x ≡ x
     same x = let f : eqb (suc (length ts)) 0 ≡ false = ne_eqb _ _ (λ e. absurd (omega (arith, e))) in ap (λ (b : Bool). with_info x.text (if b then blank.info else x.info)) f
+
+-- no more intervals have begun than there are terms
+abbrev pub begun_by : ℕ → ℕ → ℕ
+begun_by n interval = begun interval n
+
+pub begun-few : (interval n : ℕ) → 1 ≤ interval → begun interval n ≤ n
+begun-few interval n some = elim (cases_lt n (begun interval n)) [
+  | inl lt ↦ absurd (omega (arith, below lt))
+  | inr le ↦ le
+]
+  where
+    below : n < begun interval n → n < n
+    below lt = let above : 0 < interval = omega (arith, some) in let first = begun-first interval n n some lt in omega (arith, first, le-mul_of_pos_right n above)

@@ -1,5 +1,5 @@
 -- What a loop that reads terms keeps.
-use Rattle.std.proofs.Common.{◌≡◌, ℕ, zero, suc, ◌+◌, ◌-◌, ◌<◌, ◌≤◌, max, List, [], ◌∷◌, ◌++◌, length, get_or, Option, Some, None, Result, Ok, Err, refl, sym, ap, subst, ◌∙◌, arith, inl, inr}
+use Rattle.std.proofs.Common.{◌≡◌, ℕ, ◌+◌, ◌-◌, ◌<◌, ◌≤◌, List, [], ◌∷◌, ◌++◌, length, Some, None, Result, Ok, Err, refl, sym, ap, subst, ◌∙◌, arith, inl, inr}
 use Rattle.std.proofs.lemmas.Bool.{cases_lt, cases_eq}
 use Rattle.std.proofs.lemmas.List.{get_or_append_left, get_or_push, get_or_past, length-append}
 use Rattle.std.proofs.lemmas.Str.{IsUtf8-nil}
@@ -83,3 +83,5 @@ ord_max-above a b = (grind (arith, nat_tests), grind (arith, nat_tests))
 pub IsBrokenSo-map : {A B : Type 0} (kind : FileKind) (read : Result A Broken) (other : Result B Broken) (fault : CodecFault) → ((b : Broken) → read ≡ Err b → other ≡ Err b) → IsBrokenSo kind read fault → IsBrokenSo kind other fault
 IsBrokenSo-map kind read other (Spot s) same h = (h.0, same (record { offset = s.offset; rule = s.rule }) h.1)
 IsBrokenSo-map kind read other OutOfMemory same h = tt
+
+pub ruleset pushing = (last_term-push)

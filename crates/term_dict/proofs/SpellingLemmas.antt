@@ -1,7 +1,7 @@
 -- The bytes of entries.
-use Rattle.std.proofs.Common.{◌≡◌, ◌≢◌, ◌⊎◌, ℕ, zero, suc, ◌+◌, ◌-◌, ◌<◌, ◌≤◌, min, true, false, eqb, List, [], ◌∷◌, ◌++◌, length, take, drop, get_or, drop-cons, length-drop, add-one, refl, sym, ap, subst, ◌∙◌, append_assoc, arith, inl, inr}
+use Rattle.std.proofs.Common.{◌≡◌, ◌≢◌, ◌⊎◌, ℕ, suc, ◌+◌, ◌<◌, min, true, false, eqb, List, [], ◌∷◌, ◌++◌, length, drop, get_or, drop-cons, length-drop, add-one, refl, sym, ap, ◌∙◌, append_assoc, arith, inl, inr}
 use Rattle.std.proofs.lemmas.Bool.{eq-eqb, ne_eqb, cases_lt}
-use Rattle.std.proofs.lemmas.List.{append-nil, nil_from_length}
+use Rattle.std.proofs.lemmas.List.{append-nil}
 use Rattle.term_dict.specs.Canonical.{shared}
 
 -- parts appended one after another are their bytes appended at once
@@ -39,3 +39,7 @@ shared-all xs ys k e = elim (cases_lt (length xs) (length ys)) [
   | inl lt ↦ shared-none (drop k xs) (drop k ys) (inl (omega (arith, length-drop k xs)))
   | inr ge ↦ shared-none (drop k xs) (drop k ys) (inr (omega (arith, length-drop k ys)))
 ]
+
+-- the parts of a header
+pub appended-five : (out a b c d e : List ℕ) → out ++ a ++ b ++ c ++ d ++ e ≡ out ++ (a ++ (b ++ (c ++ (d ++ e))))
+appended-five out a b c d e = simp append_assoc

@@ -1,9 +1,8 @@
 -- What a writer keeps while terms are added.
-use Rattle.std.proofs.Common.{◌≡◌, ℕ, zero, suc, ◌+◌, ◌-◌, ◌*◌, ◌/◌, ◌%◌, ◌<◌, ◌≤◌, ◌^◌, Bool, true, false, eqb, ltb, List, [], ◌∷◌, ◌++◌, length, take, drop, replicate, refl, sym, ap, subst, ◌∙◌, append_assoc, add-one, arith, inl, inr}
+use Rattle.std.proofs.Common.{◌≡◌, ℕ, suc, ◌+◌, ◌*◌, ◌/◌, ◌%◌, ◌<◌, ◌≤◌, ◌^◌, Bool, true, false, eqb, ltb, List, [], ◌∷◌, ◌++◌, length, drop, refl, sym, ap, subst, ◌∙◌, add-one, arith, inl, inr}
 use Rattle.std.specs.Prelude.{if◌then◌else◌}
 use Rattle.std.proofs.lemmas.Bool.{cases_eq}
-use Rattle.std.proofs.lemmas.List.{nil_from_length, length-append, drop-append-le, length-drop, take-append-le}
-use Rattle.std.proofs.lemmas.Str.{IsUtf8-nil}
+use Rattle.std.proofs.lemmas.List.{nil_from_length, length-append, drop-append-le, length-drop}
 use Rattle.std.proofs.Math.Nat.{div-eq_of_lt}
 use Rattle.std.proofs.Math.Seq.{take-append_seam}
 use Rattle.lu_grammar.specs.Parts.{spelling, num, groups}
@@ -12,7 +11,7 @@ use Rattle.term_dict.specs.Terms.{Term, no_term, last_term}
 use Rattle.term_dict.specs.Index.{blank, point_after}
 use Rattle.term_dict.specs.Canonical.{Point, begun, entry_between, entry_bytes, terms_bytes, start_of_term, point_before, point_bytes, points_bytes}
 use Rattle.term_dict.specs.declared.writer.IndexOutput.{IndexOutput}
-use Rattle.term_dict.specs.Writing.{IsPassed, last_point, Written, with_written, no_terms_written, term_before, Follows, IsSpellable, AreSpellable, AreIntervals, terms_in, written_in, IsBehind, IsWritten}
+use Rattle.term_dict.specs.Writing.{IsPassed, last_point, Written, no_terms_written, term_before, Follows, IsSpellable, AreSpellable, AreIntervals, terms_in, written_in, IsBehind, IsWritten}
 use Rattle.term_dict.proofs.WriteLemmas.{last_after, last_after-last, terms_bytes-push, spellable-push, terms_in-spelled}
 use Rattle.term_dict.proofs.LoopLemmas.{last_term-push}
 use Rattle.term_dict.proofs.IndexLemmas.{begun-next, begun-at, begun-inside, point_after-push, point_before-push, points_bytes-push, term_before-is, point_of}
@@ -147,14 +146,20 @@ written-more index_interval interval levels count tis tis' last t tii tii' point
           let to_tii = entered.0 ∙ ap (λ (x : Term). tii ++ point_bytes interval point (point_of (term_before count x) (length tis))) h.is_last in
           let to_point = entered.1 ∙ ap (λ (x : Term). point_of (term_before count x) (length tis)) h.is_last in
           let index = indexed-more index_interval interval ts t tii tii' point point' count (length tis) h.intervals.index_interval.0 h.counted old none place to_tii to_point in
-          record { terms = terms; written = subst (λ (xs : List Term). IsWritten (written index_interval interval levels xs) tis' t tii' point' (count + 1)) (sym terms) (kept index
-            (subst (λ (p : Point). Follows p.term.info t.info) (sym entered.1) (blank-follows count last.info t.info follows follows.freq)) (omega (arith, ap (λ (p : Point). p.place) entered.1, long))) }
+          record {
+            terms = terms;
+            written = subst (λ (xs : List Term). IsWritten (written index_interval interval levels xs) tis' t tii' point' (count + 1)) (sym terms) (kept index
+                (subst (λ (p : Point). Follows p.term.info t.info) (sym entered.1) (blank-follows count last.info t.info follows follows.freq)) (omega (arith, ap (λ (p : Point). p.place) entered.1, long)));
+          }
       | inr some ↦
           let same = passed.same some in
           let index = indexed-same index_interval interval ts t tii point count h.intervals.index_interval.0 h.counted old some in
           let moved : IsIndexed index_interval interval us tii' point' (count + 1) = subst (λ (b : List ℕ). IsIndexed index_interval interval us b point' (count + 1)) (sym same.0) (subst (λ (p : Point). IsIndexed index_interval interval us tii p (count + 1)) (sym same.1) index) in
-          record { terms = terms; written = subst (λ (xs : List Term). IsWritten (written index_interval interval levels xs) tis' t tii' point' (count + 1)) (sym terms) (kept moved
-            (subst (λ (p : Point). Follows p.term.info t.info) (sym same.1) (record { doc_freq = follows.doc_freq; skip = follows.skip; freq = omega (arith, h.follows.freq, follows.freq); prox = omega (arith, h.follows.prox, follows.prox) })) (omega (arith, ap (λ (p : Point). p.place) same.1, h.place, long))) }
+          record {
+            terms = terms;
+            written = subst (λ (xs : List Term). IsWritten (written index_interval interval levels xs) tis' t tii' point' (count + 1)) (sym terms) (kept moved
+                (subst (λ (p : Point). Follows p.term.info t.info) (sym same.1) (record { doc_freq = follows.doc_freq; skip = follows.skip; freq = omega (arith, h.follows.freq, follows.freq); prox = omega (arith, h.follows.prox, follows.prox) })) (omega (arith, ap (λ (p : Point). p.place) same.1, h.place, long)));
+          }
     ]
   where
     written_parts : (index_interval interval levels : ℕ) (us : List Term) (tis' : List ℕ) (t : Term) (tii' : List ℕ) (point' : Point) (count : ℕ) → t ≡ last_term us → AreSpellable interval no_term us → IsBehind (terms_bytes interval no_term us) tis' → count + 1 ≡ length us

@@ -1,5 +1,5 @@
 -- What a writer of terms has been handed.
-use Rattle.std.specs.Prelude.{[], ◌∷◌, ◌≡◌, ℕ, ◌+◌, ◌%◌, ◌<◌, ◌≤◌, ◌^◌, ◌==◌, if◌then◌else◌, List, ◌++◌, length, drop}
+use Rattle.std.specs.Prelude.{[], ◌∷◌, ◌≡◌, ℕ, ◌%◌, ◌<◌, ◌≤◌, ◌^◌, ◌==◌, if◌then◌else◌, List, ◌++◌, length, drop}
 use Rattle.std.specs.Str.{IsUtf8}
 use Rattle.lu_grammar.specs.Bytes.{IsBytes}
 use Rattle.lu_types.specs.declared.term.TermInfo.{TermInfo}
@@ -31,9 +31,13 @@ no_terms_written index_interval skip_interval max_levels = record { index_interv
 abbrev pub with_written : Written → Term → Written
 with_written w t = record { index_interval = w.index_interval; skip_interval = w.skip_interval; max_levels = w.max_levels; terms = w.terms ++ t ∷ [] }
 
+-- the numbers of a file of so many terms
+abbrev pub numbers_of : ℕ → ℕ → ℕ → ℕ → TermNumbers
+numbers_of index_interval skip_interval max_levels count = record { count = count; index_interval = index_interval; skip_interval = skip_interval; max_levels = max_levels }
+
 -- the numbers of the file of terms
 abbrev pub numbers_written : Written → TermNumbers
-numbers_written w = record { count = length w.terms; index_interval = w.index_interval; skip_interval = w.skip_interval; max_levels = w.max_levels }
+numbers_written w = numbers_of w.index_interval w.skip_interval w.max_levels (length w.terms)
 
 -- the last entry of an index that is being written
 abbrev pub last_point : IndexOutput → Point

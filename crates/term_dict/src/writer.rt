@@ -1,18 +1,19 @@
 //! A writer of terms and of their index (format page, "Terms" and "Term index").
-ghost use Rattle.std.specs.Prelude.{◌≡◌, ℕ, ◌+◌, ◌-◌, ◌%◌, ◌++◌, ◌<◌, ◌≤◌, ◌^◌, [], ◌∷◌, length, take, OnOk, OnErr, IfOk, vec_len, vec_capacity};
+ghost use Rattle.std.specs.Prelude.{pos, ◌≡◌, ℕ, ◌+◌, ◌-◌, ◌%◌, ◌++◌, ◌<◌, ◌≤◌, ◌^◌, [], ◌∷◌, length, take, drop, OnOk, OnErr, IfOk, vec_len, vec_capacity};
 ghost use Rattle.lu_grammar.specs.Parts.{spelling, vlong as a_vlong};
-ghost use Rattle.term_dict.specs.Canonical.{Point, entry_between, entry_bytes, point_bytes, canonical_tis, canonical_tii};
+ghost use Rattle.term_dict.specs.Canonical.{Point, entry_between, entry_bytes, point_bytes, canonical_tis, canonical_tii, header_bytes};
 ghost use Rattle.term_dict.specs.Entries.{entry_of, IsBounded};
 ghost use Rattle.term_dict.specs.Last.{term_of};
-ghost use Rattle.term_dict.specs.Terms.{last_term};
-ghost use Rattle.term_dict.specs.Writing.{Written, Follows, IsSame, IsEntered, IsPassed, AreIntervals, no_terms_written, with_written, last_point, numbers_written};
+ghost use Rattle.term_dict.specs.Terms.{no_term, last_term};
+ghost use Rattle.term_dict.specs.Writing.{Written, Follows, IsSame, IsEntered, IsPassed, AreIntervals, AreSpellable, no_terms_written, with_written, last_point, numbers_written, numbers_of};
 ghost use Rattle.term_dict.specs.Index.{blank};
 
 use crate::cursor::HEADER_BYTES;
+use crate::heading::FORMAT;
 use crate::last::LastTerm;
 use crate::spelling::{entry_between, push_entry};
-use lu_prims::{OutOfMemory, put_vlong};
-use lu_types::TermInfo;
+use lu_prims::{OutOfMemory, put_i32, put_i64, put_vlong};
+use lu_types::{Bytes, TermInfo};
 use std::alloc::Global;
 use std::marker::Model;
 
@@ -233,5 +234,127 @@ impl TermWriter {
         self.last.set(text.as_bytes(), info);
         self.count += 1;
         Ok(())
+    }
+}
+
+/// The file of terms and its index, as bytes.
+#[derive(Debug, Drop)]
+pub struct TermFiles {
+    pub tis: Bytes,
+    pub tii: Bytes,
+}
+
+/// A number below 2^31 with a sign.
+fn signed(number: u32) -> i32
+    requires { number < 2 ^ 31 }
+    ensures { result ≡ pos number }
+{
+    number as i32
+}
+
+/// A number below 2^63 with a sign.
+fn signed_count(number: u64) -> i64
+    requires { number < 2 ^ 63 }
+    ensures { result ≡ pos number }
+{
+    number as i64
+}
+
+/// Appends a header.
+fn push_header(
+    out: &mut Vec<u8>,
+    count: u64,
+    index_interval: u32,
+    skip_interval: u32,
+    max_levels: u32,
+) -> Result<(), OutOfMemory>
+    requires count { count < 2 ^ 63 }
+    requires index_interval { index_interval < 2 ^ 31 }
+    requires skip_interval { skip_interval < 2 ^ 31 }
+    requires max_levels { max_levels < 2 ^ 31 }
+    ensures { IfOk result (λ _. out.new.items ≡ out.old.items ++ header_bytes (numbers_of index_interval skip_interval max_levels 0) count) }
+{
+    let terms = signed_count(count);
+    let index = signed(index_interval);
+    let skip = signed(skip_interval);
+    let levels = signed(max_levels);
+    put_i32(out, FORMAT)?;
+    put_i64(out, terms)?;
+    put_i32(out, index)?;
+    put_i32(out, skip)?;
+    put_i32(out, levels)?;
+    Ok(())
+}
+
+/// Writes bytes over the first ones.
+fn write_front(bytes: &mut [u8], front: &[u8])
+    requires { length front.now ≤ length bytes.old }
+    ensures { bytes.new ≡ front.now ++ drop (length front.now) bytes.old }
+{
+    bytes[..front.len()].copy_from_slice(front);
+}
+
+/// The file with its header in the room that was left for it.
+fn with_header(file: Vec<u8>, head: &[u8]) -> Vec<u8>
+    requires { length head.now ≤ length file.items }
+    ensures { result.items ≡ head.now ++ drop (length head.now) file.items }
+{
+    let mut out = file;
+    write_front(&mut out, head);
+    out
+}
+
+/// The file with a header of its own before what stands behind the room for it.
+fn headed(
+    file: Vec<u8>,
+    count: u64,
+    index_interval: u32,
+    skip_interval: u32,
+    max_levels: u32,
+) -> Result<Vec<u8>, OutOfMemory>
+    requires count { count < 2 ^ 63 }
+    requires index_interval { index_interval < 2 ^ 31 }
+    requires skip_interval { skip_interval < 2 ^ 31 }
+    requires max_levels { max_levels < 2 ^ 31 }
+    requires room { 24 ≤ length file.items }
+    ensures { IfOk result (λ out. out.items ≡ header_bytes (numbers_of index_interval skip_interval max_levels 0) count ++ drop 24 file.items) }
+{
+    let mut head = Vec::new(*file.allocator());
+    push_header(&mut head, count, index_interval, skip_interval, max_levels)?;
+    Ok(with_header(file, head.as_slice()))
+}
+
+impl TermWriter {
+    /// The two files of the terms that were added: the canonical ones, in which each text shares as many bytes as it can with
+    /// the one before.
+    pub fn finish(self) -> Result<TermFiles, OutOfMemory>
+        ensures tis { IfOk result (λ files. files.tis ≡ canonical_tis (numbers_written self) self.terms) }
+        ensures tii { IfOk result (λ files. files.tii ≡ canonical_tii (numbers_written self) self.terms) }
+        ensures intervals { AreIntervals self }
+        ensures spellable { AreSpellable self.skip_interval no_term self.terms }
+    {
+        let TermWriter {
+            index_interval,
+            skip_interval,
+            max_levels,
+            count,
+            tis,
+            last: _,
+            index,
+        } = self;
+        let interval = u64::from(index_interval);
+        let entries = (count + (interval - 1)) / interval;
+        let tis = headed(tis, count, index_interval, skip_interval, max_levels)?;
+        let tii = headed(
+            index.bytes,
+            entries,
+            index_interval,
+            skip_interval,
+            max_levels,
+        )?;
+        Ok(TermFiles {
+            tis: Bytes::new(tis),
+            tii: Bytes::new(tii),
+        })
     }
 }

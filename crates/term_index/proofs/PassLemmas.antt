@@ -1,13 +1,12 @@
 -- Terms that a walk passes.
-use Rattle.std.proofs.Common.{◌≡◌, ℕ, zero, suc, min, [], ◌∷◌, ◌+◌, ◌-◌, ◌<◌, ◌≤◌, List, length, take, get_or, Option, Some, None, refl, sym, ap, subst, ◌∙◌, arith}
+use Rattle.std.proofs.Common.{◌≡◌, ℕ, zero, suc, min, [], ◌∷◌, ◌+◌, ◌-◌, ◌<◌, ◌≤◌, List, length, take, get_or, Option, Some, None, refl, sym, ap, ◌∙◌, arith}
 use Rattle.std.specs.Prelude.{slice_get, slice_index_or}
 use Rattle.std.specs.Option.{option_map}
-use Rattle.std.specs.Ordering.{ord_min, nat_cmp}
-use Rattle.std.proofs.lemmas.Bool.Decides.{nat_tests}
 use Rattle.std.proofs.lemmas.List.{get_or-take, length-take-le}
 use Rattle.std.proofs.lemmas.Option.{slice_get-get_or}
 use Rattle.lu_types.specs.declared.term.TermInfo.{TermInfo}
 use Rattle.term_dict.specs.Terms.{Term, no_term, last_term}
+use Rattle.term_dict.proofs.LoopLemmas.{last_term-push}
 use Rattle.term_dict.specs.Walk.{Walk, term_passed, passed_on, Shares}
 use Rattle.term_index.specs.Points.{walk_to, ShareFront}
 
@@ -82,3 +81,5 @@ HasPassed-there start n w info shared h lt is =
     let e : none_of ≡ some_of (slice_index_or d.terms p no_term).info =
     is ∙ ap (λ (x : Walk). option_map (λ (t : Term). t.info) (slice_get x.dictionary.terms x.passed)) h.walk ∙ ap (λ (o : Option Term). option_map (λ (t : Term). t.info) o) (slice_get-get_or d.terms p no_term lt) in
     cc
+
+pub ruleset pushing = (last_term-push)

@@ -4,6 +4,8 @@
 mod checking;
 mod index;
 mod point;
+#[cfg(test)]
+mod tests;
 mod walk;
 
 pub use checking::check_tii;

@@ -1,0 +1,156 @@
+ghost use Rattle.std.specs.Prelude.{◌≡◌, ◌≤◌, length};
+
+use super::*;
+use lu_prims::{OutOfMemory, Steps};
+use lu_types::{CodecFault, FieldTable, Spot, TermInfo};
+use std::alloc::Global;
+use std::test::Fail;
+use term_dict::{TermFile, TermFiles, TermWriter};
+
+/// What is compared.
+struct Compared;
+
+/// The field `f`, which is indexed.
+fn one_field<'a>(alloc: Global) -> Result<FieldTable<'a>, OutOfMemory> {
+    let mut fields = FieldTable::new(alloc);
+    fields.push("f", 0x01)?;
+    Ok(fields)
+}
+
+/// What is said of a term that is in one document, with these places.
+fn once(place: u32) -> TermInfo
+    ensures { result ≡ record { field = 0; doc_freq = 1; freq = place; prox = place; skip = 0 } }
+{
+    TermInfo {
+        field: 0,
+        doc_freq: 1,
+        freq: place,
+        prox: place,
+        skip: 0,
+    }
+}
+
+/// The files of the terms `t000`, `t001` and so on, each in one document, with its number for both places, and an index of
+/// every second one.
+#[tactic(auto, using(crate::proofs::PassLemmas::pushing))]
+fn numbered(alloc: Global, count: u32, interval: u32) -> Result<TermFiles, OutOfMemory>
+    requires count { count ≤ 1000 }
+    requires some { 1 ≤ interval }
+    requires few { interval ≤ 1000 }
+{
+    let mut writer = TermWriter::new(alloc, interval, 16, 10)?;
+    for number in 0..count {
+        let text = format!(in alloc; "t{:03}", number)?;
+        if text.len() < 100 {
+            writer.add(text.as_str(), &once(number))?;
+        }
+    }
+    writer.finish()
+}
+
+/// The bytes from a place on.
+fn tail(bytes: &[u8], from: usize) -> &[u8] {
+    if from <= bytes.len() {
+        bytes.split_at(from).1
+    } else {
+        bytes
+    }
+}
+
+/// The bytes with one of them changed.
+fn changed(alloc: Global, bytes: &[u8], place: usize, byte: u8) -> Result<Vec<u8>, OutOfMemory> {
+    let mut copy = Vec::from_slice(alloc, bytes)?;
+    if place < copy.len() {
+        copy[place] = byte;
+    }
+    Ok(copy)
+}
+
+/// The place and the rule of the fault of an index; 0 and 0 where there is none.
+fn fault_of(alloc: Global, tii: &[u8], terms: &TermFile<'_>) -> Result<(u64, u16), OutOfMemory> {
+    match check_tii(alloc, tii, terms) {
+        Ok(()) => Ok((0, 0)),
+        Err(CodecFault::Spot(Spot { offset, rule, .. })) => Ok((offset, rule)),
+        Err(CodecFault::OutOfMemory) => Err(OutOfMemory),
+    }
+}
+
+#[test]
+fn faults(rt: HostRuntime) -> Result<(), Fail> {
+    let alloc = rt.alloc();
+    let files = numbered(alloc, 3, 2)?;
+    let tis = files.tis.as_slice();
+    if tis.len() > 9999 {
+        return Ok(());
+    }
+    let fields = one_field(alloc)?;
+    let terms = TermFile::check_tis(alloc, tis, &fields, 1)
+        .ok()
+        .ok_or("good terms")?;
+    let tii = files.tii.as_slice();
+    // Entry 0 stands at 24, and entry 1, of `t001`, at 35: prefix, length and bytes of the suffix, field, frequency, the
+    // places, and the step to the place of `t002`.
+    assert_eq!(rt;
+        tail(tii, 24),
+        b"\0\0\xFF\xFF\xFF\xFF\x0F\0\0\0\x18\0\x04t001\0\x01\x01\x01\x11".as_slice()
+    );
+    for (place, byte, fault) in [
+        (3, 0xFC, (0, 0)),
+        (3, 0xFB, (0, 62)),
+        (11, 1, (0, 63)),
+        (11, 3, (0, 63)),
+        (15, 1, (0, 64)),
+        (19, 17, (0, 64)),
+        (23, 11, (0, 64)),
+        (24, 1, (24, 65)),
+        (28, 0x7F, (24, 66)),
+        (30, 0, (24, 2)),
+        (31, 1, (24, 66)),
+        (32, 1, (24, 66)),
+        (34, 0x19, (24, 67)),
+        (35, 1, (35, 65)),
+        (40, b'2', (35, 66)),
+        (41, 1, (35, 66)),
+        (42, 2, (35, 66)),
+        (43, 2, (35, 66)),
+        (44, 2, (35, 66)),
+        (45, 0x12, (35, 67)),
+    ] {
+        let bytes = changed(alloc, tii, place, byte)?;
+        assert_eq!(rt; fault_of(alloc, bytes.as_slice(), &terms)?, fault);
+    }
+    Ok(())
+}
+
+#[test]
+fn seeks(rt: HostRuntime) -> Result<(), Fail> {
+    let alloc = rt.alloc();
+    let files = numbered(alloc, 129, 128)?;
+    let tis = files.tis.as_slice();
+    let tii = files.tii.as_slice();
+    if tis.len() > 9999 {
+        return Ok(());
+    }
+    let fields = one_field(alloc)?;
+    let terms = TermFile::check_tis(alloc, tis, &fields, 1)
+        .ok()
+        .ok_or("good terms")?;
+    for cut in 0..tii.len() {
+        let (offset, rule) = fault_of(alloc, tii.split_at(cut).0, &terms)?;
+        assert_eq!(rt; rule, 1);
+        assert!(rt; offset <= cut as u64);
+    }
+    if check_tii(alloc, tii, &terms).is_err() {
+        return Err(Fail::from("a good index"));
+    }
+    let mut index = TermIndex::load(alloc, tii, &terms, &fields)?;
+    let mut steps: Steps<Compared> = Steps::new();
+    assert_eq!(rt; index.seek("f", "t128", &mut steps), Some(once(128)));
+    assert_eq!(rt; steps.count(), 129);
+    assert_eq!(rt; index.seek("f", "t000", &mut steps), Some(once(0)));
+    assert_eq!(rt; steps.count(), 130);
+    assert!(rt; index.seek("f", "t129", &mut steps).is_none());
+    assert!(rt; index.seek("f", "t1280", &mut steps).is_none());
+    assert!(rt; index.seek("g", "t000", &mut steps).is_none());
+    Ok(())
+}

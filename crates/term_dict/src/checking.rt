@@ -8,11 +8,11 @@ ghost use Rattle.term_dict.specs.Last.{term_of, IsSound};
 ghost use Rattle.term_dict.specs.Checks.{IsHeader, IsNext, AreBounded, AreWithin, IsBrokenSo, broken_so};
 
 use crate::entry::entry_at;
-use crate::heading::{bad_rule, heading_at, numbers_of};
+use crate::heading::{heading_at, numbers_of};
 use crate::last::LastTerm;
 use crate::numbers::TermNumbers;
 use lu_prims::{Cur, OutOfMemory};
-use lu_types::rules::TRAILING;
+use lu_types::rules::{TRAILING, rule_of};
 use lu_types::{CodecFault, FieldTable, FileKind, Spot};
 use std::alloc::Global;
 
@@ -21,7 +21,7 @@ pub(crate) fn header_at(cur: &mut Cur<'_>) -> Result<TermNumbers, u16>
     ensures { IsHeader cur.old cur.new result }
 {
     match heading_at(cur) {
-        Err(bad) => Err(bad_rule(bad)),
+        Err(bad) => Err(rule_of(bad)),
         Ok(heading) => numbers_of(&heading),
     }
 }
@@ -42,7 +42,7 @@ fn next_term(
     ensures sound { IfOk result (λ rule. rule ≡ None → IsSound (term_of last.new)) }
 {
     match entry_at(cur, false, skip_interval) {
-        Err(bad) => Ok(Some(bad_rule(bad))),
+        Err(bad) => Ok(Some(rule_of(bad))),
         Ok(entry) => last.step(&entry, first, fields, documents),
     }
 }

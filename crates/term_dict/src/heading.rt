@@ -1,33 +1,18 @@
 ghost use Rattle.std.specs.Prelude.{◌≡◌, MatchResult, Some, None};
-ghost use Rattle.lu_grammar.specs.Records.{first_broken, rule_of};
+ghost use Rattle.lu_grammar.specs.Records.{first_broken};
 ghost use Rattle.term_dict.specs.Headings.{heading_shape, heading_conditions, numbers_of};
 ghost use Rattle.term_dict.specs.Entries.{TakesShape};
 ghost use Rattle.term_dict.specs.Checks.{AreBounded, IsHeader};
 
 use crate::numbers::TermNumbers;
 use lu_prims::{Bad, Cur};
-use lu_types::rules::{
-    ENDS, INDEX_INTERVAL, LONG_NUMBER, NOT_UTF8, SKIP_INTERVAL, SKIP_LEVELS, TERM_COUNT,
-    TIS_FORMAT, TOO_GREAT,
-};
+use lu_types::rules::{INDEX_INTERVAL, SKIP_INTERVAL, SKIP_LEVELS, TERM_COUNT, TIS_FORMAT};
 
 /// The format number of the terms and of their index.
 pub const FORMAT: i32 = -4;
 
 /// The most terms of a file.
 const MOST_TERMS: i64 = (1 << 31) - 1;
-
-/// The rule that a part without a spelling breaks.
-pub fn bad_rule(bad: Bad) -> u16
-    ensures { result ≡ rule_of bad }
-{
-    match bad {
-        Bad::Ends => ENDS,
-        Bad::LongNumber => LONG_NUMBER,
-        Bad::TooGreat => TOO_GREAT,
-        Bad::NotUtf8 => NOT_UTF8,
-    }
-}
 
 /// The header of a file of terms or of their index, as it stands there (format page, "Terms").
 #[derive(Clone, Copy, Debug, PartialEq, Eq)]

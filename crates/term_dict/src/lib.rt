@@ -16,13 +16,12 @@ mod writer;
 pub use cursor::TermCursor;
 pub use entry::{TermEntry, entry_at};
 pub use file::TermFile;
-pub use heading::{FORMAT, Heading, bad_rule, heading_at};
+pub use heading::{FORMAT, Heading, heading_at};
 pub use last::follow;
 pub use laws::{written_index_is_read, written_is_read};
 pub use lu_types::TermInfo;
 pub use numbers::TermNumbers;
+pub use writer::{TermFiles, TermWriter};
 
 #[cfg(test)]
 mod tests;
-
-pub use writer::{TermFiles, TermWriter};

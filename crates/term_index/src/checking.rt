@@ -17,12 +17,12 @@ use crate::point::{IndexPoint, point_at};
 use crate::walk::{Passed, pass_interval};
 use lu_prims::{Cur, OutOfMemory};
 use lu_types::rules::{
-    TII_COUNT, TII_FORMAT, TII_INTERVALS, TII_PLACE, TII_PREFIX, TII_TERM, TRAILING,
+    TII_COUNT, TII_FORMAT, TII_INTERVALS, TII_PLACE, TII_PREFIX, TII_TERM, TRAILING, rule_of,
 };
 use lu_types::{CodecFault, FileKind, Spot, TermInfo};
 use std::alloc::Global;
 use term_dict::{
-    FORMAT, Heading, TermCursor, TermEntry, TermFile, TermNumbers, bad_rule, follow, heading_at,
+    FORMAT, Heading, TermCursor, TermEntry, TermFile, TermNumbers, follow, heading_at,
 };
 
 /// How many entries the index of so many terms has: one for each interval that has begun.
@@ -159,7 +159,7 @@ fn next_point(
     ensures good { IfOk result (λ rule. rule ≡ None → (last_of last.new ≡ wanted_of passed.now.info cursor.now) × (last.new.place ≡ next_place cursor.now)) }
 {
     match point_at(cur, skip_interval) {
-        Err(bad) => Ok(Some(bad_rule(bad))),
+        Err(bad) => Ok(Some(rule_of(bad))),
         Ok(point) => last.step(&point, passed, cursor),
     }
 }
@@ -211,7 +211,7 @@ fn header_at(cur: &mut Cur<'_>, numbers: &TermNumbers) -> Option<u16>
     ensures { IsIndexHeader numbers.now cur.old cur.new result }
 {
     match heading_at(cur) {
-        Err(bad) => Some(bad_rule(bad)),
+        Err(bad) => Some(rule_of(bad)),
         Ok(heading) => heading_rule(&heading, numbers),
     }
 }

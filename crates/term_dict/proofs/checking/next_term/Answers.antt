@@ -6,7 +6,7 @@ use Rattle.term_dict.proofs.checking.next_term.Goals as goal
 
 pub returns-in-Err-clause-next : goal.returns-in-Err-clause-next
 returns-in-Err-clause-next c = λ s is first.
-    next-unread (within c.args.fields.now c.args.documents) c.args.skip_interval s c.args.cur.now c.in-Err.bad c.bad_rule.result c.in-Err.ensures.takes c.bad_rule.ensures
+    next-unread (within c.args.fields.now c.args.documents) c.args.skip_interval s c.args.cur.now c.in-Err.bad c.rule_of.result c.in-Err.ensures.takes c.rule_of.ensures
 
 pub returns-in-Ok-clause-next : goal.returns-in-Ok-clause-next
 returns-in-Ok-clause-next c = λ s is first.

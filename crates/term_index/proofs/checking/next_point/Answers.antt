@@ -5,7 +5,7 @@ use Rattle.term_index.proofs.checking.next_point.Goals as goal
 
 pub returns-in-Err-clause-next : goal.returns-in-Err-clause-next
 returns-in-Err-clause-next c = λ d n k t p.
-    next-unread d (progress n (last_of c.args.last.now) c.args.last.now.place) c.args.skip_interval c.args.cur.now c.in-Err.bad c.bad_rule.result k c.in-Err.ensures.takes c.bad_rule.ensures
+    next-unread d (progress n (last_of c.args.last.now) c.args.last.now.place) c.args.skip_interval c.args.cur.now c.in-Err.bad c.rule_of.result k c.in-Err.ensures.takes c.rule_of.ensures
 
 pub returns-in-Ok-clause-next : goal.returns-in-Ok-clause-next
 returns-in-Ok-clause-next c = λ d n k t p.

@@ -2,12 +2,13 @@
 #![tactic(auto)]
 
 mod checking;
+#[cfg(test)]
+mod drawn_tests;
 mod index;
 mod point;
-mod walk;
-
 #[cfg(test)]
 mod tests;
+mod walk;
 
 pub use checking::check_tii;
 pub use index::TermIndex;

@@ -17,7 +17,7 @@ struct Compared;
 const DICTIONARIES: u64 = 300;
 
 /// What texts are made of, of one to four bytes each, in the order of the units of UTF-16.
-const LETTERS: [char; 5] = ['a', 'é', '字', '\u{10000}', '\u{ff61}'];
+const LETTERS: [char; 6] = ['a', 'è', 'é', '字', '\u{10000}', '\u{ff61}'];
 
 /// The names of the indexed fields, in the order of the units of UTF-16.
 const NAMES: [&str; 3] = ["é", "é\u{10000}", "é\u{ff61}"];
@@ -59,11 +59,12 @@ impl Draw {
     }
 }
 
-/// The intervals of a dictionary.
+/// The intervals of a dictionary, and how many texts are drawn for a field at most.
 #[derive(Clone, Copy)]
-struct Intervals {
+struct Shape {
     index: u32,
     skip: u32,
+    most: u32,
 }
 
 /// A term that was handed in: the name of its field, its text, and what is said of it.
@@ -74,18 +75,19 @@ struct Handed {
     info: TermInfo,
 }
 
-/// Intervals of terms and of skip data.
-fn drawn_intervals(draw: &mut Draw) -> Intervals {
+/// Intervals of terms and of skip data, and a bound on the texts of a field.
+fn drawn_shape(draw: &mut Draw) -> Shape {
     let index = [1, 2, 4, 128][draw.below(4) as usize];
     let skip = [2, 16][draw.below(2) as usize];
-    Intervals { index, skip }
+    let most = draw.below(19);
+    Shape { index, skip, most }
 }
 
 /// A text of at most three letters.
 fn drawn_text(alloc: Global, draw: &mut Draw) -> Result<String, OutOfMemory> {
     let mut text = String::new(alloc);
     for _ in 0..draw.below(4) {
-        text.push(LETTERS[draw.below(5) as usize])?;
+        text.push(LETTERS[draw.below(6) as usize])?;
     }
     Ok(text)
 }
@@ -102,14 +104,16 @@ fn place_of(texts: &[String], text: &str) -> Option<usize> {
     Some(texts.len())
 }
 
-/// Rising texts.
+/// Rising texts, at most so many.
 fn drawn_texts(
     rt: &impl Abort,
     alloc: Global,
     draw: &mut Draw,
+    most: u32,
 ) -> Result<Vec<String>, OutOfMemory> {
+    assert!(rt; most < 100);
     let mut texts = Vec::new(alloc);
-    for _ in 0..draw.below(14) {
+    for _ in 0..draw.below(most + 1) {
         let text = drawn_text(alloc, draw)?;
         if let Some(place) = place_of(texts.as_slice(), text.as_str()) {
             assert!(rt; place <= texts.len());
@@ -152,14 +156,14 @@ fn hand_in(
     handed: &mut Vec<Handed>,
     name: &'static str,
     field: u32,
-    skip_interval: u32,
+    shape: Shape,
 ) -> Result<(), OutOfMemory> {
-    for text in drawn_texts(rt, alloc, draw)? {
+    for text in drawn_texts(rt, alloc, draw, shape.most)? {
         let last = match handed.last() {
             Some(term) => term.info,
             None => BEFORE,
         };
-        let info = drawn_info(rt, draw, field, &last, skip_interval);
+        let info = drawn_info(rt, draw, field, &last, shape.skip);
         handed.push(Handed { name, text, info })?;
     }
     Ok(())
@@ -217,12 +221,12 @@ fn drawn_terms(
     alloc: Global,
     draw: &mut Draw,
     fields: &FieldTable<'_>,
-    skip_interval: u32,
+    shape: Shape,
 ) -> Result<Vec<Handed>, OutOfMemory> {
     let mut handed = Vec::new(alloc);
     for name in NAMES {
         if let Some(field) = fields.find(name) {
-            hand_in(rt, alloc, draw, &mut handed, name, field, skip_interval)?;
+            hand_in(rt, alloc, draw, &mut handed, name, field, shape)?;
         }
     }
     Ok(handed)
@@ -241,9 +245,9 @@ fn written(
     rt: &impl Abort,
     alloc: Global,
     handed: &[Handed],
-    intervals: Intervals,
+    shape: Shape,
 ) -> Result<TermFiles, OutOfMemory> {
-    let Intervals { index, skip } = intervals;
+    let Shape { index, skip, .. } = shape;
     assert!(rt; 1 <= index && index < 1000);
     assert!(rt; 2 <= skip && skip < 1000);
     let mut writer = TermWriter::new(alloc, index, skip, 10)?;
@@ -386,10 +390,10 @@ fn holds_terms<'a>(
 /// One dictionary, from its terms to what is found in it.
 fn dictionary(rt: &impl Abort, alloc: Global, seed: u64) -> Result<(), Fail> {
     let mut draw = Draw::seeded(seed);
-    let intervals = drawn_intervals(&mut draw);
+    let shape = drawn_shape(&mut draw);
     let fields = drawn_fields(rt, alloc, &mut draw)?;
-    let handed = drawn_terms(rt, alloc, &mut draw, &fields, intervals.skip)?;
-    let files = written(rt, alloc, handed.as_slice(), intervals)?;
+    let handed = drawn_terms(rt, alloc, &mut draw, &fields, shape)?;
+    let files = written(rt, alloc, handed.as_slice(), shape)?;
     holds_terms(rt, alloc, &mut draw, &files, fields, handed.as_slice())
 }
 

@@ -1,5 +1,5 @@
 -- The first condition that is broken, and what decides the conditions of a term.
-use Rattle.std.proofs.Common.{◌≡◌, ◌≤◌, ◌<◌, ℕ, Bool, true, false, not, ◌||◌, eqb, ltb, List, [], ◌∷◌, ◌++◌, length, take, drop, Option, Some, None, refl, sym, ap, subst, ◌∙◌}
+use Rattle.std.proofs.Common.{◌≡◌, ◌≤◌, ℕ, Bool, true, false, ◌||◌, eqb, ltb, List, [], ◌∷◌, ◌++◌, length, take, drop, Some, None, refl, sym, ap, subst, ◌∙◌}
 use Rattle.std.specs.Prelude.{if◌then◌else◌}
 use Rattle.std.proofs.lemmas.Bool.{le-ltb}
 use Rattle.std.specs.Str.{IsUtf8, is_utf8}
@@ -10,7 +10,7 @@ use Rattle.lu_grammar.specs.Records.{Condition, first_broken}
 use Rattle.lu_types.specs.Tables.{TableField}
 use Rattle.term_dict.specs.Entries.{Entry}
 use Rattle.term_dict.specs.Terms.{Term, last_term, term_after, is_above, bytes_cmp, field_of}
-use Rattle.term_dict.specs.Dictionary.{Standing, within, place_conditions, against, term_conditions}
+use Rattle.term_dict.specs.Dictionary.{Standing, place_conditions, against, term_conditions}
 use Rattle.term_dict.proofs.OrderLemmas.{text_cmp-tail}
 
 -- one that is broken among the first, and none

@@ -1,5 +1,5 @@
 -- What a check of a whole file shows.
-use Rattle.std.proofs.Common.{◌≡◌, ℕ, zero, suc, ◌<◌, ◌^◌, true, false, Bool, eqb, ltb, List, [], ◌∷◌, ◌++◌, length, Option, Some, None, Result, Ok, Err, refl, sym, ap, subst, ◌∙◌}
+use Rattle.std.proofs.Common.{◌≡◌, ℕ, zero, suc, true, false, Bool, eqb, ltb, List, [], ◌∷◌, ◌++◌, length, Option, Some, None, Result, Ok, Err, refl, sym, ap, ◌∙◌}
 use Rattle.std.specs.Prelude.{if◌then◌else◌, not}
 use Rattle.std.specs.Str.{is_utf8}
 use Rattle.lu_types.specs.declared.rules.TheConstants.{TERM_PREFIX, TERM_UTF8}
@@ -10,15 +10,13 @@ use Rattle.lu_grammar.specs.Records.{Shape, Condition, first_broken, read_shape,
 use Rattle.lu_grammar.specs.declared.bad.Bad.{Bad}
 use Rattle.lu_grammar.specs.declared.general.TheConstants.{TRAILING}
 use Rattle.lu_grammar.specs.Plans.{Plan, done, Broken, broken_at, one, each, times, read_plan, ended, read_file}
-use Rattle.lu_grammar.specs.Meaning.{Reads, FirstFault}
 use Rattle.lu_grammar.proofs.Plans.{read_due, read_due_broken, ok_of, err_is_not_ok}
 use Rattle.lu_grammar.proofs.Loops.{read_plan-and_then, then_ok, one-was, one-read}
 use Rattle.lu_grammar.proofs.Records.{ok_pair, record_at-read}
-use Rattle.lu_grammar.proofs.Files.{Reads-from, FirstFault-from}
+use Rattle.lu_grammar.proofs.Files.{FirstFault-from}
 use Rattle.lu_types.specs.declared.fault.CodecFault.{CodecFault}
 use Rattle.lu_types.specs.declared.fault.CodecFault.TheVariants.{Spot, OutOfMemory}
 use Rattle.lu_types.specs.declared.kind.FileKind.{FileKind}
-use Rattle.term_dict.specs.declared.heading.Heading.{Heading}
 use Rattle.term_dict.specs.declared.numbers.TermNumbers.{TermNumbers}
 use Rattle.term_dict.specs.Headings.{header, heading_conditions, numbers_of, Line, heading, entry, heading_of, on_entry}
 use Rattle.term_dict.specs.Entries.{Entry}

@@ -1,3 +1,4 @@
+pub mod ByteLemmas
 pub mod CheckLemmas
 pub mod ConditionLemmas
 pub mod FileLemmas
@@ -11,3 +12,5 @@ pub mod TextLemmas
 pub mod WalkLemmas
 pub mod WriteLemmas
 pub mod WriterLemmas
+pub mod ReadBack
+pub mod IndexBack

@@ -2,7 +2,6 @@
 use Rattle.std.proofs.Common.{◌≡◌, ℕ, List, [], ◌∷◌, ◌++◌, Result, Ok, Err, refl}
 use Rattle.std.specs.Str.{is_utf8, chars}
 use lib.Utf8.{encode}
-use Rattle.lu_grammar.specs.Parts.{groups}
 use Rattle.lu_grammar.specs.Reading.{read, read_groups}
 use Rattle.lu_grammar.specs.Records.{record_at}
 use Rattle.lu_grammar.specs.Plans.{Broken, each, read_plan, read_file}
@@ -10,7 +9,6 @@ use Rattle.lu_types.specs.Tables.{TableField}
 use Rattle.lu_types.specs.declared.term.TermInfo.{TermInfo}
 use Rattle.lu_types.specs.declared.rules.TheConstants.{TERM_ORDER, DOC_FREQ, TII_PLACE}
 use Rattle.term_dict.specs.declared.numbers.TermNumbers.{TermNumbers}
-use Rattle.term_dict.specs.Terms.{Term}
 use Rattle.term_dict.specs.Dictionary.{Dictionary, tis_plan}
 use Rattle.term_dict.specs.Index.{tii_plan}
 

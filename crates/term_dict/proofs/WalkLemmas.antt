@@ -1,5 +1,5 @@
 -- A second walk over terms that were checked.
-use Rattle.std.proofs.Common.{◌≡◌, ℕ, zero, suc, ◌+◌, ◌-◌, ◌<◌, ◌≤◌, ◌^◌, true, false, Bool, eqb, ltb, leb, not, ◌||◌, List, [], ◌∷◌, ◌++◌, length, get_or, take, drop, Option, Some, None, Result, Ok, Err, refl, sym, ap, subst, ◌∙◌, append_assoc, arith, inl, inr}
+use Rattle.std.proofs.Common.{◌≡◌, ℕ, zero, suc, ◌+◌, ◌-◌, ◌<◌, ◌≤◌, ◌^◌, true, false, Bool, eqb, ltb, leb, not, ◌||◌, List, [], ◌∷◌, ◌++◌, length, get_or, take, drop, Some, None, Result, Ok, Err, refl, sym, ap, subst, ◌∙◌, append_assoc, arith, inl, inr}
 use Rattle.std.specs.Prelude.{slice_get, slice_index_or, if◌then◌else◌}
 use Rattle.std.specs.Str.{is_utf8}
 use Rattle.std.specs.Int.{Width, w32, w64}
@@ -16,11 +16,11 @@ use Rattle.std.proofs.lemmas.Str.{IsUtf8-from_is_utf8}
 use Rattle.lu_grammar.specs.declared.bad.Bad.{Bad}
 use Rattle.lu_grammar.specs.declared.bad.Bad.TheVariants.{Ends}
 use Rattle.lu_grammar.specs.Bytes.{IsBytes, Cursor, start_of, moved}
-use Rattle.lu_grammar.specs.Parts.{Part, int32, int64, Value}
+use Rattle.lu_grammar.specs.Parts.{int32, int64}
 use Rattle.lu_grammar.specs.Reading.{◌>>=◌, read, read_part, signed_of}
-use Rattle.lu_grammar.specs.Records.{Shape, whole, followed, first_broken, read_shape, record_at}
-use Rattle.lu_grammar.specs.Plans.{Plan, Broken, broken_at, one, each, times, read_plan, ended, read_file}
-use Rattle.lu_grammar.specs.Meaning.{ReadsTo, bytes_of}
+use Rattle.lu_grammar.specs.Records.{whole, followed, first_broken, read_shape, record_at}
+use Rattle.lu_grammar.specs.Plans.{Plan, Broken, broken_at, one, each, times, read_plan, ended}
+use Rattle.lu_grammar.specs.Meaning.{bytes_of}
 use Rattle.lu_grammar.proofs.Records.{ok_pair, same_pair, TakesRecord, ShapeJudges, read_shape-judges}
 use Rattle.lu_grammar.proofs.Plans.{ok_of, err_of, err_is_not_ok, reads-read_plan}
 use Rattle.lu_grammar.proofs.Loops.{read_plan-and_then, each-none, read_shape-followed, then_ok, one-was, times-again, times-more, each-rest}
@@ -32,7 +32,7 @@ use Rattle.term_dict.specs.Terms.{Term, no_term, last_term, term_after}
 use Rattle.term_dict.specs.Dictionary.{Dictionary, Standing, anywhere, Progress, no_terms, with_term, term_conditions, is_past, term_kind, terms_plan, dictionary_plan}
 use Rattle.term_dict.specs.Last.{IsSound, Fits}
 use Rattle.term_dict.specs.Content.{content, IsRead}
-use Rattle.term_dict.specs.Walk.{Walk, at_place, IsAt, Shares, walk_in}
+use Rattle.term_dict.specs.Walk.{at_place, IsAt, Shares, walk_in}
 use Rattle.term_dict.proofs.FileLemmas.{record_at-was, dictionary_of, finish, inner}
 
 -- ---- the header

@@ -1,27 +1,25 @@
 -- Terms that are spelled one after another are read as these terms.
-use Rattle.std.proofs.Common.{◌≡◌, ℕ, zero, suc, ◌+◌, ◌-◌, ◌<◌, ◌≤◌, ◌^◌, true, false, Bool, eqb, leb, List, [], ◌∷◌, ◌++◌, length, take, drop, get_or, Option, Some, None, Result, Ok, Err, refl, sym, ap, subst, ◌∙◌, append_assoc, arith, inl, inr, add-one}
+use Rattle.std.proofs.Common.{◌≡◌, ℕ, zero, suc, ◌+◌, ◌-◌, ◌<◌, ◌≤◌, ◌^◌, true, false, Bool, eqb, leb, List, [], ◌∷◌, ◌++◌, length, take, drop, get_or, None, Result, Ok, refl, sym, ap, subst, ◌∙◌, append_assoc, arith, add-one}
 use Rattle.std.specs.Prelude.{if◌then◌else◌}
 use Rattle.std.specs.Option.{unwrap_or}
-use Rattle.std.proofs.lemmas.List.{length-append, length-drop, append-nil, take_more, length-take-le, get_or_push, get_or_append_left}
-use Rattle.std.proofs.lemmas.Bool.{cases_lt, cases_eq, eqb-true, leb-false}
-use Rattle.std.specs.Str.{IsUtf8}
+use Rattle.std.proofs.lemmas.List.{length-drop, append-nil, take_more}
+use Rattle.std.proofs.lemmas.Bool.{eqb-true, leb-false}
 use Rattle.lu_grammar.specs.Bytes.{IsBytes, Cursor}
-use Rattle.lu_grammar.specs.Parts.{num, vint, vlong, bytes, spelling, IsValue}
-use Rattle.lu_grammar.specs.Records.{Shape, whole, part, followed, optional, Spells, Condition, first_broken}
-use Rattle.lu_grammar.specs.Plans.{Broken, Kind, one, times, read_plan}
+use Rattle.lu_grammar.specs.Parts.{num, vint, vlong, spelling}
+use Rattle.lu_grammar.specs.Records.{whole, part, optional, Spells, Condition, first_broken}
+use Rattle.lu_grammar.specs.Plans.{Broken, one, times, read_plan}
 use Rattle.lu_grammar.proofs.Records.{at, Spells-followed}
 use Rattle.lu_grammar.proofs.Parts.{IsBytes-drop}
 use Rattle.lu_grammar.proofs.Writers.{Writes, Writes-none, Writes-record}
-use Rattle.term_dict.specs.Headings.{Line, entry, on_entry}
+use Rattle.term_dict.specs.Headings.{entry, on_entry}
 use Rattle.term_dict.specs.Entries.{Entry, entry_shape, field_number}
 use Rattle.term_dict.specs.Terms.{Term, no_term, last_term, term_after}
-use Rattle.term_dict.specs.Dictionary.{Progress, no_terms, with_term, Standing, term_conditions, terms_by, term_kind}
-use Rattle.term_dict.specs.Canonical.{shared, entry_between, skip_bytes, entry_bytes, terms_bytes, start_of_term}
+use Rattle.term_dict.specs.Dictionary.{Progress, no_terms, with_term, terms_by}
+use Rattle.term_dict.specs.Canonical.{shared, entry_between, skip_bytes, entry_bytes, terms_bytes, starts_of}
 use Rattle.term_dict.specs.Writing.{Follows, IsSpellable, AreSpellable, any_terms, terms_in, IsBehind}
 use Rattle.term_dict.specs.Content.{or_else}
 use Rattle.term_dict.specs.Walk.{at_place}
 use Rattle.std.proofs.Math.Seq.{take-length}
-use Rattle.term_dict.proofs.LoopLemmas.{last_term-push}
 
 -- ---- what two texts share
 
@@ -177,8 +175,7 @@ plain-entry interval before t here follows = record {
 pub record Spelled (conditions : List Term → Entry → List Condition) (interval : ℕ) (ts : List Term) (n : ℕ) : Type 0 where
   pub s : Progress
   pub terms : s.terms ≡ take n ts
-  pub count : length s.starts ≡ n
-  pub starts : (j : ℕ) → j < n → get_or s.starts j 0 ≡ start_of_term interval ts j
+  pub starts : s.starts ≡ starts_of interval ts n
   pub writes : Writes (times (terms_by conditions interval) n no_terms) 24 (terms_bytes interval no_term (take n ts)) s
 
 take-last : (ts : List Term) (n : ℕ) → last_after no_term (take n ts) ≡ last_term (take n ts)
@@ -207,11 +204,7 @@ spelled-more conditions interval ts n h lt good w =
     record {
       s = new;
       terms = new_terms;
-      count = omega (arith, length-append w.s.starts (place ∷ []), w.count);
-      starts = λ j less. elim (cases_lt j n) [
-        | inl lt_n ↦ get_or_append_left w.s.starts (place ∷ []) 0 j (omega (arith, w.count)) ∙ w.starts j lt_n
-        | inr ge ↦ let is : j ≡ n = omega arith in get_or_push w.s.starts place 0 j (omega (arith, w.count, is)) ∙ ap (start_of_term interval ts) (sym is)
-      ];
+      starts = ap (λ (ns : List ℕ). ns ++ place ∷ []) w.starts ∙ ap (starts_of interval ts) (sym (add-one n));
       writes = subst (λ (b : List ℕ). Writes (times (terms_by conditions interval) (n + 1) no_terms) 24 b new) bytes_are more;
     }
 
@@ -220,8 +213,7 @@ pub spelled : (conditions : List Term → Entry → List Condition) (interval : 
 spelled conditions interval ts zero h le good = record {
   s = no_terms;
   terms = refl;
-  count = refl;
-  starts = λ j lt. absurd (omega (arith, lt));
+  starts = refl;
   writes = Writes-none (one (terms_by conditions interval)) 24 no_terms;
 }
 spelled conditions interval ts (suc n) h le good =

@@ -1,9 +1,8 @@
 -- What a writer keeps while terms are added.
-use Rattle.std.proofs.Common.{◌≡◌, ℕ, zero, suc, ◌+◌, ◌-◌, ◌*◌, ◌/◌, ◌%◌, ◌<◌, ◌≤◌, ◌^◌, Bool, true, false, eqb, ltb, List, [], ◌∷◌, ◌++◌, length, take, drop, replicate, refl, sym, ap, subst, ◌∙◌, append_assoc, add-one, arith, inl, inr}
+use Rattle.std.proofs.Common.{◌≡◌, ℕ, suc, ◌+◌, ◌*◌, ◌/◌, ◌%◌, ◌<◌, ◌≤◌, ◌^◌, Bool, true, false, eqb, ltb, List, [], ◌∷◌, ◌++◌, length, drop, refl, sym, ap, subst, ◌∙◌, add-one, arith, inl, inr}
 use Rattle.std.specs.Prelude.{if◌then◌else◌}
 use Rattle.std.proofs.lemmas.Bool.{cases_eq}
-use Rattle.std.proofs.lemmas.List.{nil_from_length, length-append, drop-append-le, length-drop, take-append-le}
-use Rattle.std.proofs.lemmas.Str.{IsUtf8-nil}
+use Rattle.std.proofs.lemmas.List.{nil_from_length, length-append, drop-append-le, length-drop}
 use Rattle.std.proofs.Math.Nat.{div-eq_of_lt}
 use Rattle.std.proofs.Math.Seq.{take-append_seam}
 use Rattle.lu_grammar.specs.Parts.{spelling, num, groups}
@@ -12,7 +11,7 @@ use Rattle.term_dict.specs.Terms.{Term, no_term, last_term}
 use Rattle.term_dict.specs.Index.{blank, point_after}
 use Rattle.term_dict.specs.Canonical.{Point, begun, entry_between, entry_bytes, terms_bytes, start_of_term, point_before, point_bytes, points_bytes}
 use Rattle.term_dict.specs.declared.writer.IndexOutput.{IndexOutput}
-use Rattle.term_dict.specs.Writing.{IsPassed, last_point, Written, with_written, no_terms_written, term_before, Follows, IsSpellable, AreSpellable, AreIntervals, terms_in, written_in, IsBehind, IsWritten}
+use Rattle.term_dict.specs.Writing.{IsPassed, last_point, Written, no_terms_written, term_before, Follows, IsSpellable, AreSpellable, AreIntervals, terms_in, written_in, IsBehind, IsWritten}
 use Rattle.term_dict.proofs.WriteLemmas.{last_after, last_after-last, terms_bytes-push, spellable-push, terms_in-spelled}
 use Rattle.term_dict.proofs.LoopLemmas.{last_term-push}
 use Rattle.term_dict.proofs.IndexLemmas.{begun-next, begun-at, begun-inside, point_after-push, point_before-push, points_bytes-push, term_before-is, point_of}

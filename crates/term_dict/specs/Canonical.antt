@@ -1,5 +1,5 @@
 -- The files that a writer makes of terms: each text shares as many bytes as it can with the one before.
-use Rattle.std.specs.Prelude.{ℕ, zero, suc, ◌+◌, ◌-◌, ◌*◌, ◌/◌, Bool, true, false, ◌==◌, ℤ, pos, negsuc, if◌then◌else◌, List, [], ◌∷◌, ◌++◌, length, take, drop, nat_le, Option, Some, None}
+use Rattle.std.specs.Prelude.{ℕ, zero, suc, ◌+◌, ◌-◌, ◌*◌, ◌/◌, ◌==◌, pos, negsuc, if◌then◌else◌, List, [], ◌∷◌, ◌++◌, length, take, drop, nat_le}
 use Rattle.lu_grammar.specs.Parts.{int32, int64, num, vint, vlong, spelling}
 use Rattle.term_dict.specs.declared.numbers.TermNumbers.{TermNumbers}
 use Rattle.term_dict.specs.Entries.{Entry}
@@ -50,6 +50,11 @@ canonical_tis numbers terms = header_bytes numbers numbers.count ++ terms_bytes 
 -- where a term starts in it
 abbrev pub start_of_term : ℕ → List Term → ℕ → ℕ
 start_of_term interval terms n = 24 + length (terms_bytes interval no_term (take n terms))
+
+-- where the first so many terms start
+abbrev pub starts_of : ℕ → List Term → ℕ → List ℕ
+starts_of interval terms zero = []
+starts_of interval terms (suc n) = starts_of interval terms n ++ start_of_term interval terms n ∷ []
 
 -- a term and a place in the file of terms
 pub record Point : Type 0 where

@@ -1,5 +1,5 @@
 -- The sparse index of a file of terms: its records, given the terms.
-use Rattle.std.specs.Prelude.{ℕ, zero, suc, ◌+◌, ◌-◌, ◌*◌, ◌/◌, ℤ, pos, Bool, true, not, ◌&&◌, ◌==◌, List, [], ◌∷◌, length, nat_lt, slice_index, slice_index_or}
+use Rattle.std.specs.Prelude.{ℕ, zero, suc, ◌+◌, ◌-◌, ◌*◌, ◌/◌, pos, Bool, true, not, ◌&&◌, ◌==◌, List, [], ◌∷◌, length, nat_lt, slice_index, slice_index_or}
 use Rattle.std.specs.Ordering.{int_eq}
 use Rattle.std.specs.Str.{bytes_eq}
 use Rattle.lu_grammar.specs.Parts.{vlong}

@@ -1,5 +1,5 @@
 -- The last term that was read.
-use Rattle.std.specs.Prelude.{ℕ, ◌<◌, ◌≤◌, ◌^◌, length}
+use Rattle.std.specs.Prelude.{◌<◌, ◌≤◌, ◌^◌, length}
 use Rattle.std.specs.Str.{IsUtf8}
 use Rattle.term_dict.specs.declared.last.LastTerm.{LastTerm}
 use Rattle.term_dict.specs.Entries.{Entry}

@@ -6,6 +6,7 @@ pub mod Entries
 pub mod Headings
 pub mod Index
 pub mod Last
+pub mod Laws
 pub mod Terms
 pub mod Walk
 pub mod Writing

@@ -7,6 +7,7 @@ mod entry;
 mod file;
 mod heading;
 mod last;
+mod laws;
 mod numbers;
 mod order;
 mod spelling;
@@ -17,6 +18,7 @@ pub use entry::{TermEntry, entry_at};
 pub use file::TermFile;
 pub use heading::{FORMAT, Heading, bad_rule, heading_at};
 pub use last::follow;
+pub use laws::{written_index_is_read, written_is_read};
 pub use lu_types::TermInfo;
 pub use numbers::TermNumbers;
 

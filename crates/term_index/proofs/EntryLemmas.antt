@@ -6,14 +6,13 @@ use Rattle.std.proofs.lemmas.Bool.{eqb-true}
 use Rattle.std.proofs.lemmas.Slice.Eq.{bytes_eq-Decides}
 use Rattle.lu_grammar.specs.declared.bad.Bad.{Bad}
 use Rattle.lu_grammar.specs.Bytes.{Cursor}
-use Rattle.lu_grammar.specs.Records.{Condition, first_broken, rule_of, read_shape}
+use Rattle.lu_grammar.specs.Records.{first_broken, rule_of, read_shape}
 use Rattle.lu_types.specs.declared.term.TermInfo.{TermInfo}
 use Rattle.lu_types.specs.declared.rules.TheConstants.{TII_PREFIX, TII_TERM, TII_PLACE}
-use Rattle.term_dict.specs.Headings.{Line, entry, on_entry}
-use Rattle.term_dict.specs.Entries.{Entry}
+use Rattle.term_dict.specs.Headings.{entry, on_entry}
 use Rattle.term_dict.specs.Terms.{Term, term_after}
 use Rattle.term_dict.specs.Dictionary.{Dictionary}
-use Rattle.term_dict.specs.Index.{IndexEntry, IndexProgress, index_shape, index_kind, index_against, index_conditions, with_entry, indexed_term, indexed_place, same_info, same_term}
+use Rattle.term_dict.specs.Index.{IndexEntry, IndexProgress, index_shape, index_kind, index_against, index_conditions, indexed_term, indexed_place, same_info, same_term}
 use Rattle.term_dict.specs.Checks.{record_of}
 use Rattle.term_dict.proofs.LineLemmas.{line_at-good, line_at-broken, line_at-unread}
 use Rattle.term_index.specs.Points.{progress, IsNextPoint}
@@ -69,9 +68,11 @@ next-read : (d : Dictionary) (n : ℕ) (last : Term) (place : ℕ) (old new : Cu
     → o ≡ first_broken (index_conditions d (progress n last place) e) → IsNextPoint d (progress n last place) old new o
 next-read d n last place old new e None read is =
     let s = progress n last place in
-    let good = good_entry last place e (indexed_term d n) (indexed_place d n) (sym is) in
-    (e, line_at-good (index_shape d.numbers.skip_interval) entry (λ line. on_entry [] (index_conditions d s) line) old e new read (sym is),
-      ap (λ (t : Term). progress (n + 1) t (place + e.step)) good.0 ∙ ap (progress (n + 1) (indexed_term d n)) good.1)
+    let good = good_entry last place e (indexed_term d n) (indexed_place d n) (sym is) in (
+      e,
+      line_at-good (index_shape d.numbers.skip_interval) entry (λ line. on_entry [] (index_conditions d s) line) old e new read (sym is),
+      ap (λ (t : Term). progress (n + 1) t (place + e.step)) good.0 ∙ ap (progress (n + 1) (indexed_term d n)) good.1,
+    )
 next-read d n last place old new e (Some rule) read is =
     line_at-broken (index_shape d.numbers.skip_interval) entry (λ line. on_entry [] (index_conditions d (progress n last place)) line) old e new rule read (sym is)
 

@@ -1,6 +1,6 @@
 -- What the loop over the entries of the index keeps.
-use Rattle.std.proofs.Common.{◌≡◌, ℕ, suc, ◌+◌, ◌-◌, ◌*◌, ◌/◌, ◌<◌, ◌≤◌, List, length, get_or, Option, Some, None, Result, Ok, Err, refl, sym, ap, subst, ◌∙◌, arith}
-use Rattle.std.specs.Prelude.{slice_index, slice_index_or, MatchOption}
+use Rattle.std.proofs.Common.{◌≡◌, ℕ, suc, ◌+◌, ◌-◌, ◌*◌, ◌<◌, ◌≤◌, List, length, Option, Some, None, Result, Ok, Err, sym, ap, subst, ◌∙◌, arith}
+use Rattle.std.specs.Prelude.{slice_index}
 use Rattle.std.proofs.lemmas.List.{get_or_default}
 use Rattle.std.proofs.Math.Nat.{le-div_iff_mul-le, suc-mul}
 use Rattle.lu_grammar.specs.declared.bad.Bad.{Bad}
@@ -15,7 +15,7 @@ use Rattle.term_dict.specs.declared.numbers.TermNumbers.{TermNumbers}
 use Rattle.term_dict.specs.Headings.{Line, header, heading, entry, heading_shape, heading_of}
 use Rattle.term_dict.specs.Terms.{Term, no_term}
 use Rattle.term_dict.specs.Dictionary.{Dictionary}
-use Rattle.term_dict.specs.Index.{IndexEntry, IndexProgress, index_kind, no_entries, with_entry, entry_count, indexed_term, indexed_place, index_heading_conditions, point_after, entries_plan, tii_plan}
+use Rattle.term_dict.specs.Index.{IndexEntry, IndexProgress, index_kind, no_entries, entry_count, indexed_term, indexed_place, index_heading_conditions, point_after, entries_plan, tii_plan}
 use Rattle.term_dict.specs.Walk.{Walk, term_passed, next_place}
 use Rattle.term_dict.specs.Checks.{AreBounded}
 use Rattle.term_dict.proofs.LineLemmas.{line_at-good, line_at-broken, line_at-unread}

@@ -16,10 +16,14 @@ ghost use Rattle.term_index.specs.Points.{point_of, IsBoundedPoint, ShareFront, 
 use crate::point::{IndexPoint, point_at};
 use crate::walk::{Passed, pass_interval};
 use lu_prims::{Cur, OutOfMemory};
+use lu_types::rules::{
+    TII_COUNT, TII_FORMAT, TII_INTERVALS, TII_PLACE, TII_PREFIX, TII_TERM, TRAILING,
+};
 use lu_types::{CodecFault, FileKind, Spot, TermInfo};
-use lu_types::rules::{TII_COUNT, TII_FORMAT, TII_INTERVALS, TII_PLACE, TII_PREFIX, TII_TERM, TRAILING};
 use std::alloc::Global;
-use term_dict::{FORMAT, Heading, TermCursor, TermEntry, TermFile, TermNumbers, bad_rule, follow, heading_at};
+use term_dict::{
+    FORMAT, Heading, TermCursor, TermEntry, TermFile, TermNumbers, bad_rule, follow, heading_at,
+};
 
 /// How many entries the index of so many terms has: one for each interval that has begun.
 fn entry_count(numbers: &TermNumbers) -> u32

@@ -84,11 +84,16 @@ fn faults(rt: HostRuntime) -> Result<(), Fail> {
         return Ok(());
     }
     let fields = one_field(alloc)?;
-    let terms = TermFile::check_tis(alloc, tis, &fields, 1).ok().ok_or("good terms")?;
+    let terms = TermFile::check_tis(alloc, tis, &fields, 1)
+        .ok()
+        .ok_or("good terms")?;
     let tii = files.tii.as_slice();
     // Entry 0 stands at 24, and entry 1, of `t001`, at 35: prefix, length and bytes of the suffix, field, frequency, the
     // places, and the step to the place of `t002`.
-    assert_eq!(rt; tail(tii, 24), b"\0\0\xFF\xFF\xFF\xFF\x0F\0\0\0\x18\0\x04t001\0\x01\x01\x01\x11".as_slice());
+    assert_eq!(rt;
+        tail(tii, 24),
+        b"\0\0\xFF\xFF\xFF\xFF\x0F\0\0\0\x18\0\x04t001\0\x01\x01\x01\x11".as_slice()
+    );
     for (place, byte, fault) in [
         (3, 0xFC, (0, 0)),
         (3, 0xFB, (0, 62)),
@@ -127,7 +132,9 @@ fn seeks(rt: HostRuntime) -> Result<(), Fail> {
         return Ok(());
     }
     let fields = one_field(alloc)?;
-    let terms = TermFile::check_tis(alloc, tis, &fields, 1).ok().ok_or("good terms")?;
+    let terms = TermFile::check_tis(alloc, tis, &fields, 1)
+        .ok()
+        .ok_or("good terms")?;
     for cut in 0..tii.len() {
         let (offset, rule) = fault_of(alloc, tii.split_at(cut).0, &terms)?;
         assert_eq!(rt; rule, 1);

@@ -1,11 +1,11 @@
-use Rattle.std.proofs.Common.{◌≡◌, ◌<◌, ℕ, length, List, Result, Ok, Err, sym, ap, subst, ◌∙◌, arith, refl}
+use Rattle.std.proofs.Common.{◌≡◌, ℕ, length, List, Ok, Err, sym, ap, subst, ◌∙◌, arith, refl}
 use Rattle.lu_grammar.specs.Bytes.{Cursor, start_of}
 use Rattle.lu_grammar.specs.declared.general.TheConstants.{TRAILING}
 use Rattle.lu_grammar.specs.Plans.{Broken, read_plan, times, read_file}
 use Rattle.lu_types.specs.declared.kind.FileKind.TheVariants.{Tis}
 use Rattle.term_dict.specs.declared.numbers.TermNumbers.{TermNumbers}
-use Rattle.term_dict.specs.Dictionary.{Standing, Progress, Dictionary, within, term_kind, no_terms, dictionary_plan}
-use Rattle.term_dict.specs.Checks.{IsHeader, IsBrokenSo, broken_so}
+use Rattle.term_dict.specs.Dictionary.{Standing, Progress, within, term_kind, no_terms, dictionary_plan}
+use Rattle.term_dict.specs.Checks.{IsHeader}
 use Rattle.term_dict.proofs.LoopLemmas.{IsBrokenSo-same, IsBrokenSo-map}
 use Rattle.term_dict.proofs.FileLemmas.{header-good, header-broken, dictionary_of, terms-read, terms-broken, file-read, file-trailing, file-broken}
 use Rattle.term_dict.proofs.checking.check_bytes.Goals as goal

@@ -1,4 +1,4 @@
-use Rattle.std.proofs.Common.{◌≡◌, ◌≤◌, ℕ, eqb, length, Option, sym, ap, subst, arith}
+use Rattle.std.proofs.Common.{◌≤◌, ℕ, eqb, length, Option, sym, ap, subst, arith}
 use Rattle.lu_grammar.specs.Plans.{read_plan, times}
 use Rattle.lu_types.specs.declared.kind.FileKind.TheVariants.{Tis}
 use Rattle.term_dict.specs.Dictionary.{within, term_kind, no_terms}

@@ -1,5 +1,3 @@
-use Rattle.std.proofs.Common.{sym, ap, ◌∙◌}
-use Rattle.lu_grammar.specs.Records.{rule_of}
 use Rattle.term_dict.specs.Entries.{entry_of}
 use Rattle.term_dict.specs.Dictionary.{within}
 use Rattle.term_dict.specs.Last.{term_of}

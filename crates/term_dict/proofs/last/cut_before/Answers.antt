@@ -1,5 +1,5 @@
-use Rattle.std.proofs.Common.{subst, ap, List, ℕ, take}
-use Rattle.std.specs.Str.{IsUtf8, IsCharBoundary}
+use Rattle.std.proofs.Common.{subst, List, ℕ}
+use Rattle.std.specs.Str.{IsCharBoundary}
 use Rattle.std.proofs.lemmas.Str.{IsUtf8-take}
 use Rattle.term_dict.proofs.last.cut_before.Goals as goal
 

@@ -1,4 +1,4 @@
-use Rattle.std.proofs.Common.{◌≡◌, ℕ, List, Bool, take, drop, sym, ap, subst, ◌∙◌}
+use Rattle.std.proofs.Common.{sym, subst}
 use Rattle.std.specs.Str.{IsUtf8}
 use Rattle.term_dict.proofs.TextLemmas.{is_utf8-after, is_utf8-not_after}
 use Rattle.term_dict.proofs.last.is_text.Goals as goal

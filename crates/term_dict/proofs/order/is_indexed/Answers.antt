@@ -1,4 +1,4 @@
-use Rattle.std.proofs.Common.{◌≡◌, ◌%◌, Bool, eqb, sym, ap}
+use Rattle.std.proofs.Common.{◌%◌, eqb, sym, ap}
 use Rattle.lu_types.specs.Tables.{TableField}
 use Rattle.term_dict.proofs.OrderLemmas.{field_of-none}
 use Rattle.term_dict.proofs.order.is_indexed.Goals as goal

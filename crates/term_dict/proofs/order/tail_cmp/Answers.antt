@@ -1,4 +1,4 @@
-use Rattle.std.proofs.Common.{◌≡◌, ◌≢◌, ℕ, get_or, nat_cmp, sym, ap, ◌∙◌, arith}
+use Rattle.std.proofs.Common.{◌≢◌, ℕ, get_or, nat_cmp, sym, ap, ◌∙◌, arith}
 use Rattle.lu_prims.specs.Order.{byte_rank}
 use Rattle.lu_prims.proofs.OrderLemmas.{walk_decides, walk_ends}
 use Rattle.lu_prims.proofs.Units.{ranks_apart}

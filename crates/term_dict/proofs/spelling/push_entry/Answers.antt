@@ -1,4 +1,4 @@
-use Rattle.std.proofs.Common.{◌≡◌, ◌++◌, ℕ, List, ap, ◌∙◌}
+use Rattle.std.proofs.Common.{◌++◌, ℕ, List, ap, ◌∙◌}
 use Rattle.lu_grammar.specs.Parts.{num, vint, vlong, spelling}
 use Rattle.std.specs.Prelude.{length}
 use Rattle.term_dict.specs.Entries.{entry_of}

@@ -1,4 +1,4 @@
-use Rattle.std.proofs.Common.{◌≡◌, ℕ, length, List, Option, Some, None, Result, Ok, Err, sym, ap, subst, ◌∙◌, arith}
+use Rattle.std.proofs.Common.{◌≡◌, ℕ, List, Option, Some, None, Ok, Err, sym, ap, subst, ◌∙◌, arith}
 use Rattle.lu_grammar.specs.Bytes.{Cursor, start_of}
 use Rattle.lu_grammar.specs.declared.general.TheConstants.{TRAILING}
 use Rattle.lu_grammar.specs.Plans.{Broken, read_plan, times, read_file}

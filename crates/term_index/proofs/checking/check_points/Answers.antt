@@ -1,14 +1,13 @@
-use Rattle.std.proofs.Common.{◌≡◌, ◌*◌, ◌-◌, ◌<◌, ℕ, length, take, Option, Some, None, refl, sym, ap, subst, ◌∙◌, arith}
+use Rattle.std.proofs.Common.{◌≡◌, ◌*◌, ◌-◌, ℕ, length, take, Option, sym, ap, subst, ◌∙◌, arith}
 use Rattle.lu_grammar.specs.Plans.{read_plan, times}
 use Rattle.lu_types.specs.declared.kind.FileKind.TheVariants.{Tii}
 use Rattle.term_dict.specs.declared.numbers.TermNumbers.{TermNumbers}
 use Rattle.term_dict.specs.Terms.{Term}
-use Rattle.term_dict.specs.Dictionary.{Dictionary}
-use Rattle.term_dict.specs.Index.{index_kind, no_entries, entry_count, indexed_term, indexed_place, point_after}
-use Rattle.term_dict.specs.Walk.{Walk, term_passed, next_place}
+use Rattle.term_dict.specs.Index.{index_kind, no_entries, entry_count}
+use Rattle.term_dict.specs.Walk.{Walk}
 use Rattle.term_dict.proofs.LoopLemmas.{IsBrokenSo-same}
-use Rattle.term_index.specs.Points.{last_of, wanted_of, progress, walk_to, ShareFront, IsNextPoint}
-use Rattle.term_index.proofs.PointLoop.{HasPoints, HasPoints-none, HasPoints-more, HasPoints-fault, interval_begins, turn}
+use Rattle.term_index.specs.Points.{last_of, wanted_of, progress, IsNextPoint}
+use Rattle.term_index.proofs.PointLoop.{HasPoints-none, HasPoints-more, HasPoints-fault, interval_begins, turn}
 use Rattle.term_index.proofs.checking.check_points.Goals as goal
 
 pub loop-number-init : goal.loop-number-init

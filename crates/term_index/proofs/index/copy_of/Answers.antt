@@ -1,4 +1,4 @@
-use Rattle.std.proofs.Common.{◌<◌, length, arith}
+use Rattle.std.proofs.Common.{arith}
 use Rattle.lu_types.specs.Fields.{table_field}
 use Rattle.term_index.proofs.SeekLemmas.{copy-new, copy-clear, copy-more}
 use Rattle.term_index.proofs.index.copy_of.Goals as goal

@@ -1,10 +1,10 @@
-use Rattle.std.proofs.Common.{◌≡◌, ◌≤◌, ◌<◌, ◌+◌, ℕ, Bool, true, false, List, length, Option, Some, sym, ap, subst, ◌∙◌, arith}
+use Rattle.std.proofs.Common.{◌≡◌, ℕ, Bool, true, false, List, Option, Some, sym, ap, ◌∙◌, arith}
 use Rattle.std.specs.Option.{option_map}
 use Rattle.lu_types.specs.declared.term.TermInfo.{TermInfo}
 use Rattle.term_dict.specs.Terms.{Term}
 use Rattle.term_dict.specs.Walk.{Walk, term_passed}
 use Rattle.term_index.specs.Seeking.{is_sought}
-use Rattle.term_index.proofs.SeekLemmas.{NotYet, NotYet-none, NotYet-more, IsTermAt, passed_term, found-here, found-none}
+use Rattle.term_index.proofs.SeekLemmas.{NotYet-more, passed_term, found-here, found-none}
 use Rattle.term_index.proofs.index.find_term.Goals as goal
 
 abbrev term_with : List ℕ → TermInfo → Term

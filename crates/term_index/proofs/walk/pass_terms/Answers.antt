@@ -1,4 +1,4 @@
-use Rattle.std.proofs.Common.{◌≡◌, ◌+◌, ◌<◌, length, sym, subst, ◌∙◌, ap, arith}
+use Rattle.std.proofs.Common.{arith}
 use Rattle.term_index.proofs.PassLemmas.{HasPassed-none, HasPassed-more, HasPassed-there}
 use Rattle.term_index.proofs.walk.pass_terms.Goals as goal
 

@@ -1,14 +1,11 @@
-use Rattle.std.proofs.Common.{◌≡◌, ℕ, ◌+◌, ◌<◌, ◌≤◌, List, length, Option, Some, None, Result, Ok, Err, refl, sym, ap, subst, ◌∙◌, arith}
+use Rattle.std.proofs.Common.{ℕ, ◌+◌, Option, Some, refl, sym, ap, subst, ◌∙◌}
 use Rattle.std.specs.Prelude.{slice_get, vec_capacity}
 use Rattle.std.specs.Option.{option_map}
-use Rattle.lu_grammar.specs.Bytes.{Cursor}
-use Rattle.lu_grammar.specs.Records.{read_shape}
 use Rattle.lu_types.specs.declared.term.TermInfo.{TermInfo}
-use Rattle.term_dict.specs.Entries.{Entry, entry_of, entry_shape}
+use Rattle.term_dict.specs.Entries.{entry_of}
 use Rattle.term_dict.specs.Terms.{Term, term_after}
-use Rattle.term_dict.specs.Last.{term_of, Fits}
-use Rattle.term_dict.specs.Content.{content}
-use Rattle.term_dict.specs.Walk.{Walk, at_place, IsAt}
+use Rattle.term_dict.specs.Last.{term_of}
+use Rattle.term_dict.specs.Walk.{Walk, IsAt}
 use Rattle.term_dict.proofs.WalkLemmas.{next_of, next_there, none_left, shares_next, IsRead-roomier}
 use Rattle.term_dict.proofs.cursor.TermCursor.next.Goals as goal
 

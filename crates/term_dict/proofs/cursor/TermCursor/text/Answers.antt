@@ -1,6 +1,5 @@
-use Rattle.std.proofs.Common.{◌∙◌, ap, sym, subst}
+use Rattle.std.proofs.Common.{◌∙◌, ap, sym}
 use Rattle.std.specs.Prelude.{vec_capacity}
-use Rattle.std.specs.Str.{IsUtf8}
 use Rattle.term_dict.specs.Terms.{Term}
 use Rattle.term_dict.specs.Last.{term_of}
 use Rattle.term_dict.specs.Walk.{Walk, term_passed}

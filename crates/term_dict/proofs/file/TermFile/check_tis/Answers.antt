@@ -1,10 +1,7 @@
-use Rattle.std.proofs.Common.{◌≡◌, ℕ, Result, Ok, length, sym, ap, subst, ◌∙◌}
-use Rattle.lu_grammar.specs.Bytes.{IsBytes}
-use Rattle.lu_grammar.specs.Meaning.{Reads}
-use Rattle.lu_grammar.specs.Plans.{Broken, read_file}
+use Rattle.std.proofs.Common.{Ok, length, sym, ap, subst, ◌∙◌}
 use Rattle.lu_grammar.proofs.Files.{Reads-from}
 use Rattle.lu_types.specs.declared.kind.FileKind.TheVariants.{Tis}
-use Rattle.term_dict.specs.Dictionary.{Dictionary, within, anywhere, tis_plan, dictionary_plan}
+use Rattle.term_dict.specs.Dictionary.{Dictionary, within, tis_plan}
 use Rattle.term_dict.specs.Checks.{AreWithin}
 use Rattle.term_dict.proofs.FileLemmas.{file-anywhere, content-is, IsFaultOf-from}
 use Rattle.term_dict.proofs.file.TermFile.check_tis.Goals as goal

@@ -1,10 +1,10 @@
-use Rattle.std.proofs.Common.{◌≡◌, ◌≤◌, ◌++◌, ℕ, true, List, length, take, refl, sym, ap, subst, ◌∙◌, arith}
+use Rattle.std.proofs.Common.{◌≡◌, ◌++◌, ℕ, true, List, take, refl, sym, ap, subst, ◌∙◌, arith}
 use Rattle.std.specs.Str.{IsUtf8, is_utf8}
 use Rattle.std.proofs.lemmas.Str.{IsUtf8-from_is_utf8}
 use Rattle.lu_grammar.specs.Records.{first_broken}
 use Rattle.lu_types.specs.declared.term.TermInfo.{TermInfo}
-use Rattle.term_dict.specs.Entries.{Entry, entry_of}
-use Rattle.term_dict.specs.Terms.{Term, term_after, is_above}
+use Rattle.term_dict.specs.Entries.{entry_of}
+use Rattle.term_dict.specs.Terms.{Term, term_after}
 use Rattle.term_dict.specs.Dictionary.{within, place_conditions}
 use Rattle.term_dict.specs.Last.{term_of}
 use Rattle.term_dict.proofs.ConditionLemmas.{standing-broken, standing-good}

@@ -1,7 +1,7 @@
-use Rattle.std.proofs.Common.{◌≡◌, ◌<◌, ◌≤◌, ◌+◌, ℕ, List, [], ◌++◌, length, sym, ap, subst, ◌∙◌, arith}
+use Rattle.std.proofs.Common.{◌≡◌, ◌<◌, ◌+◌, ℕ, List, [], ◌++◌, length, sym, ap, subst, ◌∙◌, arith}
 use Rattle.lu_types.specs.declared.term.TermInfo.{TermInfo}
 use Rattle.term_dict.specs.Terms.{Term, last_term}
-use Rattle.term_dict.specs.Canonical.{Point, entry_between, entry_bytes}
+use Rattle.term_dict.specs.Canonical.{entry_between, entry_bytes}
 use Rattle.term_dict.specs.Last.{term_of}
 use Rattle.term_dict.specs.Writing.{Written, with_written, Follows, IsSpellable, IsWritten, written_in, terms_in, last_point}
 use Rattle.term_dict.proofs.WriterLemmas.{written, written-more, passed-from, counted-few, IsMore}

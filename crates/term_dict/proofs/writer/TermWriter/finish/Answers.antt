@@ -1,4 +1,4 @@
-use Rattle.std.proofs.Common.{◌≡◌, ◌<◌, ◌≤◌, ◌+◌, ◌-◌, ◌/◌, ◌^◌, ℕ, length, sym, ap, ◌∙◌, arith}
+use Rattle.std.proofs.Common.{ap, arith}
 use Rattle.term_dict.specs.Last.{term_of}
 use Rattle.term_dict.specs.Writing.{last_point}
 use Rattle.term_dict.proofs.IndexLemmas.{begun-few, begun_by}

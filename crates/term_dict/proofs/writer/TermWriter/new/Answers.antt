@@ -1,8 +1,6 @@
-use Rattle.std.proofs.Common.{◌≡◌, ℕ, List, length, ap, ◌∙◌, arith}
-use Rattle.std.specs.Prelude.{vec_len}
+use Rattle.std.proofs.Common.{ap, arith}
 use Rattle.term_dict.specs.Terms.{Term}
 use Rattle.term_dict.specs.Last.{term_of}
-use Rattle.term_dict.specs.Writing.{Written}
 use Rattle.term_dict.proofs.IndexLemmas.{point_of}
 use Rattle.term_dict.proofs.WriterLemmas.{written, written-none, terms_in-none}
 use Rattle.term_dict.proofs.writer.TermWriter.new.Goals as goal

@@ -2,6 +2,8 @@
 #![tactic(auto)]
 
 mod checking;
+#[cfg(test)]
+mod drawn_tests;
 mod index;
 mod point;
 #[cfg(test)]

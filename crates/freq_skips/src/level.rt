@@ -94,6 +94,7 @@ impl Level {
         ensures index { result ≡ suc passed * self.now.stride - 1 }
         ensures below { result < term.now.info.doc_freq }
     {
+        // Read here, so that its range is known where the index is cast.
         let _doc_freq = term.info.doc_freq;
         ((u64::from(passed) + 1) * self.stride - 1) as u32
     }

@@ -40,7 +40,8 @@ impl<'a> Passing<'a> {
             (λ rule. (start : Cursor) → Stands term.now start self.old.index self.old.doc self.old.cur
             → read_plan (entries term.now) start ≡ Err (record { offset = self.old.cur.place; rule = rule })) }
     {
-        let limit = term.info.doc_freq;
+        // Read here, so that its range is known where the index is counted up.
+        let _doc_freq = term.info.doc_freq;
         let entry = match next_entry(&mut self.cur, term, self.index == 0, self.doc) {
             Err(rule) => return Err(rule),
             Ok(entry) => entry,

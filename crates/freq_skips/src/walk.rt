@@ -93,6 +93,7 @@ fn pass_rung(frq: &[u8], term: &Term, level: u32, rung: &Rung, before: u32) -> R
     ensures on { IsOnLevel term.now (postings_from term.now (start_in term.now frq.now)) level (points_in term.now frq.now level) frq.now (before + 1) result }
     ensures fresh { IsFresh term.now frq.now level (before + 1) result.last }
 {
+    // Read here, so that its range is known, and with it that of the count of data.
     let _doc_freq = term.info.doc_freq;
     let mut following = Following {
         cur: Cur::at(frq, rung.place),

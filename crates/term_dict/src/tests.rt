@@ -178,9 +178,7 @@ fn walks(rt: HostRuntime) -> Result<(), Fail> {
     let alloc = rt.alloc();
     let files = numbered(alloc, 129)?;
     let tis = files.tis.as_slice();
-    if tis.len() > 9999 {
-        return Ok(());
-    }
+    assert!(rt; tis.len() <= 9999);
     let fields = three_fields(alloc)?;
     let terms = TermFile::check_tis(alloc, tis, &fields, 1)
         .ok()

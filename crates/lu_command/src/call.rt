@@ -96,26 +96,6 @@ fn read_fields<D: Dir, K: Sink>(alloc: Global, segment: &str, dir: &mut D, out: 
     }
 }
 
-/// Answers `fields`.
-fn fields<D: Dir, K: Sink>(
-    alloc: Global,
-    path: &str,
-    segment: &str,
-    dir: &mut D,
-    out: &mut K,
-) -> Status
-    ensures printed { Prints (FieldsDue segment.now (D.files dir.old)) (K.taken out.old) (K.taken out.new) result }
-    ensures files { D.files dir.new ≡ D.files dir.old }
-    ensures asked { AsksFor path.now (D.asked dir.new) result }
-    ensures folder { IsCaused (D.faults dir.old) (D.faults dir.new) (result ≡ Status.Device Which.Dir) }
-    ensures output { IsCaused (K.faults out.old) (K.faults out.new) (result ≡ Status.Device Which.Sink) }
-{
-    match dir.enter(alloc, path) {
-        Ok(()) => read_fields(alloc, segment, dir, out),
-        Err(fail) => stopped(fail),
-    }
-}
-
 /// Prints what `docs` says of the bytes of its three files, where they are there.
 fn say_docs<K: Sink>(
     alloc: Global,
@@ -183,23 +163,22 @@ fn read_docs<D: Dir, K: Sink>(alloc: Global, segment: &str, dir: &mut D, out: &m
     }
 }
 
-/// Answers `docs`.
-fn docs<D: Dir, K: Sink>(
+/// Answers a command in the folder that was entered.
+fn answer_inside<D: Dir, K: Sink>(
     alloc: Global,
-    path: &str,
-    segment: &str,
+    command: Command<'_>,
     dir: &mut D,
     out: &mut K,
 ) -> Status
-    ensures printed { Prints (DocsDue segment.now (D.files dir.old)) (K.taken out.old) (K.taken out.new) result }
+    ensures printed { Prints (MeaningDue (meaning_of command.entry) (D.files dir.old)) (K.taken out.old) (K.taken out.new) result }
     ensures files { D.files dir.new ≡ D.files dir.old }
-    ensures asked { AsksFor path.now (D.asked dir.new) result }
+    ensures asked { D.asked dir.new ≡ D.asked dir.old }
     ensures folder { IsCaused (D.faults dir.old) (D.faults dir.new) (result ≡ Status.Device Which.Dir) }
     ensures output { IsCaused (K.faults out.old) (K.faults out.new) (result ≡ Status.Device Which.Sink) }
 {
-    match dir.enter(alloc, path) {
-        Ok(()) => read_docs(alloc, segment, dir, out),
-        Err(fail) => stopped(fail),
+    match command {
+        Command::Fields { segment, .. } => read_fields(alloc, segment, dir, out),
+        Command::Docs { segment, .. } => read_docs(alloc, segment, dir, out),
     }
 }
 
@@ -211,9 +190,9 @@ fn obey<D: Dir, K: Sink>(alloc: Global, command: Command<'_>, dir: &mut D, out: 
     ensures folder { IsCaused (D.faults dir.old) (D.faults dir.new) (result ≡ Status.Device Which.Dir) }
     ensures output { IsCaused (K.faults out.old) (K.faults out.new) (result ≡ Status.Device Which.Sink) }
 {
-    match command {
-        Command::Fields { dir: path, segment } => fields(alloc, path, segment, dir, out),
-        Command::Docs { dir: path, segment } => docs(alloc, path, segment, dir, out),
+    match dir.enter(alloc, command.dir()) {
+        Ok(()) => answer_inside(alloc, command, dir, out),
+        Err(fail) => stopped(fail),
     }
 }
 

@@ -1,6 +1,7 @@
 ghost use Rattle.std.specs.Prelude.{◌≡◌, ℕ, List, MatchOption};
 ghost use Rattle.lu_command.specs.Words.{texts};
 ghost use Rattle.lu_command.specs.Commands.{Meaning, Means};
+ghost use Rattle.lu_command.specs.Asking.{folder_of};
 ghost use Rattle.lu_command.specs.Meanings.{meaning_of};
 
 use crate::words::dir_and_segment;
@@ -27,6 +28,16 @@ impl<'a> Command<'a> {
             "fields" => Some(Command::Fields { dir, segment }),
             "docs" => Some(Command::Docs { dir, segment }),
             _ => None,
+        }
+    }
+
+    /// The folder that the command asks for, as it stands in the words.
+    pub fn dir(&self) -> &'a str
+        ensures { result.now ≡ folder_of (meaning_of self.now) }
+    {
+        match self {
+            Command::Fields { dir, .. } => dir,
+            Command::Docs { dir, .. } => dir,
         }
     }
 }

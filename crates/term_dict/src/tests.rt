@@ -152,6 +152,19 @@ fn texts_and_places(rt: HostRuntime) -> Result<(), Fail> {
     Ok(())
 }
 
+/// How many bytes the record of a numbered term takes: six, and those digits or letters that differ from the text before.
+fn record_size(number: u32) -> usize {
+    if number == 0 {
+        10
+    } else if number % 100 == 0 {
+        9
+    } else if number % 10 == 0 {
+        8
+    } else {
+        7
+    }
+}
+
 #[test]
 fn many_terms(rt: HostRuntime) -> Result<(), Fail> {
     let alloc = rt.alloc();
@@ -165,11 +178,18 @@ fn many_terms(rt: HostRuntime) -> Result<(), Fail> {
             *b"\0\x04t127\0\x01\x7F\x7F\x90\x07"
         );
     }
+    let mut start = 0usize;
+    let mut next = 24usize;
+    let mut number = 0u32;
     for cut in 0..tis.len() {
-        let (offset, rule) = fault_of(alloc, tis.split_at(cut).0, 1)?;
-        assert_eq!(rt; rule, 1);
-        assert!(rt; offset <= cut as u64);
+        if cut == next {
+            start = next;
+            next = next.saturating_add(record_size(number));
+            number = number.wrapping_add(1);
+        }
+        assert_eq!(rt; fault_of(alloc, tis.split_at(cut).0, 1)?, (start as u64, 1));
     }
+    assert_eq!(rt; (start, next, number), (936, tis.len(), 129));
     Ok(())
 }
 

@@ -132,9 +132,12 @@ fn seeks(rt: HostRuntime) -> Result<(), Fail> {
         .ok()
         .ok_or("good terms")?;
     for cut in 0..tii.len() {
-        let (offset, rule) = fault_of(alloc, tii.split_at(cut).0, &terms)?;
-        assert_eq!(rt; rule, 1);
-        assert!(rt; offset <= cut as u64);
+        let start = match cut {
+            0..=23 => 0,
+            24..=34 => 24,
+            _ => 35,
+        };
+        assert_eq!(rt; fault_of(alloc, tii.split_at(cut).0, &terms)?, (start, 1));
     }
     if check_tii(alloc, tii, &terms).is_err() {
         return Err(Fail::from("a good index"));

@@ -3,7 +3,7 @@ use Rattle.std.proofs.Common.{◌≡◌, ◌≢◌, ℕ, ◌+◌, ◌<◌, true,
 use Rattle.std.specs.Prelude.{MatchResult}
 use Rattle.std.proofs.lemmas.Bool.{eq-eqb, ne_eqb, cases_eq}
 use Rattle.std.proofs.lemmas.List.{append-nil, nil_from_length}
-use Rattle.lu_grammar.specs.declared.general.TheConstants.{TRAILING}
+use Rattle.lu_grammar.specs.RuleNumbers as rules
 use Rattle.lu_grammar.specs.Bytes.{IsBytes, Cursor, start_of, end_of}
 use Rattle.lu_grammar.specs.Reading.{◌>>=◌}
 use Rattle.lu_grammar.specs.Plans.{Plan, done, due, Broken, read_plan, ended, read_file}
@@ -24,11 +24,11 @@ whole plan bytes v d none h =
     record { records = h.records; good = h.good; none_due = h.none_due; front = h.front ∙ ap (λ (t : List ℕ). bytes_of h.records ++ t) none; place = ap length all ∙ (let e : length (bytes_of h.records) ≡ 0 + length (bytes_of h.records) = omega arith in e) }
 
 -- bytes that are left where none is due are a fault
-left : {V R : Type 0} (plan : Plan V R) (c : Cursor) (v : V) (d : Cursor) → d.rest ≢ [] → ReadsTo plan c v d → EndsAt plan c d.place TRAILING
+left : {V R : Type 0} (plan : Plan V R) (c : Cursor) (v : V) (d : Cursor) → d.rest ≢ [] → ReadsTo plan c v d → EndsAt plan c d.place rules.trailing
 left {V} {R} plan c v d some h =
     let none_due : Plan V R = done v in
-    let broken : BreaksHere none_due d.place d.rest TRAILING = (some, refl) in
-    record { records = h.records; more = d.rest; good = h.good; front = h.front; place = h.place; broken = subst (λ (p : Plan V R). BreaksHere p d.place d.rest TRAILING) (sym h.none_due) broken }
+    let broken : BreaksHere none_due d.place d.rest rules.trailing = (some, refl) in
+    record { records = h.records; more = d.rest; good = h.good; front = h.front; place = h.place; broken = subst (λ (p : Plan V R). BreaksHere p d.place d.rest rules.trailing) (sym h.none_due) broken }
 
 -- reading all of the bytes answers their value, or the first fault
 abbrev pub FileJudges : {V R : Type 0} → Plan V R → List ℕ → Result V Broken → Type 0
@@ -41,7 +41,7 @@ read_file-judges {V} {R} plan bytes fits = go (read_plan plan (start_of bytes)) 
     go (Err b) h = FaultFrom-EndsAt plan (start_of bytes) b.offset b.rule fits h
     go (Ok x) h = elim (cases_eq (length x.1.rest) 0) [
       | inl none ↦ let t : eqb (length x.1.rest) 0 ≡ true = eq-eqb _ _ none in rw t (whole plan bytes x.0 x.1 (nil_from_length x.1.rest none) h.0)
-      | inr some ↦ let f : eqb (length x.1.rest) 0 ≡ false = ne_eqb _ _ some in rw f (FaultFrom-EndsAt plan (start_of bytes) x.1.place TRAILING fits (left plan (start_of bytes) x.0 x.1 (λ e. some (ap length e)) h.0))
+      | inr some ↦ let f : eqb (length x.1.rest) 0 ≡ false = ne_eqb _ _ some in rw f (FaultFrom-EndsAt plan (start_of bytes) x.1.place rules.trailing fits (left plan (start_of bytes) x.0 x.1 (λ e. some (ap length e)) h.0))
     ]
 
 -- what reading answers is so
@@ -62,7 +62,7 @@ to_fault plan c offset rule h =
 -- a broken rule where a record is due, or bytes where none is
 abbrev pub FaultReads : {V R : Type 0} → Plan V R → Cursor → ℕ → ℕ → Type 0
 FaultReads {V} {R} plan c offset rule = (read_plan plan c ≡ Err (record { offset = offset; rule = rule }))
-    ⊎ ((v : V) × (more : List ℕ) × (more ≢ []) × (rule ≡ TRAILING) × (read_plan plan c ≡ Ok (v, at offset more)))
+    ⊎ ((v : V) × (more : List ℕ) × (more ≢ []) × (rule ≡ rules.trailing) × (read_plan plan c ≡ Ok (v, at offset more)))
 
 fault_here : {V R : Type 0} (plan : Plan V R) (offset : ℕ) (more : List ℕ) (rule : ℕ) → IsBytes more → BreaksHere plan offset more rule → FaultReads plan (at offset more) offset rule
 unfolding read_plan
@@ -93,11 +93,11 @@ pub file-fault : {V R : Type 0} (plan : Plan V R) (bytes : List ℕ) (offset rul
 file-fault {V} {R} plan bytes offset rule fits e = FirstFault-from plan bytes (record { offset = offset; rule = rule }) fits (ap (λ (r : Result (V × Cursor) Broken). r >>= ended) e)
 
 -- bytes that are left are its first fault
-pub file-left : {V R : Type 0} (plan : Plan V R) (bytes : List ℕ) (v : V) (d : Cursor) → IsBytes bytes → read_plan plan (start_of bytes) ≡ Ok (v, d) → 0 < length d.rest → FirstFault plan bytes d.place TRAILING
+pub file-left : {V R : Type 0} (plan : Plan V R) (bytes : List ℕ) (v : V) (d : Cursor) → IsBytes bytes → read_plan plan (start_of bytes) ≡ Ok (v, d) → 0 < length d.rest → FirstFault plan bytes d.place rules.trailing
 file-left {V} {R} plan bytes v d fits e some =
     let not_none : eqb (length d.rest) 0 ≡ false = ne_eqb (length d.rest) 0 (λ none. omega arith) in
-    let all : read_file plan bytes ≡ Err (record { offset = d.place; rule = TRAILING }) = ap (λ (r : Result (V × Cursor) Broken). r >>= ended) e ∙ rw not_none refl in
-    FirstFault-from plan bytes (record { offset = d.place; rule = TRAILING }) fits all
+    let all : read_file plan bytes ≡ Err (record { offset = d.place; rule = rules.trailing }) = ap (λ (r : Result (V × Cursor) Broken). r >>= ended) e ∙ rw not_none refl in
+    FirstFault-from plan bytes (record { offset = d.place; rule = rules.trailing }) fits all
 
 -- where none are left the file is read
 pub file-read : {V R : Type 0} (plan : Plan V R) (bytes : List ℕ) (v : V) (d : Cursor) → IsBytes bytes → read_plan plan (start_of bytes) ≡ Ok (v, d) → length d.rest ≡ 0 → Reads plan bytes v

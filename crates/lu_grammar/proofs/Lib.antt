@@ -7,3 +7,10 @@ pub mod Loops
 pub mod Writers
 pub mod LawLemmas
 pub mod Rows
+pub mod SpelledBytes
+pub mod Places
+pub mod Conditions
+pub mod WasRead
+pub mod FileEnds
+pub mod Turns
+pub mod Codecs

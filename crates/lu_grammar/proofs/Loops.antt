@@ -5,7 +5,7 @@ use Rattle.lu_grammar.specs.Bytes.{Cursor}
 use Rattle.lu_grammar.specs.Parts.{Value}
 use Rattle.lu_grammar.specs.Reading.{◌>>=◌, read_part}
 use Rattle.lu_grammar.specs.Records.{Shape, whole, part, followed, repeated, read_shape, record_at}
-use Rattle.lu_grammar.specs.Plans.{Plan, done, due, and_then, Kind, one, times, each, in_turn, Broken, broken_at, read_plan}
+use Rattle.lu_grammar.specs.Plans.{Plan, done, due, and_then, Kind, one, times, each, gather, in_turn, Broken, broken_at, read_plan}
 use Rattle.lu_grammar.proofs.Records.{ok_pair, same_pair}
 use Rattle.lu_grammar.proofs.Plans.{ok_of, err_is_not_ok, read_due, read_due_broken}
 
@@ -180,29 +180,30 @@ times-keeps {S} {R} kind P step n s c m d here e =
 
 -- ---- plans in turn
 
-pub read_plan-in_turn : {C V R : Type 0} (plan : C → Plan V R) (cs ds : List C) (c : Cursor) → read_plan (in_turn plan (cs ++ ds)) c ≡ read_plan (in_turn plan cs) c >>= λ x. read_plan (in_turn plan ds) x.1
+-- first some, and then the others
+pub read_plan-gather : {C V R : Type 0} (plan : C → Plan V R) (front : List V) (cs ds : List C) (c : Cursor) → read_plan (gather plan front (cs ++ ds)) c ≡ read_plan (gather plan front cs) c >>= λ x. read_plan (gather plan x.0 ds) x.1
 unfolding read_plan
-read_plan-in_turn plan [] ds c = refl
-read_plan-in_turn {C} {V} {R} plan (x ∷ cs) ds c =
-    read_plan-and_then (plan x) (λ _. in_turn plan (cs ++ ds)) c
-    ∙ go (read_plan (plan x) c) (λ y. read_plan-in_turn plan cs ds y.1)
-    ∙ ap (λ (r : Result (Unit {0} × Cursor) Broken). r >>= λ y. read_plan (in_turn plan ds) y.1) (sym (read_plan-and_then (plan x) (λ _. in_turn plan cs) c))
+read_plan-gather plan front [] ds c = refl
+read_plan-gather {C} {V} {R} plan front (x ∷ cs) ds c =
+    read_plan-and_then (plan x) (λ v. gather plan (front ++ v ∷ []) (cs ++ ds)) c
+    ∙ go (read_plan (plan x) c) (λ y. read_plan-gather plan (front ++ y.0 ∷ []) cs ds y.1)
+    ∙ ap (λ (r : Result (List V × Cursor) Broken). r >>= λ y. read_plan (gather plan y.0 ds) y.1) (sym (read_plan-and_then (plan x) (λ v. gather plan (front ++ v ∷ []) cs) c))
   where
-    go : (r : Result (V × Cursor) Broken) → ((y : V × Cursor) → read_plan (in_turn plan (cs ++ ds)) y.1 ≡ read_plan (in_turn plan cs) y.1 >>= λ z. read_plan (in_turn plan ds) z.1)
-        → (r >>= λ y. read_plan (in_turn plan (cs ++ ds)) y.1) ≡ (r >>= λ y. read_plan (in_turn plan cs) y.1) >>= λ z. read_plan (in_turn plan ds) z.1
+    go : (r : Result (V × Cursor) Broken) → ((y : V × Cursor) → read_plan (gather plan (front ++ y.0 ∷ []) (cs ++ ds)) y.1 ≡ read_plan (gather plan (front ++ y.0 ∷ []) cs) y.1 >>= λ z. read_plan (gather plan z.0 ds) z.1)
+        → (r >>= λ y. read_plan (gather plan (front ++ y.0 ∷ []) (cs ++ ds)) y.1) ≡ (r >>= λ y. read_plan (gather plan (front ++ y.0 ∷ []) cs) y.1) >>= λ z. read_plan (gather plan z.0 ds) z.1
     go (Ok y) h = h y
     go (Err b) h = refl
 
 -- one thing more is read, or is at fault and so are all
-pub in_turn-more : {C V R : Type 0} (plan : C → Plan V R) (cs : List C) (x : C) (c d : Cursor) (v : V) (e : Cursor) → read_plan (in_turn plan cs) c ≡ Ok (tt, d) → read_plan (plan x) d ≡ Ok (v, e)
-    → read_plan (in_turn plan (cs ++ x ∷ [])) c ≡ Ok (tt, e)
+pub in_turn-more : {C V R : Type 0} (plan : C → Plan V R) (cs : List C) (x : C) (c d : Cursor) (vs : List V) (v : V) (e : Cursor) → read_plan (in_turn plan cs) c ≡ Ok (vs, d) → read_plan (plan x) d ≡ Ok (v, e)
+    → read_plan (in_turn plan (cs ++ x ∷ [])) c ≡ Ok (vs ++ v ∷ [], e)
 unfolding read_plan
-in_turn-more {C} {V} {R} plan cs x c d v e before here =
-    read_plan-in_turn plan cs (x ∷ []) c ∙ ap (λ (r : Result (Unit {0} × Cursor) Broken). r >>= λ y. read_plan (in_turn plan (x ∷ [])) y.1) before
-    ∙ read_plan-and_then (plan x) (λ _. in_turn plan []) d ∙ ap (λ (r : Result (V × Cursor) Broken). r >>= λ y. read_plan (in_turn plan []) y.1) here
+in_turn-more {C} {V} {R} plan cs x c d vs v e before here =
+    read_plan-gather plan [] cs (x ∷ []) c ∙ ap (λ (r : Result (List V × Cursor) Broken). r >>= λ y. read_plan (gather plan y.0 (x ∷ [])) y.1) before
+    ∙ read_plan-and_then (plan x) (λ w. gather plan (vs ++ w ∷ []) []) d ∙ ap (λ (r : Result (V × Cursor) Broken). r >>= λ y. read_plan (gather plan (vs ++ y.0 ∷ []) []) y.1) here
 
-pub in_turn-fault : {C V R : Type 0} (plan : C → Plan V R) (cs : List C) (x : C) (ds : List C) (c d : Cursor) (b : Broken) → read_plan (in_turn plan cs) c ≡ Ok (tt, d) → read_plan (plan x) d ≡ Err b
+pub in_turn-fault : {C V R : Type 0} (plan : C → Plan V R) (cs : List C) (x : C) (ds : List C) (c d : Cursor) (vs : List V) (b : Broken) → read_plan (in_turn plan cs) c ≡ Ok (vs, d) → read_plan (plan x) d ≡ Err b
     → read_plan (in_turn plan (cs ++ x ∷ ds)) c ≡ Err b
-in_turn-fault {C} {V} {R} plan cs x ds c d b before here =
-    read_plan-in_turn plan cs (x ∷ ds) c ∙ ap (λ (r : Result (Unit {0} × Cursor) Broken). r >>= λ y. read_plan (in_turn plan (x ∷ ds)) y.1) before
-    ∙ read_plan-and_then (plan x) (λ _. in_turn plan ds) d ∙ ap (λ (r : Result (V × Cursor) Broken). r >>= λ y. read_plan (in_turn plan ds) y.1) here
+in_turn-fault {C} {V} {R} plan cs x ds c d vs b before here =
+    read_plan-gather plan [] cs (x ∷ ds) c ∙ ap (λ (r : Result (List V × Cursor) Broken). r >>= λ y. read_plan (gather plan y.0 (x ∷ ds)) y.1) before
+    ∙ read_plan-and_then (plan x) (λ w. gather plan (vs ++ w ∷ []) ds) d ∙ ap (λ (r : Result (V × Cursor) Broken). r >>= λ y. read_plan (gather plan (vs ++ y.0 ∷ []) ds) y.1) here

@@ -68,11 +68,11 @@ Writes-record {S} {R} kind s place n bytes m r front before spells good =
     })
 
 -- one thing more in turn
-pub Writes-in_turn : {C V R : Type 0} (plan : C → Plan V R) (cs : List C) (x : C) (place : ℕ) (bytes front : List ℕ) (v : V) → Writes (in_turn plan cs) place bytes tt → Writes (plan x) (place + length bytes) front v
-    → Writes (in_turn plan (cs ++ x ∷ [])) place (bytes ++ front) tt
-Writes-in_turn {C} {V} {R} plan cs x place bytes front v before turn = record {
+pub Writes-in_turn : {C V R : Type 0} (plan : C → Plan V R) (cs : List C) (x : C) (place : ℕ) (bytes front : List ℕ) (vs : List V) (v : V) → Writes (in_turn plan cs) place bytes vs → Writes (plan x) (place + length bytes) front v
+    → Writes (in_turn plan (cs ++ x ∷ [])) place (bytes ++ front) (vs ++ v ∷ [])
+Writes-in_turn {C} {V} {R} plan cs x place bytes front vs v before turn = record {
   reads = λ rest.
       ap (λ (t : List ℕ). read_plan (in_turn plan (cs ++ x ∷ [])) (at place t)) (append_assoc bytes front rest)
-      ∙ in_turn-more plan cs x (at place (bytes ++ (front ++ rest))) (at (place + length bytes) (front ++ rest)) v (at (place + length bytes + length front) rest) (before.reads (front ++ rest)) (turn.reads rest)
-      ∙ ap (λ (k : ℕ). ok_of (tt, at k rest)) (omega (arith, length-append bytes front));
+      ∙ in_turn-more plan cs x (at place (bytes ++ (front ++ rest))) (at (place + length bytes) (front ++ rest)) vs v (at (place + length bytes + length front) rest) (before.reads (front ++ rest)) (turn.reads rest)
+      ∙ ap (λ (k : ℕ). ok_of (vs ++ v ∷ [], at k rest)) (omega (arith, length-append bytes front));
 }

@@ -18,6 +18,10 @@ start_of bytes = record { place = 0; rest = bytes }
 abbrev pub end_of : List ℕ → Cursor
 end_of bytes = record { place = length bytes; rest = [] }
 
+-- the place that so many bytes stand before
+abbrev pub place_in : List ℕ → ℕ → Cursor
+place_in bytes place = record { place = place; rest = drop place bytes }
+
 -- so many bytes further
 abbrev pub moved : ℕ → Cursor → Cursor
 moved n c = record { place = c.place + n; rest = drop n c.rest }

@@ -1,7 +1,7 @@
 -- What it means that bytes are the records of a plan, and where the first fault stands.
 use Rattle.std.specs.Prelude.{◌≡◌, ◌≢◌, ℕ, ◌+◌, ◌≤◌, List, [], ◌∷◌, ◌++◌, length, None}
 use Rattle.std.specs.List.{flat_map}
-use Rattle.lu_grammar.specs.declared.general.TheConstants.{TRAILING}
+use Rattle.lu_grammar.specs.RuleNumbers as rules
 use Rattle.lu_grammar.specs.Bytes.{Cursor, start_of, end_of}
 use Rattle.lu_grammar.specs.Records.{Shape, Condition, Spells, Breaks, first_broken}
 use Rattle.lu_grammar.specs.Plans.{Plan, done, due}
@@ -45,7 +45,7 @@ Reads plan bytes value = ReadsTo plan (start_of bytes) value (end_of bytes)
 
 -- at this place the rule is broken by the record that is due here, or by the bytes that are left where none is due
 abbrev pub BreaksHere : {V R : Type 0} → Plan V R → ℕ → List ℕ → ℕ → Type 0
-BreaksHere (done v) place bytes rule = (bytes ≢ []) × (rule ≡ TRAILING)
+BreaksHere (done v) place bytes rule = (bytes ≢ []) × (rule ≡ rules.trailing)
 BreaksHere (due shape conditions after) place bytes rule = Breaks shape (conditions place) bytes rule
 
 -- the longest list of good records that begins the bytes ends at this offset, and there this rule is broken first

@@ -1,6 +1,6 @@
 -- Which records a file has, in order, and what they stand for.
-use Rattle.std.specs.Prelude.{ℕ, zero, suc, List, [], ◌∷◌, Result, Ok, Err, length, ◌==◌, if◌then◌else◌}
-use Rattle.lu_grammar.specs.declared.general.TheConstants.{TRAILING}
+use Rattle.std.specs.Prelude.{ℕ, zero, suc, List, [], ◌∷◌, ◌++◌, Result, Ok, Err, length, ◌==◌, if◌then◌else◌}
+use Rattle.lu_grammar.specs.RuleNumbers as rules
 use Rattle.lu_grammar.specs.Bytes.{Cursor, start_of}
 use Rattle.lu_grammar.specs.Reading.{◌>>=◌}
 use Rattle.lu_grammar.specs.Records.{Shape, Condition, record_at}
@@ -34,10 +34,14 @@ each plan (suc n) s = and_then (plan s) (each plan n)
 abbrev pub times : {S R : Type 0} → Kind S R → ℕ → S → Plan S R
 times kind n s = each (one kind) n s
 
--- the plans of some things, one after another
-abbrev pub in_turn : {C V R : Type 0} → (C → Plan V R) → List C → Plan (Unit {0}) R
-in_turn plan [] = done tt
-in_turn plan (c ∷ cs) = and_then (plan c) (λ _. in_turn plan cs)
+-- the plans of some things, one after another, and what each stands for, behind these
+abbrev pub gather : {C V R : Type 0} → (C → Plan V R) → List V → List C → Plan (List V) R
+gather plan front [] = done front
+gather plan front (c ∷ cs) = and_then (plan c) (λ v. gather plan (front ++ v ∷ []) cs)
+
+-- the plans of some things, one after another, and what each stands for
+abbrev pub in_turn : {C V R : Type 0} → (C → Plan V R) → List C → Plan (List V) R
+in_turn plan cs = gather plan [] cs
 
 -- a rule is broken at an offset
 pub record Broken : Type 0 where
@@ -56,7 +60,7 @@ read_plan (due shape conditions after) c = broken_at c.place (record_at shape (c
 
 -- the value where no bytes are left
 abbrev pub ended : {V : Type 0} → V × Cursor → Result V Broken
-ended x = if length x.1.rest == 0 then Ok x.0 else Err (record { offset = x.1.place; rule = TRAILING })
+ended x = if length x.1.rest == 0 then Ok x.0 else Err (record { offset = x.1.place; rule = rules.trailing })
 
 -- what all of the bytes stand for, or the first fault
 abbrev pub read_file : {V R : Type 0} → Plan V R → List ℕ → Result V Broken

@@ -14,6 +14,11 @@ abbrev pub ◌>>=◌ : {A B E : Type 0} → Result A E → (A → Result B E) �
 (Ok x) >>= f = f x
 (Err e) >>= f = Err e
 
+-- what there is, or else another value
+abbrev pub value_or : {A E : Type 0} → A → Result A E → A
+value_or default (Ok x) = x
+value_or default (Err e) = default
+
 -- the last byte of a number, which may be 0 only where it is alone
 abbrev pub last_group : Bool → ℕ → Result (ℕ × ℕ) Bad
 last_group alone b = if not alone && (b == 0) then Err LongNumber else Ok (b, 1)

@@ -2,7 +2,7 @@
 use Rattle.std.specs.Prelude.{◌≡◌, ℕ, zero, suc, Bool, true, false, List, [], ◌∷◌, ◌++◌, Option, Some, None, Result, Ok, Err, ◌⊎◌, if◌then◌else◌}
 use Rattle.lu_grammar.specs.declared.bad.Bad.{Bad}
 use Rattle.lu_grammar.specs.declared.bad.Bad.TheVariants as bads
-use Rattle.lu_grammar.specs.declared.general.TheConstants.{ENDS, LONG_NUMBER, TOO_GREAT, NOT_UTF8}
+use Rattle.lu_grammar.specs.RuleNumbers as rules
 use Rattle.lu_grammar.specs.Bytes.{Cursor}
 use Rattle.lu_grammar.specs.Parts.{Part, Value, IsValue, spelling, IsWrong}
 use Rattle.lu_grammar.specs.Reading.{◌>>=◌, read_part}
@@ -39,10 +39,10 @@ first_broken (c ∷ cs) = if c.broken then Some c.rule else first_broken cs
 
 -- the rule that a part without a spelling breaks
 abbrev pub rule_of : Bad → ℕ
-rule_of bads.Ends = ENDS
-rule_of bads.LongNumber = LONG_NUMBER
-rule_of bads.TooGreat = TOO_GREAT
-rule_of bads.NotUtf8 = NOT_UTF8
+rule_of bads.Ends = rules.ends
+rule_of bads.LongNumber = rules.long_number
+rule_of bads.TooGreat = rules.too_great
+rule_of bads.NotUtf8 = rules.not_utf8
 
 -- ---- the meaning
 

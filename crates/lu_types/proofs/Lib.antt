@@ -1,3 +1,4 @@
+pub mod FileLaws
 pub mod NameLemmas
 pub mod NumberLemmas
 pub mod RuleLemmas

@@ -1,7 +1,10 @@
 pub mod Bits
 pub mod Fields
+pub mod FilePlans
 pub mod Judging
 pub mod Kinds
 pub mod Names
+pub mod RuleNumbers
 pub mod Rules
 pub mod Tables
+pub mod Terms

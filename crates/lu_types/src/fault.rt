@@ -15,6 +15,19 @@ pub struct Spot {
     pub rule: u16,
 }
 
+impl Spot {
+    /// The spot of the rule that is broken at a place in a file of the kind, counted in bytes from its start.
+    pub fn at(kind: FileKind, place: usize, rule: u16) -> Spot
+        ensures { result ≡ record { kind = kind; offset = place; rule = rule } }
+    {
+        Spot {
+            kind,
+            offset: place as u64,
+            rule,
+        }
+    }
+}
+
 /// A fault of a commit or of one of its segments (format page, "How a fault is found").
 #[derive(Clone, Copy, Debug, PartialEq, Eq)]
 pub struct Fault {

@@ -5,6 +5,7 @@ pub mod bits;
 mod fault;
 mod field;
 mod kind;
+pub mod laws;
 mod names;
 mod owned;
 pub mod rules;
@@ -19,7 +20,7 @@ pub use names::{GREATEST_SEGMENT, part_name, segment_name, segment_number};
 pub use owned::{Bytes, Text};
 pub use stored::{SharedStore, Stored, StoredValue, Window};
 pub use table::FieldTable;
-pub use term::TermInfo;
+pub use term::{TermInfo, TermNumbers, TermRules};
 
 #[cfg(test)]
 mod tests;

@@ -1,5 +1,5 @@
 ghost use Rattle.std.specs.Prelude.{◌≡◌, IfOk, MatchOption, string_bytes};
-ghost use Rattle.lu_types.specs.Names.{part_name, segment_name, IsSegmentName, Names};
+ghost use Rattle.lu_types.specs.Names.{IsPart, part_name, segment_name, IsSegmentName, Names};
 
 use crate::kind::FileKind;
 use lu_prims::{OutOfMemory, base36_text, base36_value};
@@ -31,9 +31,10 @@ pub fn segment_name(alloc: Global, number: u32) -> Result<String, OutOfMemory>
     Ok(name)
 }
 
-/// The name of a file that belongs to the segment alone: the name of the segment, a dot and the extension
-/// (format page, "Names of files").
+/// The name of a file of the segment, of a kind of which it has one that is named by its extension: the name of the segment,
+/// a dot and the extension (format page, "Names of files").
 pub fn part_name(alloc: Global, segment: &str, kind: FileKind) -> Result<String, OutOfMemory>
+    requires { IsPart kind }
     ensures { IfOk result (λ name. string_bytes name ≡ part_name segment.now kind) }
 {
     let name = format!(in alloc; "{segment}.{kind}")?;

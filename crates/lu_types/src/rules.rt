@@ -73,13 +73,13 @@ pub const NORM_COUNT: u16 = 39;
 pub const FDX_FORMAT: u16 = 40;
 /// Rule: the first place in `.fdx` is not 4, a later one is not above the one before, or one is over 2^31 - 1.
 pub const FDX_PLACE: u16 = 41;
-/// Rule: the documents of the segment are not all in the shared store.
+/// Rule: the store is shared, and its offset plus the size of the segment is above the number of its documents.
 pub const STORE_RANGE: u16 = 42;
 /// Rule: the format number of `.fdt` is not 2.
 pub const FDT_FORMAT: u16 = 43;
 /// Rule: a document of `.fdt` does not start at its place in `.fdx`.
 pub const FDT_PLACE: u16 = 44;
-/// Rule: the field table has no field with the number of a stored value.
+/// Rule: a document is in the window, and the field table has no field with the number of a stored value of it.
 pub const STORED_FIELD: u16 = 45;
 /// Rule: a stored value has a bit other than 01 and 02.
 pub const STORED_BITS: u16 = 46;
@@ -116,7 +116,7 @@ pub const TII_INTERVALS: u16 = 64;
 pub const TII_PREFIX: u16 = 65;
 /// Rule: an entry of `.tii` does not stand for the term that it belongs to.
 pub const TII_TERM: u16 = 66;
-/// Rule: the place of an entry of `.tii` is not the place of its term in `.tis`.
+/// Rule: the place of an entry of `.tii` is not where the term that it leads to starts in `.tis`.
 pub const TII_PLACE: u16 = 67;
 
 /// Rule: the entries of a term do not start at its place in `.frq`.
@@ -129,7 +129,7 @@ pub const DOC_RANGE: u16 = 72;
 pub const FREQ: u16 = 73;
 /// Rule: the skip data of a term do not start as far from its entries as the term says.
 pub const SKIP_START: u16 = 74;
-/// Rule: the documents along a skip level do not sum to the document that the datum belongs to.
+/// Rule: the documents along a skip level do not sum to the document of the entry before the one that the datum belongs to.
 pub const SKIP_DOC: u16 = 75;
 /// Rule: the lengths in `.frq` along a skip level do not sum to the length of the entries passed.
 pub const SKIP_FREQ: u16 = 76;
@@ -148,7 +148,7 @@ pub const SKIP_PROX: u16 = 82;
 /// Rule: the payload length in force at a skip point is neither stated there nor the one that the skip level carries.
 pub const SKIP_PAYLOAD: u16 = 83;
 
-/// Rule: a norm file does not begin with the bytes 4E 52 4D FF.
+/// Rule: the file of norms `.nrm` does not begin with the bytes 4E 52 4D FF.
 pub const NORM_HEADER: u16 = 85;
 /// Rule: the size in `.del` is not that of the segment.
 pub const DEL_SIZE: u16 = 87;
@@ -160,7 +160,7 @@ pub const DEL_GAP: u16 = 89;
 pub const DEL_BYTE: u16 = 90;
 /// Rule: a bit at or past the size is set.
 pub const DEL_PAST: u16 = 91;
-/// Rule: the number of set bits is not the count.
+/// Rule: the number of set bits is not the count, or for a pair, the bits set so far are more than the count.
 pub const DEL_TOTAL: u16 = 92;
 
 /// Rule: the format number of `.tvx` is not 4.
@@ -171,7 +171,7 @@ pub const TVX_PLACE: u16 = 96;
 pub const TVD_FORMAT: u16 = 98;
 /// Rule: a document of `.tvd` does not start at its place in `.tvx`.
 pub const TVD_PLACE: u16 = 99;
-/// Rule: the field table has no field with the number of a vector, or one without bit 02.
+/// Rule: a document is in the window, and the field table has no field with the number of a vector of it, or one without bit 02.
 pub const VECTOR_FIELD: u16 = 100;
 /// Rule: a vector before in the document has the field.
 pub const VECTOR_TWICE: u16 = 101;

@@ -1,5 +1,4 @@
 mod Rows
 pub mod OneSpelling
 pub mod Records
-pub mod SpelledBytes
 pub mod Spellings

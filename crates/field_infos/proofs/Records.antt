@@ -9,13 +9,12 @@ use Rattle.lu_grammar.proofs.Plans.{read_due, read_due_broken}
 use Rattle.lu_grammar.proofs.Loops.{times-more, times-fault}
 use Rattle.lu_grammar.proofs.Files.{file-fault, file-left, file-read}
 use Rattle.lu_grammar.specs.Meaning.{Reads, FirstFault}
-use Rattle.lu_grammar.specs.declared.general.TheConstants.{TRAILING}
-use Rattle.lu_types.specs.Judging.{IsFault, GivesPlan}
+use Rattle.lu_types.specs.RuleNumbers as number
+use Rattle.lu_types.specs.Judging.{Checks, GivesIn}
 use Rattle.lu_types.specs.declared.kind.FileKind.TheVariants.{Fnm}
 use Rattle.lu_types.specs.declared.fault.CodecFault.{CodecFault}
 use Rattle.lu_types.specs.declared.fault.CodecFault.TheVariants as faults
 use Rattle.lu_types.specs.Tables.{TableField, number_of}
-use Rattle.lu_types.specs.declared.rules.TheConstants.{FIELD_TWICE, FIELD_BITS, PROX_FIELD}
 use Rattle.std.specs.Prelude.{is_some}
 use Rattle.field_infos.specs.Fnm.{header, field, header_shape, header_conditions, field_shape, field_conditions, lacks_prox, format_number, one_field, after_header, fnm_plan}
 
@@ -52,8 +51,8 @@ field-good has_prox fields f e = new (number_of f.name fields) refl e
     bits : leb 128 f.bits ≡ false → f.bits < 128
     bits h = leb-false 128 f.bits h
 
-    new : (o : Option ℕ) → number_of f.name fields ≡ o → first_broken (record { rule = FIELD_TWICE; broken = is_some o } ∷ record { rule = FIELD_BITS; broken = leb 128 f.bits }
-        ∷ record { rule = PROX_FIELD; broken = lacks_prox has_prox f.bits } ∷ []) ≡ None → (number_of f.name fields ≡ None) × (f.bits < 128)
+    new : (o : Option ℕ) → number_of f.name fields ≡ o → first_broken (record { rule = number.field_twice; broken = is_some o } ∷ record { rule = number.field_bits; broken = leb 128 f.bits }
+        ∷ record { rule = number.prox_field; broken = lacks_prox has_prox f.bits } ∷ []) ≡ None → (number_of f.name fields ≡ None) × (f.bits < 128)
     new (Some n) is h = absurd cc
     new None is h = elim (cases_Bool (leb 128 f.bits)) [
       | inl great ↦ absurd (some_is_none (rw great at h))
@@ -78,13 +77,13 @@ module _ (has_prox : Bool) (norm_fields : Option ℕ) (bytes : List ℕ) (fits :
 
   module _ (count : ℕ) (c : Cursor) (header_is : record_at header_shape (header_conditions norm_fields) (start_of bytes) ≡ Ok (header format_number count, c)) where
     -- a fault of its fields, or no memory
-    pub fields-fails : (d : Cursor) (found : CodecFault) → GivesPlan Fnm (times (one_field has_prox) count []) c d (Err found) → IsFault Fnm (fnm_plan has_prox norm_fields) bytes found
+    pub fields-fails : (d : Cursor) (found : CodecFault) → GivesIn Fnm (λ table. table) (read_plan (times (one_field has_prox) count []) c) d (Err found) → Checks (λ table. table) Fnm (fnm_plan has_prox norm_fields) bytes (Err found)
     fields-fails d faults.OutOfMemory h = tt
     fields-fails d (faults.Spot spot) h =
         (h.0, file-fault (fnm_plan has_prox norm_fields) bytes spot.offset spot.rule fits (fnm-header has_prox norm_fields (start_of bytes) c count header_is ∙ h.1))
 
     -- bytes after them
-    pub fields-left : (table : List TableField) (d : Cursor) → read_plan (times (one_field has_prox) count []) c ≡ Ok (table, d) → 0 < length d.rest → FirstFault (fnm_plan has_prox norm_fields) bytes d.place TRAILING
+    pub fields-left : (table : List TableField) (d : Cursor) → read_plan (times (one_field has_prox) count []) c ≡ Ok (table, d) → 0 < length d.rest → FirstFault (fnm_plan has_prox norm_fields) bytes d.place number.trailing
     fields-left table d e some = file-left (fnm_plan has_prox norm_fields) bytes table d fits (fnm-header has_prox norm_fields (start_of bytes) c count header_is ∙ e) some
 
     -- and none

@@ -16,7 +16,7 @@ use Rattle.lu_grammar.proofs.Files.{Reads-from}
 use Rattle.lu_grammar.proofs.Writers.{Writes, Writes-due, Writes-none, Writes-record, read_file-Writes}
 use Rattle.lu_types.specs.Tables.{TableField, number_of, IsTable}
 use Rattle.field_infos.specs.Fnm.{header, field, header_shape, header_conditions, field_shape, field_conditions, format_number, is_other_count, lacks_prox, one_field, after_header, fnm_plan}
-use Rattle.field_infos.proofs.SpelledBytes.{IsBytes-nil, IsBytes-cons, IsBytes-append, IsBytes-flat_map, IsBytes-groups, IsBytes-text}
+use Rattle.lu_grammar.proofs.Codecs.{IsBytes-nil, IsBytes-cons, IsBytes-append, IsBytes-flat_map, IsBytes-groups, IsBytes-spelling}
 use Rattle.lu_types.specs.declared.field.FieldInfo.{FieldInfo}
 use Rattle.field_infos.specs.Spelling.{field_of_info, AreNamed, field_spelling, header_spelling, fnm_spelling}
 
@@ -64,7 +64,7 @@ IsBytes-fnm fields table named =
     let format : IsBytes (groups 4 format_number) = IsBytes-groups 4 format_number (omega arith) in
     let count : IsBytes (groups 4 (length fields)) = IsBytes-groups 4 (length fields) (omega (arith, table.few)) in
     let each : All (λ f. IsBytes (field_spelling f)) fields =
-    λ k d within. let f = get_or fields k d in IsBytes-append (spelling text f.name) (f.bits ∷ []) (IsBytes-text f.name (named k d within)) (IsBytes-cons f.bits [] (omega (arith, table.clear k d within)) IsBytes-nil) in
+    λ k d within. let f = get_or fields k d in IsBytes-append (spelling text f.name) (f.bits ∷ []) (IsBytes-spelling text f.name (named k d within)) (IsBytes-cons f.bits [] (omega (arith, table.clear k d within)) IsBytes-nil) in
     IsBytes-append (header_spelling (length fields)) (flat_map field_spelling fields) (IsBytes-append (groups 4 format_number) (groups 4 (length fields)) format count) (IsBytes-flat_map field_spelling fields each)
 
 module _ (has_prox : Bool) (fields : List TableField) (table : IsTable fields) (named : AreNamed fields) (proxed : All (λ f. lacks_prox has_prox f.bits ≡ false) fields) where

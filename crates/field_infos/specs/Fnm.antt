@@ -4,8 +4,8 @@ use Rattle.lu_grammar.specs.Parts.{byte, vint, num, text}
 use Rattle.lu_grammar.specs.Records.{Shape, whole, part, Condition}
 use Rattle.lu_grammar.specs.Plans.{Plan, done, due, Kind, times}
 use Rattle.lu_types.specs.Tables.{TableField, number_of}
-use Rattle.lu_types.specs.declared.rules.TheConstants.{FNM_FORMAT, NORM_COUNT, FIELD_TWICE, FIELD_BITS, PROX_FIELD}
-use Rattle.lu_types.specs.declared.bits.TheConstants.{INDEXED, OMIT_TF}
+use Rattle.lu_types.specs.RuleNumbers as number
+use Rattle.lu_types.specs.Bits as bit
 use Rattle.lu_types.specs.Bits.{has_bit}
 
 -- the format number -2 of a field table, as the number that is spelled
@@ -33,19 +33,19 @@ is_other_count (Some norms) count = not (norms == count)
 -- what a header may not be
 abbrev pub header_conditions : Option ℕ → FnmRecord → List Condition
 header_conditions norm_fields (header format count) =
-    record { rule = FNM_FORMAT; broken = not (format == format_number) } ∷ record { rule = NORM_COUNT; broken = is_other_count norm_fields count } ∷ []
+    record { rule = number.fnm_format; broken = not (format == format_number) } ∷ record { rule = number.norm_count; broken = is_other_count norm_fields count } ∷ []
 header_conditions norm_fields (field f) = []
 
 -- a field with positions, in a segment that has none
 abbrev pub lacks_prox : Bool → ℕ → Bool
-lacks_prox has_prox bits = not has_prox && (has_bit INDEXED bits && not (has_bit OMIT_TF bits))
+lacks_prox has_prox bits = not has_prox && (has_bit bit.indexed bits && not (has_bit bit.omit_tf bits))
 
 -- what a field may not be, after those before it
 abbrev pub field_conditions : Bool → List TableField → FnmRecord → List Condition
 field_conditions has_prox fields (header format count) = []
 field_conditions has_prox fields (field f) =
-    record { rule = FIELD_TWICE; broken = is_some (number_of f.name fields) } ∷ record { rule = FIELD_BITS; broken = nat_le 128 f.bits }
-    ∷ record { rule = PROX_FIELD; broken = lacks_prox has_prox f.bits } ∷ []
+    record { rule = number.field_twice; broken = is_some (number_of f.name fields) } ∷ record { rule = number.field_bits; broken = nat_le 128 f.bits }
+    ∷ record { rule = number.prox_field; broken = lacks_prox has_prox f.bits } ∷ []
 
 -- the fields with this one
 abbrev pub with_field : List TableField → FnmRecord → List TableField

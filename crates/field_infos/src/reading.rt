@@ -1,13 +1,12 @@
 //! Reading a `.fnm` file, record by record.
-ghost use Rattle.std.specs.Prelude.{◌≡◌, [], ◌<◌, ◌^◌, ℕ, length, Option, None, Ok, Err, IfOk, IfErr};
+ghost use Rattle.std.specs.Prelude.{◌≡◌, [], ◌<◌, ◌^◌, ℕ, length, Option, None, Ok, Err, IfOk};
 ghost use Rattle.lu_grammar.specs.Bytes.{Cursor};
-ghost use Rattle.lu_grammar.specs.Records.{first_broken};
-ghost use Rattle.lu_grammar.specs.Plans.{times};
-ghost use Rattle.lu_grammar.specs.Meaning.{Reads};
-ghost use Rattle.lu_prims.specs.Cur.{Gives, GivesGood};
+ghost use Rattle.lu_grammar.specs.Answers.{Gives};
+ghost use Rattle.lu_grammar.specs.Records.{first_broken, read_shape, record_at};
+ghost use Rattle.lu_grammar.specs.Plans.{times, read_plan};
 ghost use Rattle.lu_types.specs.Tables.{number_of};
 ghost use Rattle.lu_types.specs.Fields.{table_field};
-ghost use Rattle.lu_types.specs.Judging.{IsFault, GivesPlan};
+ghost use Rattle.lu_types.specs.Judging.{Checks, GivesIn};
 ghost use Rattle.field_infos.specs.Fnm.{format_number, lacks_prox as has_no_prox, header as header_of, field as field_of, header_shape, field_shape, header_conditions, field_conditions, one_field, fnm_plan};
 
 use crate::FORMAT;
@@ -24,7 +23,7 @@ const UNUSED_BIT: u8 = 0x80;
 
 /// The format and the number of fields that stand at the cursor.
 fn header_parts(cur: &mut Cur<'_>) -> Result<(u32, u32), Bad>
-    ensures gives { Gives header_shape (λ x. header_of x.0 x.1) cur.old cur.new result }
+    ensures gives { Gives (λ x. header_of x.0 x.1) (read_shape header_shape cur.old) cur.new result }
     ensures below { IfOk result (λ x. x.1 < 2 ^ 31) }
 {
     let format = cur.vint()?;
@@ -48,7 +47,7 @@ fn header_broken(format: u32, count: u32, norm_fields: Option<u32>) -> Option<u1
 /// The header at the cursor: how many fields follow it, or the rule that it breaks.
 #[tactic(auto, using(crate::proofs::Records::judged))]
 fn header(cur: &mut Cur<'_>, norm_fields: Option<u32>) -> Result<u32, u16>
-    ensures gives { GivesGood header_shape (header_conditions norm_fields) (λ count. header_of format_number count) cur.old cur.new result }
+    ensures gives { Gives (λ count. header_of format_number count) (record_at header_shape (header_conditions norm_fields) cur.old) cur.new result }
     ensures below { IfOk result (λ count. count < 2 ^ 31) }
 {
     let (format, count) = match header_parts(cur) {
@@ -63,7 +62,7 @@ fn header(cur: &mut Cur<'_>, norm_fields: Option<u32>) -> Result<u32, u16>
 
 /// The name and the bits that stand at the cursor.
 fn field_parts<'a>(cur: &mut Cur<'a>) -> Result<Field<'a>, Bad>
-    ensures { Gives field_shape (λ found. field_of (table_field found)) cur.old cur.new result }
+    ensures { Gives (λ found. field_of (table_field found)) (read_shape field_shape cur.old) cur.new result }
 {
     let name = match cur.text() {
         Ok(name) => name,
@@ -101,7 +100,7 @@ fn field_broken(field: &Field<'_>, table: &FieldTable<'_>, has_prox: bool) -> Op
 /// The field at the cursor, after those of the table, or the rule that it breaks.
 #[tactic(auto, using(crate::proofs::Records::judged))]
 fn field<'a>(cur: &mut Cur<'a>, table: &FieldTable<'a>, has_prox: bool) -> Result<Field<'a>, u16>
-    ensures gives { GivesGood field_shape (field_conditions has_prox table.now) (λ found. field_of (table_field found)) cur.old cur.new result }
+    ensures gives { Gives (λ found. field_of (table_field found)) (record_at field_shape (field_conditions has_prox table.now) cur.old) cur.new result }
     ensures new { IfOk result (λ found. (number_of found.name.now table.now ≡ None) × (found.bits < 128)) }
 {
     let found = match field_parts(cur) {
@@ -118,11 +117,7 @@ fn field<'a>(cur: &mut Cur<'a>, table: &FieldTable<'a>, has_prox: bool) -> Resul
 fn fault(place: usize, rule: u16) -> CodecFault
     ensures { result ≡ CodecFault.Spot (record { kind = FileKind.Fnm; offset = place; rule = rule }) }
 {
-    CodecFault::Spot(Spot {
-        kind: FileKind::Fnm,
-        offset: place as u64,
-        rule,
-    })
+    CodecFault::Spot(Spot::at(FileKind::Fnm, place, rule))
 }
 
 /// So many fields from the cursor on.
@@ -133,7 +128,7 @@ fn fields<'a>(
     has_prox: bool,
 ) -> Result<FieldTable<'a>, CodecFault>
     requires { count < 2 ^ 31 }
-    ensures { GivesPlan FileKind.Fnm (times (one_field has_prox) count []) cur.old cur.new result }
+    ensures { GivesIn FileKind.Fnm (λ table. table) (read_plan (times (one_field has_prox) count []) cur.old) cur.new result }
 {
     let mut table = FieldTable::new(alloc);
     for _ in 0..count {
@@ -155,8 +150,7 @@ pub fn check<'a>(
     has_prox: bool,
     norm_fields: Option<u32>,
 ) -> Result<FieldTable<'a>, CodecFault>
-    ensures table { IfOk result (λ table. Reads (fnm_plan has_prox norm_fields) fnm.entry.now table) }
-    ensures fault { IfErr result (λ fault. IsFault FileKind.Fnm (fnm_plan has_prox norm_fields) fnm.entry.now fault) }
+    ensures { Checks (λ table. table) FileKind.Fnm (fnm_plan has_prox norm_fields) fnm.entry.now result }
 {
     let mut cur = Cur::at(fnm, 0);
     let count = match header(&mut cur, norm_fields) {

@@ -4,13 +4,12 @@ use Rattle.std.specs.Option.{option_map}
 use Rattle.std.specs.Prelude.{slice_index_or}
 use Rattle.std.proofs.lemmas.Bool.{eq-eqb, ne_eqb}
 use Rattle.std.proofs.Math.Nat.{pow-suc, div-div-eq-div-mul, zero-div}
-use Rattle.lu_grammar.specs.Bytes.{Cursor}
+use Rattle.lu_grammar.specs.Bytes.{Cursor, place_in}
 use Rattle.freq_skips.specs.declared.rules.Term.{Term}
 use Rattle.freq_skips.specs.declared.datum.Point.{Point}
 use Rattle.freq_skips.specs.declared.following.Following.{Following}
 use Rattle.freq_skips.specs.Entries.{Posting}
 use Rattle.freq_skips.specs.Levels.{no_point, level_of, child_above, data_count, Follows, AreData, Passes}
-use Rattle.freq_skips.specs.Terms.{place_in}
 use Rattle.freq_skips.specs.Walking.{FollowsPoints, FollowsAbove, IsSmallAbove, StandAbove}
 use Rattle.freq_skips.proofs.LevelLemmas.{Follows-none}
 use Rattle.freq_skips.proofs.Powers.{quotient-next, quotient-same, quotient-below}

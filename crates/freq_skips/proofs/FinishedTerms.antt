@@ -11,14 +11,14 @@ use Rattle.freq_skips.specs.Entries.{Posting, no_posting, no_entry, entries}
 use Rattle.freq_skips.specs.Levels.{greatest_power, level_count, levels, stride, data_count, no_point}
 use Rattle.freq_skips.specs.Written.{Handed, no_handed, no_mark, optional_bytes, entry_bytes, entries_bytes, last_doc, mark_of, written_postings, AreInOrder, Rise, mark_after, data_bytes, places_after, rise_count, risen, lowest, with_length, skip_bytes, front_bytes, written_skip}
 use Rattle.freq_skips.specs.Writing.{WriterState, levels_due, finished, IsRisingProx, term_written, IsFinishable, IsWriting, LeadsTo, IsAsHanded}
-use Rattle.freq_skips.specs.Terms.{TermData, term_plan, place_in}
+use Rattle.freq_skips.specs.Terms.{TermData, term_plan}
 use Rattle.freq_skips.specs.Records.{Record}
 use Rattle.lu_grammar.specs.Plans.{done}
 use Rattle.freq_skips.proofs.TermLemmas.{levels_after}
 use Rattle.freq_skips.proofs.WrittenEntries.{passed_with, Writes-entries}
 use Rattle.lu_grammar.specs.Plans.{read_plan}
 use Rattle.std.proofs.Math.Seq.{drop-append_seam}
-use Rattle.lu_grammar.specs.Bytes.{IsBytes}
+use Rattle.lu_grammar.specs.Bytes.{IsBytes, place_in}
 use Rattle.lu_grammar.specs.Meaning.{ReadsTo}
 use Rattle.lu_grammar.proofs.Parts.{IsBytes-drop}
 use Rattle.lu_grammar.proofs.Plans.{ok_of, reads-read_plan}

@@ -3,7 +3,7 @@ use Rattle.std.proofs.Common.{◌≡◌, ℕ, List, [], Result, Ok, Err, sym, ap
 use Rattle.std.specs.Prelude.{MatchResult}
 use Rattle.lu_types.specs.declared.fault.Spot.{Spot}
 use Rattle.lu_types.specs.declared.kind.FileKind.TheVariants.{Frq}
-use Rattle.lu_grammar.specs.Bytes.{IsBytes, Cursor}
+use Rattle.lu_grammar.specs.Bytes.{IsBytes, Cursor, place_in}
 use Rattle.lu_grammar.specs.Reading.{◌>>=◌}
 use Rattle.lu_grammar.specs.Plans.{done, Broken, read_plan}
 use Rattle.lu_grammar.specs.Meaning.{ReadsTo}
@@ -15,7 +15,7 @@ use Rattle.freq_skips.specs.declared.datum.Point.{Point}
 use Rattle.freq_skips.specs.Records.{Record}
 use Rattle.freq_skips.specs.Entries.{Posting, Passed, entries, postings_from, AreEntries}
 use Rattle.freq_skips.specs.Levels.{level_count, levels}
-use Rattle.freq_skips.specs.Terms.{TermData, IsTermFault, term_plan, place_in}
+use Rattle.freq_skips.specs.Terms.{TermData, IsTermFault, term_plan}
 use Rattle.freq_skips.specs.Walking.{AreGoodLevels}
 use Rattle.freq_skips.proofs.EntryLemmas.{postings_from-is}
 use Rattle.freq_skips.proofs.TermLemmas.{levels_after}

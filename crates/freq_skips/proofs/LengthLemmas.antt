@@ -4,7 +4,7 @@ use Rattle.std.specs.Prelude.{◌==◌, not}
 use Rattle.std.specs.Option.{is_some}
 use Rattle.std.proofs.lemmas.Bool.{ne_eqb}
 use Rattle.freq_skips.proofs.WantedLemmas.{turned}
-use Rattle.lu_grammar.specs.Bytes.{IsBytes, Cursor}
+use Rattle.lu_grammar.specs.Bytes.{IsBytes, Cursor, place_in}
 use Rattle.lu_grammar.specs.Records.{record_at}
 use Rattle.lu_grammar.specs.Plans.{Plan, done, due, read_plan}
 use Rattle.lu_grammar.proofs.Plans.{ok_of, read_due, read_due_broken}
@@ -13,9 +13,8 @@ use Rattle.freq_skips.specs.declared.datum.Point.{Point}
 use Rattle.freq_skips.specs.Records.{Record, level_length, length_shape, length_of}
 use Rattle.freq_skips.specs.Entries.{Posting}
 use Rattle.freq_skips.specs.Levels.{skip_start, length_conditions, level_of, level_data, level_plan, AreGoodData}
-use Rattle.freq_skips.specs.Terms.{place_in}
 use Rattle.freq_skips.specs.Walking.{StandAbove, IsGoodLevel}
-use Rattle.freq_skips.proofs.PlaceLemmas.{place_in-after}
+use Rattle.lu_grammar.proofs.Codecs.{place_in-after}
 
 -- what is asked of the length of a level
 abbrev pub length_at : Term → Bool → Cursor → Result (Record × Cursor) ℕ

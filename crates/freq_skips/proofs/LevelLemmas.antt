@@ -10,7 +10,7 @@ use Rattle.lu_grammar.proofs.Records.{ok_pair, same_pair}
 use Rattle.lu_grammar.specs.Plans.{times, read_plan}
 use Rattle.lu_grammar.proofs.Plans.{ok_of, err_is_not_ok}
 use Rattle.lu_grammar.proofs.Loops.{each-none, each-rest, times-more, times-fault, times-again, times-keeps}
-use Rattle.freq_skips.proofs.ConditionLemmas.{record_at-kept, all_unbroken, same-of}
+use Rattle.lu_grammar.proofs.Codecs.{record_at-kept, all_unbroken, same-of}
 use Rattle.freq_skips.specs.declared.rules.Term.{Term}
 use Rattle.freq_skips.specs.declared.datum.Point.{Point}
 use Rattle.freq_skips.specs.declared.datum.Wanted.{Wanted}

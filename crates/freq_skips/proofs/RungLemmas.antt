@@ -1,17 +1,16 @@
 -- One datum more along a level.
 use Rattle.std.proofs.Common.{◌≡◌, ℕ, add-one, ◌+◌, ◌-◌, ◌/◌, ◌%◌, ◌<◌, ◌≤◌, ◌≢◌, List, Option, sym, ap, subst, ◌∙◌, arith}
 use Rattle.std.specs.Prelude.{slice_index_or}
-use Rattle.lu_grammar.specs.Bytes.{IsBytes, Cursor}
+use Rattle.lu_grammar.specs.Bytes.{IsBytes, Cursor, place_in}
 use Rattle.lu_grammar.specs.Plans.{times}
 use Rattle.freq_skips.specs.declared.rules.Term.{Term}
 use Rattle.freq_skips.specs.declared.datum.Point.{Point}
 use Rattle.freq_skips.specs.declared.walk.Rung.{Rung}
 use Rattle.freq_skips.specs.Entries.{Posting, no_posting, postings_from}
 use Rattle.freq_skips.specs.Levels.{level_of, level_count, stride, data_count, datum_kind, no_datum, no_point, Follows, AreData, Passes, IsSmall}
-use Rattle.freq_skips.specs.Terms.{place_in}
 use Rattle.freq_skips.specs.Walks.{IsOnLevel, IsFresh, start_in, points_in}
 use Rattle.freq_skips.proofs.Powers.{stride-two, quotient-below, quotient-same, multiple-next, multiple-index}
-use Rattle.freq_skips.proofs.PlaceLemmas.{place_in-after}
+use Rattle.lu_grammar.proofs.Codecs.{place_in-after}
 
 -- what taking the next datum again shows
 abbrev pub TakesNext : Term → List Posting → ℕ → ℕ → Point → Cursor → ℕ → Point → Cursor → Type 0

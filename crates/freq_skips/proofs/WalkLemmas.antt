@@ -8,7 +8,7 @@ use Rattle.std.proofs.lemmas.Bool.{cases_eq, eq-eqb, ne_eqb}
 use Rattle.std.proofs.Math.Nat.{le-div_iff_mul-le, zero-div}
 use Rattle.lu_grammar.specs.Reading.{◌>>=◌}
 use Rattle.lu_grammar.specs.Meaning.{ReadsTo}
-use Rattle.lu_grammar.specs.Bytes.{IsBytes, Cursor}
+use Rattle.lu_grammar.specs.Bytes.{IsBytes, Cursor, place_in}
 use Rattle.lu_grammar.specs.Records.{Shape, Condition, record_at}
 use Rattle.lu_grammar.specs.Plans.{Plan, due, broken_at, read_plan}
 use Rattle.lu_grammar.proofs.Records.{ok_pair, same_pair}
@@ -18,12 +18,11 @@ use Rattle.freq_skips.specs.declared.datum.Point.{Point}
 use Rattle.freq_skips.specs.Records.{entry_shape, datum_shape, length_shape, length_of}
 use Rattle.freq_skips.specs.Entries.{Posting, AreEntries, entries, postings_from, entry_conditions}
 use Rattle.freq_skips.specs.Levels.{Along, no_point, level_of, level_count, stride, data_count, wanted, datum_conditions, length_conditions, level_data, level_plan, levels, AreData}
-use Rattle.freq_skips.specs.Terms.{TermData, IsGoodTerm, IsTermFault, term_plan, place_in}
+use Rattle.freq_skips.specs.Terms.{TermData, IsGoodTerm, IsTermFault, term_plan}
 use Rattle.freq_skips.specs.Walks.{read_value, value_from, start_in, IsOnLevel}
 use Rattle.freq_skips.proofs.Powers.{power-pos, greatest_power-low}
-use Rattle.freq_skips.proofs.PlaceLemmas.{place_in-after}
+use Rattle.lu_grammar.proofs.Codecs.{place_in-after, record_at-kept, all_unbroken, same-of}
 use Rattle.freq_skips.proofs.LevelLemmas.{Follows-none, Follows-again}
-use Rattle.freq_skips.proofs.ConditionLemmas.{record_at-kept, all_unbroken, same-of}
 use Rattle.freq_skips.proofs.TermLemmas.{and_then-read, TermParts, TermParts-ReadsTo}
 use Rattle.freq_skips.proofs.EntryLemmas.{Stands-none, Stands-again}
 

@@ -1,6 +1,6 @@
 -- The entries of a term: what each stands for, and what it must meet.
 use Rattle.std.specs.Prelude.{ℕ, ◌+◌, ◌/◌, Bool, not, ◌≡◌, List, [], ◌∷◌, ◌++◌, length, Result, Ok, Err, Option, Some, None, nat_lt, nat_le, ◌==◌, ◌&&◌, if◌then◌else◌, slice_index_or, map}
-use Rattle.lu_types.specs.declared.rules.TheConstants.{FREQ_START, DOC_ORDER, DOC_RANGE, FREQ}
+use Rattle.lu_types.specs.RuleNumbers as number
 use Rattle.lu_grammar.specs.Bytes.{Cursor}
 use Rattle.lu_grammar.specs.Records.{Condition}
 use Rattle.lu_grammar.specs.Plans.{Plan, Kind, times, Broken, read_plan}
@@ -49,10 +49,10 @@ is_low (Some n) = nat_lt n 2
 -- what is asked of an entry at a place, the first of its term or not, after a document
 abbrev pub entry_conditions : Term → Bool → ℕ → ℕ → Record → List Condition
 entry_conditions t first last place r =
-    (record { rule = FREQ_START; broken = first && not (place == t.info.freq) })
-    ∷ (record { rule = DOC_ORDER; broken = not first && (gap t (delta_of r) == 0) })
-    ∷ (record { rule = DOC_RANGE; broken = nat_le t.rules.documents (last + gap t (delta_of r)) })
-    ∷ (record { rule = FREQ; broken = is_low (stated_of r) })
+    (record { rule = number.freq_start; broken = first && not (place == t.info.freq) })
+    ∷ (record { rule = number.doc_order; broken = not first && (gap t (delta_of r) == 0) })
+    ∷ (record { rule = number.doc_range; broken = nat_le t.rules.documents (last + gap t (delta_of r)) })
+    ∷ (record { rule = number.freq; broken = is_low (stated_of r) })
     ∷ []
 
 -- the entries so far with one more

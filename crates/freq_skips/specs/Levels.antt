@@ -1,6 +1,6 @@
 -- The skip levels of a term: which data each has, to which entries they belong, and what they must meet.
 use Rattle.std.specs.Prelude.{◌≡◌, ◌≤◌, Ok, ℕ, zero, suc, ◌+◌, ◌-◌, ◌*◌, ◌/◌, ◌%◌, ◌^◌, Bool, not, List, [], ◌∷◌, ◌++◌, length, Option, Some, None, nat_le, ◌==◌, ◌&&◌, if◌then◌else◌, slice_index_or}
-use Rattle.lu_types.specs.declared.rules.TheConstants.{SKIP_START, SKIP_DOC, SKIP_FREQ, SKIP_OMIT, SKIP_CHILD, SKIP_LENGTH}
+use Rattle.lu_types.specs.RuleNumbers as number
 use Rattle.lu_grammar.specs.Records.{Condition}
 use Rattle.lu_grammar.specs.Bytes.{Cursor}
 use Rattle.lu_grammar.specs.Plans.{Plan, done, due, and_then, Kind, times, read_plan}
@@ -75,7 +75,7 @@ differs (Some m) n = not (m == n)
 
 -- the first record of the skip data is to stand as far behind the first entry as the dictionary says
 abbrev pub skip_start : Term → Bool → ℕ → Condition
-skip_start t first place = record { rule = SKIP_START; broken = first && not (place == t.info.freq + t.info.skip) }
+skip_start t first place = record { rule = number.skip_start; broken = first && not (place == t.info.freq + t.info.skip) }
 
 -- how many documents a datum skips
 abbrev pub skipped : Term → ℕ → ℕ
@@ -95,11 +95,11 @@ wanted t postings l m = record {
 abbrev pub datum_conditions : Term → Wanted → ℕ → Point → ℕ → Record → List Condition
 datum_conditions t w start last place r =
     (skip_start t w.first place)
-    ∷ (record { rule = SKIP_DOC; broken = not (last.doc + skipped t (skip_of r).doc == w.doc) })
-    ∷ (record { rule = SKIP_FREQ; broken = not (last.freq + (skip_of r).freq == w.freq) })
-    ∷ (record { rule = SKIP_OMIT; broken = t.rules.omit_tf && not ((skip_of r).prox == 0) })
-    ∷ (record { rule = SKIP_CHILD; broken = differs w.child (place + length_to_child (skip_of r) - start) })
-    ∷ (record { rule = SKIP_LENGTH; broken = differs w.size (place + datum_length (skip_of r) - start) })
+    ∷ (record { rule = number.skip_doc; broken = not (last.doc + skipped t (skip_of r).doc == w.doc) })
+    ∷ (record { rule = number.skip_freq; broken = not (last.freq + (skip_of r).freq == w.freq) })
+    ∷ (record { rule = number.skip_omit; broken = t.rules.omit_tf && not ((skip_of r).prox == 0) })
+    ∷ (record { rule = number.skip_child; broken = differs w.child (place + length_to_child (skip_of r) - start) })
+    ∷ (record { rule = number.skip_length; broken = differs w.size (place + datum_length (skip_of r) - start) })
     ∷ []
 
 -- a number that may be there, or else another

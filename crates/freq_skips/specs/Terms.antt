@@ -1,9 +1,12 @@
 -- A term's part of `.frq`, and the whole file.
-use Rattle.std.specs.Prelude.{◌≤◌, ℕ, List, [], length, drop}
+use Rattle.std.specs.Prelude.{◌≤◌, ℕ, List, [], length, map}
 use Rattle.lu_types.specs.declared.term.TermInfo.{TermInfo}
+use Rattle.lu_types.specs.declared.term.TermNumbers.{TermNumbers}
+use Rattle.lu_types.specs.Tables.{TableField, bits_at}
+use Rattle.lu_types.specs.Terms.{term_rules}
 use Rattle.freq_skips.specs.declared.datum.Point.{Point}
-use Rattle.freq_skips.specs.declared.rules.TermRules.{TermRules}
-use Rattle.lu_grammar.specs.Bytes.{Cursor, start_of}
+use Rattle.lu_types.specs.declared.term.TermRules.{TermRules}
+use Rattle.lu_grammar.specs.Bytes.{Cursor, start_of, place_in}
 use Rattle.lu_grammar.specs.Plans.{Plan, done, and_then, in_turn}
 use Rattle.freq_skips.specs.declared.rules.Term.{Term}
 use Rattle.lu_grammar.specs.Meaning.{ReadsTo, FaultFrom}
@@ -20,17 +23,21 @@ pub record TermData : Type 0 where
 abbrev pub term_plan : Term → Plan TermData Record
 term_plan t = and_then (entries t) (λ s. and_then (levels t s.postings (level_count t) []) (λ points. done (record { postings = s.postings; levels = points })))
 
--- the file: the terms in turn
-abbrev pub frq_plan : List Term → Plan (Unit {0}) Record
-frq_plan terms = in_turn term_plan terms
-
--- a place in some bytes
-abbrev pub place_in : List ℕ → ℕ → Cursor
-place_in bytes place = record { place = place; rest = drop place bytes }
-
 -- a term by the line of the dictionary and the rules
 abbrev pub term_of : TermInfo → TermRules → Term
 term_of info rules = record { info = info; rules = rules }
+
+-- the terms of a dictionary with these numbers, in a segment with these fields and so many documents
+abbrev pub terms_of : List TableField → TermNumbers → ℕ → List TermInfo → List Term
+terms_of fields numbers documents infos = map (λ info. term_of info (term_rules numbers (bits_at fields info.field) documents)) infos
+
+-- some terms in turn
+abbrev pub terms_plan : List Term → Plan (List TermData) Record
+terms_plan terms = in_turn term_plan terms
+
+-- the file: the terms of the dictionary in turn
+abbrev pub frq_plan : List TableField → TermNumbers → ℕ → List TermInfo → Plan (List TermData) Record
+frq_plan fields numbers documents infos = terms_plan (terms_of fields numbers documents infos)
 
 -- the term stands in the file: from its place on all of its records are good
 pub record IsGoodTerm (info : TermInfo) (rules : TermRules) (frq : List ℕ) : Type 0 where
@@ -45,6 +52,6 @@ pub record IsTermFault (t : Term) (from : Cursor) (offset rule : ℕ) : Type 0 w
   pub fault : FaultFrom (term_plan t) from offset rule
   pub unread : (value : TermData) (end : Cursor) → ReadsTo (term_plan t) from value end → ⊥
 
--- the first records of a file are the terms in turn, and they end at a place
-abbrev pub AreTermsUpTo : List Term → List ℕ → ℕ → Type 0
-AreTermsUpTo terms frq place = ReadsTo (frq_plan terms) (start_of frq) tt (place_in frq place)
+-- the first records of a file are the terms in turn, which stand for these, and they end at a place
+abbrev pub AreTermsUpTo : List Term → List ℕ → ℕ → List TermData → Type 0
+AreTermsUpTo terms frq place values = ReadsTo (terms_plan terms) (start_of frq) values (place_in frq place)

@@ -1,13 +1,12 @@
 -- What the walks of the check keep: where they stand in the level above.
 use Rattle.std.specs.Prelude.{◌≡◌, ◌≤◌, ℕ, ◌/◌, List, [], ◌∷◌, Option, Some, None, Ok, length}
-use Rattle.lu_grammar.specs.Bytes.{Cursor}
+use Rattle.lu_grammar.specs.Bytes.{Cursor, place_in}
 use Rattle.lu_grammar.specs.Plans.{read_plan}
 use Rattle.freq_skips.specs.declared.rules.Term.{Term}
 use Rattle.freq_skips.specs.declared.datum.Point.{Point}
 use Rattle.freq_skips.specs.declared.following.Following.{Following}
 use Rattle.freq_skips.specs.Entries.{Posting}
 use Rattle.freq_skips.specs.Levels.{Along, level_of, level_plan, level_count, levels, Follows, AreData, IsSmall}
-use Rattle.freq_skips.specs.Terms.{place_in}
 
 -- a walk along a level whose data are good has passed one for every so many data of the level below
 pub record FollowsPoints (t : Term) (postings : List Posting) (level : ℕ) (points : List Point) (rest : List (List Point)) (passed : ℕ) (f : Following) : Type 0 where

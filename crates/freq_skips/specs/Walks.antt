@@ -1,6 +1,6 @@
 -- A walk over a term: its entries in order, and with each the data that belong to it.
 use Rattle.std.specs.Prelude.{◌≡◌, ◌≢◌, ◌⊎◌, ◌<◌, ◌≤◌, ◌-◌, ◌/◌, ◌%◌, ℕ, List, [], Option, Some, None, Result, Ok, Err, length, slice_index_or}
-use Rattle.lu_grammar.specs.Bytes.{Cursor}
+use Rattle.lu_grammar.specs.Bytes.{Cursor, place_in}
 use Rattle.lu_grammar.specs.Plans.{Broken, read_plan}
 use Rattle.freq_skips.specs.declared.rules.Term.{Term}
 use Rattle.freq_skips.specs.declared.datum.Point.{Point}
@@ -9,7 +9,7 @@ use Rattle.freq_skips.specs.declared.walk.Datum.{Datum}
 use Rattle.freq_skips.specs.declared.walk.Rung.{Rung}
 use Rattle.freq_skips.specs.Entries.{Posting, no_posting, postings_from}
 use Rattle.freq_skips.specs.Levels.{level_count, stride, level_of, no_point, Follows, AreData, IsSmall}
-use Rattle.freq_skips.specs.Terms.{TermData, term_plan, place_in}
+use Rattle.freq_skips.specs.Terms.{TermData, term_plan}
 
 -- a walk: the term, what its part of `.frq` stands for, and how many entries were answered
 pub record WalkState : Type 0 where

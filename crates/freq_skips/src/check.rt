@@ -1,14 +1,15 @@
 //! A term's part of `.frq` is checked.
+ghost use Rattle.lu_grammar.specs.Bytes.{place_in};
 ghost use Rattle.std.specs.Prelude.{◌≡◌, ℕ, ◌<◌, ◌≤◌, length, IfOk, MatchResult, Ok, Err};
 ghost use Rattle.lu_grammar.specs.Meaning.{ReadsTo};
 ghost use Rattle.lu_types.specs.declared.kind.FileKind.TheVariants.{Frq};
-ghost use Rattle.freq_skips.specs.Terms.{TermData, IsGoodTerm, IsTermFault, term_of, term_plan, place_in};
+ghost use Rattle.freq_skips.specs.Terms.{TermData, IsGoodTerm, IsTermFault, term_of, term_plan};
 
 use crate::levels::check_levels;
 use crate::passing::check_entries;
-use crate::rules::{Term, TermRules};
+use crate::rules::Term;
 use lu_prims::Cur;
-use lu_types::{Spot, TermInfo};
+use lu_types::{Spot, TermInfo, TermRules};
 
 /// Checks the entries and skip data of one term, which are to start at a place in the bytes of `.frq`; what follows them is
 /// not looked at (format page, "Entries and skip data"). Answers the place where the term ends, or else its first fault. It

@@ -1,15 +1,15 @@
 //! The entries of a term, in order.
 ghost use Rattle.std.specs.Prelude.{◌≡◌, ◌+◌, [], ◌∷◌, map, min, MatchOption};
-ghost use Rattle.lu_grammar.specs.Bytes.{Cursor};
+ghost use Rattle.lu_grammar.specs.Bytes.{Cursor, place_in};
 ghost use Rattle.lu_grammar.specs.Meaning.{ReadsTo};
 ghost use Rattle.freq_skips.specs.Entries.{entry_of};
-ghost use Rattle.freq_skips.specs.Terms.{TermData, IsGoodTerm, term_of, term_plan, place_in};
+ghost use Rattle.freq_skips.specs.Terms.{TermData, IsGoodTerm, term_of, term_plan};
 
 use crate::entry::Entry;
 use crate::passing::Passing;
-use crate::rules::{Term, TermRules};
+use crate::rules::Term;
 use lu_prims::{Cur, Steps};
-use lu_types::TermInfo;
+use lu_types::{TermInfo, TermRules};
 use std::marker::Model;
 
 /// The entries of a term that are left, in order, over bytes that were checked. No call takes memory.
@@ -24,7 +24,7 @@ impl<'a> Model for Entries<'a> {
     ghost use Rattle.std.specs.Prelude.{◌≤◌, List, drop};
     ghost use Rattle.freq_skips.specs.declared.entry.Entry.{Entry};
     ghost use Rattle.freq_skips.specs.Entries.{entries_from, AreGoodFrom, Stands};
-    ghost use Rattle.freq_skips.specs.Terms.{place_in};
+    ghost use Rattle.lu_grammar.specs.Bytes.{place_in};
 
     ghost Value = { List Entry };
 

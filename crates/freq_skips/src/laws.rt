@@ -1,23 +1,23 @@
 //! Laws on the terms of a file.
 ghost use Rattle.std.specs.Prelude.{◌≡◌, ◌<◌, ◌≤◌, Bool, ℕ, List, [], ◌∷◌, ◌++◌, length};
-ghost use Rattle.lu_grammar.specs.declared.general.TheConstants.{TRAILING};
-ghost use Rattle.lu_grammar.specs.Bytes.{IsBytes};
+ghost use Rattle.lu_types.specs.RuleNumbers as number;
+ghost use Rattle.lu_grammar.specs.Bytes.{IsBytes, place_in};
 ghost use Rattle.lu_grammar.specs.Meaning.{Reads, ReadsTo, FirstFault};
 ghost use Rattle.freq_skips.specs.declared.rules.Term.{Term};
 ghost use Rattle.freq_skips.specs.Written.{Handed};
 ghost use Rattle.freq_skips.specs.Writing.{WriterState, begun, added, finished, term_written, IsWriting, IsFinishable, IsAsHanded};
-ghost use Rattle.freq_skips.specs.Terms.{TermData, IsTermFault, AreTermsUpTo, term_plan, frq_plan, place_in};
+ghost use Rattle.freq_skips.specs.Terms.{TermData, IsTermFault, AreTermsUpTo, term_plan, terms_plan};
 
 /// The terms of a file in turn: where each is good from where the one before ends, and the file ends with the last, the bytes
 /// read as the whole file; a fault of one of them is the first fault of the file, and so are bytes behind the last.
 pub fn terms_in_turn()
-    ensures none { (frq : List ℕ) → IsBytes frq → AreTermsUpTo [] frq 0 }
-    ensures more { (terms : List Term) (t : Term) (frq : List ℕ) (place end : ℕ) (value : TermData) → IsBytes frq → AreTermsUpTo terms frq place
-        → ReadsTo (term_plan t) (place_in frq place) value (place_in frq end) → AreTermsUpTo (terms ++ t ∷ []) frq end }
-    ensures whole { (terms : List Term) (frq : List ℕ) → AreTermsUpTo terms frq (length frq) → Reads (frq_plan terms) frq tt }
-    ensures fault { (terms : List Term) (t : Term) (rest : List Term) (frq : List ℕ) (place offset rule : ℕ) → IsBytes frq → AreTermsUpTo terms frq place
-        → IsTermFault t (place_in frq place) offset rule → FirstFault (frq_plan (terms ++ t ∷ rest)) frq offset rule }
-    ensures trailing { (terms : List Term) (frq : List ℕ) (place : ℕ) → IsBytes frq → AreTermsUpTo terms frq place → place < length frq → FirstFault (frq_plan terms) frq place TRAILING }
+    ensures none { (frq : List ℕ) → IsBytes frq → AreTermsUpTo [] frq 0 [] }
+    ensures more { (terms : List Term) (values : List TermData) (t : Term) (frq : List ℕ) (place end : ℕ) (value : TermData) → IsBytes frq → AreTermsUpTo terms frq place values
+        → ReadsTo (term_plan t) (place_in frq place) value (place_in frq end) → AreTermsUpTo (terms ++ t ∷ []) frq end (values ++ value ∷ []) }
+    ensures whole { (terms : List Term) (values : List TermData) (frq : List ℕ) → AreTermsUpTo terms frq (length frq) values → Reads (terms_plan terms) frq values }
+    ensures fault { (terms : List Term) (values : List TermData) (t : Term) (rest : List Term) (frq : List ℕ) (place offset rule : ℕ) → IsBytes frq → AreTermsUpTo terms frq place values
+        → IsTermFault t (place_in frq place) offset rule → FirstFault (terms_plan (terms ++ t ∷ rest)) frq offset rule }
+    ensures trailing { (terms : List Term) (values : List TermData) (frq : List ℕ) (place : ℕ) → IsBytes frq → AreTermsUpTo terms frq place values → place < length frq → FirstFault (terms_plan terms) frq place number.trailing }
 {}
 
 /// What a writer does: it begins with nothing handed over; with each entry it holds what was handed over and that entry; and the

@@ -1,13 +1,12 @@
 //! The skip levels of a term, from the highest down.
 ghost use Rattle.std.specs.Prelude.{◌≡◌, ℕ, suc, ◌+◌, ◌-◌, ◌*◌, ◌/◌, ◌^◌, ◌<◌, ◌≤◌, ◌⊎◌, List, [], ◌∷◌, Option, length, None, ◌==◌, ◌&&◌, if◌then◌else◌, IfOk, IfSome, OnOk, MatchResult, Ok, Err};
-ghost use Rattle.lu_grammar.specs.Bytes.{IsBytes, Cursor};
+ghost use Rattle.lu_grammar.specs.Bytes.{IsBytes, Cursor, place_in};
 ghost use Rattle.lu_grammar.specs.Plans.{read_plan};
 ghost use Rattle.lu_types.specs.declared.kind.FileKind.TheVariants.{Frq};
 ghost use Rattle.freq_skips.specs.declared.datum.Point.{Point};
 ghost use Rattle.freq_skips.specs.Entries.{Posting, postings_from, AreEntries, AreGoodFrom, Stands};
 ghost use Rattle.std.specs.Option.{option_map};
 ghost use Rattle.freq_skips.specs.Levels.{no_point, greatest_power as greatest_power_of, level_count as count_of_levels, level_of, wanted as is_wanted, data_count, stride as stride_of, level_data, child_above as child_of, AreGoodData};
-ghost use Rattle.freq_skips.specs.Terms.{place_in};
 ghost use Rattle.freq_skips.specs.Walking.{FollowsAbove, IsSmallAbove, StandAbove};
 
 use crate::datum::Wanted;

@@ -1,4 +1,5 @@
 //! All skip levels of a term.
+ghost use Rattle.lu_grammar.specs.Bytes.{place_in};
 ghost use Rattle.std.specs.Prelude.{◌≡◌, ℕ, suc, ◌+◌, ◌/◌, ◌^◌, ◌<◌, ◌≤◌, List, [], ◌∷◌, Option, length, ◌==◌, IfOk, IfSome, MatchResult, Ok, Err};
 ghost use Rattle.lu_grammar.specs.Records.{record_at, first_broken};
 ghost use Rattle.lu_grammar.specs.Plans.{read_plan};
@@ -7,7 +8,6 @@ ghost use Rattle.freq_skips.specs.declared.datum.Point.{Point};
 ghost use Rattle.freq_skips.specs.Records.{level_length as length_record, length_shape};
 ghost use Rattle.freq_skips.specs.Entries.{Posting, postings_from, AreGoodFrom};
 ghost use Rattle.freq_skips.specs.Levels.{skip_start, level_of, stride as stride_of, level_data, level_plan, level_count as count_of_levels, levels};
-ghost use Rattle.freq_skips.specs.Terms.{place_in};
 ghost use Rattle.freq_skips.specs.Walking.{StandAbove, IsGoodLevel, AreGoodLevels};
 
 use crate::datum::skips_start_elsewhere;

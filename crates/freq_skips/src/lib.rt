@@ -19,7 +19,7 @@ pub use check::check_term;
 pub use entries::Entries;
 pub use entry::Entry;
 pub use laws::{terms_in_turn, what_is_written};
-pub use rules::TermRules;
+pub use lu_types::TermRules;
 pub use skip_point::SkipPoint;
 pub use walk::{Datum, Walk, Walked};
 pub use writer::FreqWriter;

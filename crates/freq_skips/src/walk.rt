@@ -1,11 +1,11 @@
 //! A walk over a term: its entries in order, and with each the skip data that belong to it.
 ghost use Rattle.std.specs.Prelude.{◌≡◌, ◌≢◌, ◌⊎◌, ℕ, suc, ◌+◌, ◌-◌, ◌/◌, ◌%◌, ◌^◌, ◌<◌, ◌≤◌, List, [], Option, length, ◌==◌, slice_index_or, MatchOption, Ok};
-ghost use Rattle.lu_grammar.specs.Bytes.{Cursor};
+ghost use Rattle.lu_grammar.specs.Bytes.{Cursor, place_in};
 ghost use Rattle.lu_grammar.specs.Plans.{read_plan};
 ghost use Rattle.lu_grammar.specs.Meaning.{ReadsTo};
 ghost use Rattle.freq_skips.specs.Entries.{Posting, postings_from};
 ghost use Rattle.freq_skips.specs.Levels.{Along, level_of, level_count as count_of_levels, level_plan, stride as stride_of, data_count, AreData};
-ghost use Rattle.freq_skips.specs.Terms.{TermData, IsGoodTerm, term_of, term_plan, place_in};
+ghost use Rattle.freq_skips.specs.Terms.{TermData, IsGoodTerm, term_of, term_plan};
 ghost use Rattle.freq_skips.specs.Walks.{WalkState, walked_at, IsDatumFor, IsOnLevel, IsFresh, AreOnLevels, no_rung, start_in, points_in};
 
 use crate::datum::Point;
@@ -13,9 +13,9 @@ use crate::following::{Following, NO_POINT};
 use crate::level::{level_count, quotient};
 use crate::levels::level_length;
 use crate::passing::Passing;
-use crate::rules::{Term, TermRules};
+use crate::rules::Term;
 use lu_prims::Cur;
-use lu_types::TermInfo;
+use lu_types::{TermInfo, TermRules};
 use std::marker::Model;
 
 /// An entry of a term: its index, from 0, its document, and how often the term stands in it.

@@ -1,7 +1,7 @@
 -- A file of a segment as a command finds it.
 use Rattle.std.specs.Prelude.{◌≡◌, ℕ, ◌-◌, ◌^◌, ◌≤◌, true, List, length, Option, IfSome}
 use Rattle.std.specs.Option.{ForSome}
-use Rattle.lu_grammar.specs.declared.general.TheConstants.{MISSING}
+use Rattle.lu_types.specs.RuleNumbers as number
 use Rattle.lu_dir.specs.Files.{Files, contents}
 use Rattle.lu_dir.specs.Loading.{is_over}
 use Rattle.lu_types.specs.declared.kind.FileKind.{FileKind}
@@ -15,7 +15,7 @@ not_standing spot = statuses.NotStanding 0 (record { segment = 0; spot = spot })
 
 -- the fault of a file that is not there
 abbrev pub missing : FileKind → Spot
-missing kind = record { kind = kind; offset = 0; rule = MISSING }
+missing kind = record { kind = kind; offset = 0; rule = number.missing }
 
 -- the most bytes of a file that a command reads
 abbrev pub file_limit : ℕ

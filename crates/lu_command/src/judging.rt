@@ -1,6 +1,7 @@
 //! What a command says of the bytes that it read.
 ghost use Rattle.std.specs.Prelude.{◌≡◌, ◌<◌, ◌^◌, length, Some, None, IfOk, IfSome};
 ghost use Rattle.std.specs.Option.{option_copied};
+ghost use Rattle.lu_types.specs.Names.{IsPart};
 ghost use Rattle.lu_command.specs.Answers.{FieldsSays, IsAnswer};
 ghost use Rattle.lu_command.specs.Docs.{StoreSays, DocsSays};
 ghost use Rattle.lu_command.specs.Files.{not_standing};
@@ -18,6 +19,7 @@ use stored_fields::{StoredView, stored_total};
 
 /// The answer that a file of the segment has this fault.
 fn faulty(alloc: Global, segment: &str, spot: Spot) -> Result<Answer, OutOfMemory>
+    requires { IsPart spot.kind }
     ensures { IfOk result (λ answer. (answer.status ≡ not_standing spot) × (answer.text.items ≡ text_of_fault segment.now spot)) }
 {
     let text = fault_text(alloc, segment, &spot)?;

@@ -3,6 +3,7 @@ ghost use Rattle.std.specs.Prelude.{◌≡◌, ℕ, ◌++◌, ◌<◌, List, len
 ghost use Rattle.lu_types.specs.Tables.{TableField};
 ghost use Rattle.std.specs.Char.{digit_char};
 ghost use Rattle.lu_types.specs.Fields.{table_field};
+ghost use Rattle.lu_types.specs.Names.{IsPart};
 ghost use Rattle.stored_fields.specs.Entries.{stored_field, value_of};
 ghost use Rattle.lu_command.specs.Texts.{hex_byte, field_line, field_lines, fault_text, too_large_text, usage_text, value_text, flag_digit as digit_of_flag, stored_line, doc_text as text_of_doc, doc_lines};
 
@@ -78,6 +79,7 @@ pub fn fields_text(
 
 /// The line of a fault of a file of the segment.
 pub fn fault_text(alloc: Global, segment: &str, spot: &Spot) -> Result<String, OutOfMemory>
+    requires { IsPart spot.now.kind }
     ensures { IfOk result (λ text. string_bytes text ≡ fault_text segment.now spot.now) }
 {
     let file = part_name(alloc, segment, spot.kind)?;

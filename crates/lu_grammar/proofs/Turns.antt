@@ -16,6 +16,10 @@ use Rattle.lu_grammar.proofs.Loops.{in_turn-more, in_turn-fault}
 abbrev pub AreUpTo : {C V R : Type 0} → (C → Plan V R) → List C → List ℕ → ℕ → List V → Type 0
 AreUpTo plan cs bytes place values = ReadsTo (in_turn plan cs) (start_of bytes) values (place_in bytes place)
 
+-- where they end with the file they are the whole of it
+pub turns-whole : {C V R : Type 0} (plan : C → Plan V R) (cs : List C) (bytes : List ℕ) (values : List V) → AreUpTo plan cs bytes (length bytes) values → Reads (in_turn plan cs) bytes values
+turns-whole plan cs bytes values h = subst (λ (bs : List ℕ). ReadsTo (in_turn plan cs) (start_of bytes) values (record { place = length bytes; rest = bs })) (drop-length bytes) h
+
 module _ {C V R : Type 0} (plan : C → Plan V R) (bytes : List ℕ) (fits : IsBytes bytes) where
   pub turns-none : AreUpTo plan [] bytes 0 []
   unfolding read_plan
@@ -26,9 +30,6 @@ module _ {C V R : Type 0} (plan : C → Plan V R) (bytes : List ℕ) (fits : IsB
   turns-more cs values c place end v before here =
       reads-read_plan (in_turn plan (cs ++ c ∷ [])) (start_of bytes) (values ++ v ∷ []) (place_in bytes end) fits
       (in_turn-more plan cs c (start_of bytes) (place_in bytes place) values v (place_in bytes end) (read_plan-ReadsTo (in_turn plan cs) (start_of bytes) values (place_in bytes place) before) here)
-
-  pub turns-whole : (cs : List C) (values : List V) → AreUpTo plan cs bytes (length bytes) values → Reads (in_turn plan cs) bytes values
-  turns-whole cs values h = subst (λ (bs : List ℕ). ReadsTo (in_turn plan cs) (start_of bytes) values (record { place = length bytes; rest = bs })) (drop-length bytes) h
 
   pub turns-fault : (cs : List C) (values : List V) (c : C) (rest : List C) (place : ℕ) (b : Broken) → AreUpTo plan cs bytes place values → read_plan (plan c) (place_in bytes place) ≡ Err b
       → FirstFault (in_turn plan (cs ++ c ∷ rest)) bytes b.offset b.rule

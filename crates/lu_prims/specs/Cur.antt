@@ -4,7 +4,6 @@ use Rattle.lu_grammar.specs.declared.bad.Bad.{Bad}
 use Rattle.lu_grammar.specs.Bytes.{Cursor}
 use Rattle.lu_grammar.specs.Parts.{Part, Value}
 use Rattle.lu_grammar.specs.Reading.{read, read_part}
-use Rattle.lu_grammar.specs.Records.{Shape, Condition, read_shape, record_at}
 
 -- the value, seen as the part's, stood at the old place and the new one is behind it; or nothing did, and the place is as before
 abbrev pub Takes : {X : Type 0} (p : Part) → (X → Value p) → Cursor → Cursor → Result X Bad → Type 0
@@ -15,13 +14,3 @@ Takes p view old new (Err bad) = (read_part p old ≡ Err bad) × (new ≡ old)
 abbrev pub Begins : {X : Type 0} (p : Part) → (X → Value p) → List ℕ → Result (X × ℕ) Bad → Type 0
 Begins p view bytes (Ok x) = (read p bytes ≡ Ok (view x.0, x.1)) × (x.1 ≤ length bytes)
 Begins p view bytes (Err bad) = read p bytes ≡ Err bad
-
--- the record, seen as the shape's, stood at the old place and the new one is behind it; or the shape does not begin there
-abbrev pub Gives : {X R : Type 0} (shape : Shape R) → (X → R) → Cursor → Cursor → Result X Bad → Type 0
-Gives shape view old new (Ok x) = read_shape shape old ≡ Ok (view x, new)
-Gives shape view old new (Err bad) = read_shape shape old ≡ Err bad
-
--- the good record, seen as the shape's, stood at the old place and the new one is behind it; or this rule is broken there
-abbrev pub GivesGood : {X R : Type 0} (shape : Shape R) → (R → List Condition) → (X → R) → Cursor → Cursor → Result X ℕ → Type 0
-GivesGood shape conditions view old new (Ok x) = record_at shape conditions old ≡ Ok (view x, new)
-GivesGood shape conditions view old new (Err rule) = record_at shape conditions old ≡ Err rule

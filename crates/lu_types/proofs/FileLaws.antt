@@ -10,7 +10,7 @@ use Rattle.lu_types.specs.declared.kind.FileKind.{FileKind}
 use Rattle.lu_types.specs.declared.fault.Spot.{Spot}
 use Rattle.lu_types.specs.declared.fault.CodecFault.{CodecFault}
 use Rattle.lu_types.specs.declared.fault.CodecFault.TheVariants as faults
-use Rattle.lu_types.specs.Judging.{IsFault}
+use Rattle.lu_types.specs.Judging.{Checks}
 use Rattle.lu_types.specs.FilePlans.{FilePlan, stands, needs, StandFor, missing, followed_by, each_file, IsFaultAmong, Judges, HoldBytes}
 
 -- they stand for one thing at most
@@ -127,11 +127,11 @@ followed_by-bytes (needs kind (Some bytes) plan after) next made later = (made.0
 
 -- ---- what a check of one file shows of them all
 
-pub judges-fault : {X Y V R : Type 0} (seen : Y → X) (kind : FileKind) (found : Option (List ℕ)) (bytes : List ℕ) (plan : List ℕ → Plan V R) (after : List ℕ → V → FilePlan X) (fault : CodecFault) → found ≡ Some bytes → IsFault kind (plan bytes) bytes fault
+pub judges-fault : {X Y V R : Type 0} (seen : Y → X) (kind : FileKind) (found : Option (List ℕ)) (bytes : List ℕ) (plan : List ℕ → Plan V R) (after : List ℕ → V → FilePlan X) (fault : CodecFault) → found ≡ Some bytes → Checks {X = V} (λ v. v) kind (plan bytes) bytes (Err fault)
     → Judges seen (needs kind found plan after) (Err fault)
 judges-fault {X} {Y} {V} {R} seen kind found bytes plan after fault e f = subst (λ (o : Option (List ℕ)). Judges seen (needs kind o plan after) (Err fault)) (sym e) (go fault f)
   where
-    go : (fault : CodecFault) → IsFault kind (plan bytes) bytes fault → Judges seen (needs kind (Some bytes) plan after) (Err fault)
+    go : (fault : CodecFault) → Checks {X = V} (λ v. v) kind (plan bytes) bytes (Err fault) → Judges seen (needs kind (Some bytes) plan after) (Err fault)
     go (faults.Spot spot) f = inl f
     go faults.OutOfMemory f = tt
 

@@ -1,7 +1,7 @@
 -- What the answer of a check says of the bytes of a file.
 use Rattle.std.specs.Prelude.{◌≡◌, ℕ, List, Result, Ok, Err}
 use Rattle.lu_grammar.specs.Bytes.{Cursor}
-use Rattle.lu_grammar.specs.Plans.{Plan, Broken, read_plan}
+use Rattle.lu_grammar.specs.Plans.{Plan, Broken}
 use Rattle.lu_grammar.specs.Meaning.{Reads, FirstFault}
 use Rattle.lu_types.specs.declared.kind.FileKind.{FileKind}
 use Rattle.lu_types.specs.declared.fault.Spot.{Spot}
@@ -37,14 +37,3 @@ GivesIn kind view expected new (Err faults.OutOfMemory) = Unit {0}
 abbrev pub GivesInPlain : {X V : Type 0} → FileKind → (X → V) → Result (V × Cursor) Broken → Cursor → Result X Spot → Type 0
 GivesInPlain kind view expected new (Ok x) = expected ≡ Ok (view x, new)
 GivesInPlain kind view expected new (Err spot) = IsBroken kind expected spot
-
--- the fault is the first one of these bytes, or there was no memory
-abbrev pub IsFault : {V R : Type 0} → FileKind → Plan V R → List ℕ → CodecFault → Type 0
-IsFault kind plan bytes (faults.Spot spot) = IsFirstFault kind plan bytes spot
-IsFault kind plan bytes faults.OutOfMemory = Unit {0}
-
--- what a part of a check answers: what the plan stands for from the old place to the new one, its first fault, or that there was no memory
-abbrev pub GivesPlan : {V R : Type 0} → FileKind → Plan V R → Cursor → Cursor → Result V CodecFault → Type 0
-GivesPlan kind plan old new (Ok v) = read_plan plan old ≡ Ok (v, new)
-GivesPlan kind plan old new (Err (faults.Spot spot)) = (spot.kind ≡ kind) × (read_plan plan old ≡ Err (record { offset = spot.offset; rule = spot.rule }))
-GivesPlan kind plan old new (Err faults.OutOfMemory) = Unit {0}

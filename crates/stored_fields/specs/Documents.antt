@@ -2,7 +2,7 @@
 use Rattle.std.specs.Prelude.{ℕ, ◌+◌, Bool, not, ◌&&◌, List, [], ◌∷◌, ◌++◌, length, ℤ, pos, get_or, nat_lt, nat_le}
 use Rattle.std.specs.Ordering.{int_eq}
 use Rattle.lu_types.specs.declared.stored.Window.{Window}
-use Rattle.lu_types.specs.declared.rules.TheConstants.{FDT_FORMAT, FDT_PLACE, STORED_FIELD, STORED_BITS}
+use Rattle.lu_types.specs.RuleNumbers as number
 use Rattle.lu_grammar.specs.Parts.{num}
 use Rattle.lu_grammar.specs.Records.{Shape, whole, part, followed, Condition}
 use Rattle.lu_grammar.specs.Plans.{Plan, done, due, and_then, Kind, times, each}
@@ -22,7 +22,7 @@ header_shape = followed format_shape (λ z. whole (format z))
 
 -- the format number must be the right one
 abbrev pub format_conditions : Record → List Condition
-format_conditions (format z) = record { rule = FDT_FORMAT; broken = is_other_format z } ∷ []
+format_conditions (format z) = record { rule = number.fdt_format; broken = is_other_format z } ∷ []
 format_conditions _ = []
 
 -- how many values a document has
@@ -35,7 +35,7 @@ is_elsewhere place wanted = not (int_eq (pos place) wanted)
 
 -- a document must start at its place
 abbrev pub start_conditions : ℤ → ℕ → List Condition
-start_conditions wanted place = record { rule = FDT_PLACE; broken = is_elsewhere place wanted } ∷ []
+start_conditions wanted place = record { rule = number.fdt_place; broken = is_elsewhere place wanted } ∷ []
 
 -- a value has a bit that means nothing
 abbrev pub has_other_bit : ℕ → Bool
@@ -47,7 +47,7 @@ value_shape = followed entry_shape (λ entry. whole (value entry))
 
 -- the field of a value must be one of so many, where this is asked, and its bits must mean something
 abbrev pub entry_conditions : Bool → ℕ → ℕ → ℕ → List Condition
-entry_conditions asked fields field bits = record { rule = STORED_FIELD; broken = asked && nat_le fields field } ∷ record { rule = STORED_BITS; broken = has_other_bit bits } ∷ []
+entry_conditions asked fields field bits = record { rule = number.stored_field; broken = asked && nat_le fields field } ∷ record { rule = number.stored_bits; broken = has_other_bit bits } ∷ []
 
 -- the same of a record that is a value
 abbrev pub value_conditions : Bool → ℕ → Record → List Condition

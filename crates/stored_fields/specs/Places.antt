@@ -3,7 +3,7 @@ use Rattle.std.specs.Prelude.{ℕ, ◌+◌, Bool, not, ◌||◌, List, [], ◌�
 use Rattle.std.specs.List.{last_or}
 use Rattle.std.specs.Ordering.{int_eq}
 use Rattle.lu_types.specs.declared.stored.Window.{Window}
-use Rattle.lu_types.specs.declared.rules.TheConstants.{FDX_FORMAT, FDX_PLACE, STORE_RANGE}
+use Rattle.lu_types.specs.RuleNumbers as number
 use Rattle.lu_grammar.specs.Parts.{int64}
 use Rattle.lu_grammar.specs.Records.{Shape, whole, part, Condition}
 use Rattle.lu_grammar.specs.Plans.{Plan, due, Kind, times}
@@ -16,7 +16,7 @@ is_past total window = nat_lt total (window.offset + window.count)
 
 -- what the header of a store of so many documents must not be
 abbrev pub header_conditions : ℕ → Window → ℤ → List Condition
-header_conditions total window z = record { rule = FDX_FORMAT; broken = is_other_format z } ∷ record { rule = STORE_RANGE; broken = is_past total window } ∷ []
+header_conditions total window z = record { rule = number.fdx_format; broken = is_other_format z } ∷ record { rule = number.store_range; broken = is_past total window } ∷ []
 
 -- where a place may not be after the place before it, if there is one: the first is not just after the header, a later one is not above the one before, or over the greatest
 abbrev pub is_misplaced : Option ℤ → ℤ → Bool
@@ -29,7 +29,7 @@ place_shape = part int64 (λ z. whole z)
 
 -- what a place after another, if there is one, must not be
 abbrev pub place_conditions : Option ℤ → ℤ → List Condition
-place_conditions before z = record { rule = FDX_PLACE; broken = is_misplaced before z } ∷ []
+place_conditions before z = record { rule = number.fdx_place; broken = is_misplaced before z } ∷ []
 
 -- the places, after those so far
 abbrev pub places_kind : Kind (List ℤ) ℤ

@@ -5,7 +5,7 @@ use Rattle.lu_grammar.specs.declared.bad.Bad.{Bad}
 use Rattle.lu_grammar.specs.Bytes.{Cursor}
 use Rattle.lu_grammar.specs.Records.{Condition, first_broken, rule_of, read_shape}
 use Rattle.term_dict.specs.declared.heading.Heading.{Heading}
-use Rattle.term_dict.specs.declared.numbers.TermNumbers.{TermNumbers}
+use Rattle.lu_types.specs.declared.term.TermNumbers.{TermNumbers}
 use Rattle.term_dict.specs.Headings.{heading_shape, heading_conditions, numbers_of, Line, heading, entry, heading_of, on_entry}
 use Rattle.term_dict.specs.Entries.{Entry, entry_shape}
 use Rattle.term_dict.specs.Terms.{Term, last_term, term_after}

@@ -2,13 +2,12 @@
 use Rattle.std.proofs.Common.{◌≡◌, ℕ, zero, suc, true, false, Bool, eqb, ltb, List, [], ◌∷◌, ◌++◌, length, Option, Some, None, Result, Ok, Err, refl, sym, ap, ◌∙◌}
 use Rattle.std.specs.Prelude.{if◌then◌else◌, not}
 use Rattle.std.specs.Str.{is_utf8}
-use Rattle.lu_types.specs.declared.rules.TheConstants.{TERM_PREFIX, TERM_UTF8}
+use Rattle.lu_types.specs.RuleNumbers as number
 use Rattle.std.proofs.lemmas.Bool.{eq-eqb, ne_eqb}
 use Rattle.lu_grammar.specs.Bytes.{IsBytes, Cursor, start_of}
 use Rattle.lu_grammar.specs.Reading.{◌>>=◌}
 use Rattle.lu_grammar.specs.Records.{Shape, Condition, first_broken, read_shape, record_at, judged, unless_broken}
 use Rattle.lu_grammar.specs.declared.bad.Bad.{Bad}
-use Rattle.lu_grammar.specs.declared.general.TheConstants.{TRAILING}
 use Rattle.lu_grammar.specs.Plans.{Plan, done, Broken, broken_at, one, each, times, read_plan, ended, read_file}
 use Rattle.lu_grammar.proofs.Plans.{read_due, read_due_broken, ok_of, err_is_not_ok}
 use Rattle.lu_grammar.proofs.Loops.{read_plan-and_then, then_ok, one-was, one-read}
@@ -17,7 +16,7 @@ use Rattle.lu_grammar.proofs.Files.{FirstFault-from}
 use Rattle.lu_types.specs.declared.fault.CodecFault.{CodecFault}
 use Rattle.lu_types.specs.declared.fault.CodecFault.TheVariants.{Spot, OutOfMemory}
 use Rattle.lu_types.specs.declared.kind.FileKind.{FileKind}
-use Rattle.term_dict.specs.declared.numbers.TermNumbers.{TermNumbers}
+use Rattle.lu_types.specs.declared.term.TermNumbers.{TermNumbers}
 use Rattle.term_dict.specs.Headings.{header, heading_conditions, numbers_of, Line, heading, entry, heading_of, on_entry}
 use Rattle.term_dict.specs.Entries.{Entry}
 use Rattle.term_dict.specs.Terms.{Term, last_term, term_after}
@@ -61,7 +60,7 @@ terms-broken standing size numbers c b broken =
 pub file-read : {V R : Type 0} (plan : Plan V R) (bytes : List ℕ) (v : V) (d : Cursor) → read_plan plan (start_of bytes) ≡ Ok (v, d) → length d.rest ≡ 0 → read_file plan bytes ≡ Ok v
 file-read {V} {R} plan bytes v d read none = let t : eqb (length d.rest) 0 ≡ true = eq-eqb _ _ none in ap (λ (r : Result (V × Cursor) Broken). r >>= ended) read ∙ rw t refl
 
-pub file-trailing : {V R : Type 0} (plan : Plan V R) (bytes : List ℕ) (v : V) (d : Cursor) → read_plan plan (start_of bytes) ≡ Ok (v, d) → (length d.rest ≡ 0 → ⊥) → read_file plan bytes ≡ Err (record { offset = d.place; rule = TRAILING })
+pub file-trailing : {V R : Type 0} (plan : Plan V R) (bytes : List ℕ) (v : V) (d : Cursor) → read_plan plan (start_of bytes) ≡ Ok (v, d) → (length d.rest ≡ 0 → ⊥) → read_file plan bytes ≡ Err (record { offset = d.place; rule = number.trailing })
 file-trailing {V} {R} plan bytes v d read some = let f : eqb (length d.rest) 0 ≡ false = ne_eqb _ _ some in ap (λ (r : Result (V × Cursor) Broken). r >>= ended) read ∙ rw f refl
 
 pub file-broken : {V R : Type 0} (plan : Plan V R) (bytes : List ℕ) (b : Broken) → read_plan plan (start_of bytes) ≡ Err b → read_file plan bytes ≡ Err b
@@ -90,7 +89,7 @@ good-front false false rule other x y less good = less good
 
 good-anywhere : (standing : Standing) (before : List Term) (e : Entry) (t : Term) → first_broken (against standing before e t) ≡ None → first_broken (against anywhere before e t) ≡ None
 good-anywhere standing before e t good =
-    good-front (ltb (length (last_term before).text) e.prefix) (not (is_utf8 t.text)) TERM_PREFIX TERM_UTF8 (first_broken (standing before t ++ place_conditions t)) (first_broken (place_conditions t)) (good-back (standing before t) (place_conditions t)) good
+    good-front (ltb (length (last_term before).text) e.prefix) (not (is_utf8 t.text)) number.term_prefix number.term_utf8 (first_broken (standing before t ++ place_conditions t)) (first_broken (place_conditions t)) (good-back (standing before t) (place_conditions t)) good
 
 line-anywhere : (standing : Standing) (before : List Term) (line : Line Entry) → first_broken (on_entry [] (term_conditions standing before) line) ≡ None → first_broken (on_entry [] (term_conditions anywhere before) line) ≡ None
 line-anywhere standing before (heading h) good = refl

@@ -15,7 +15,7 @@ use Rattle.lu_grammar.proofs.Parts.{IsBytes-drop}
 use Rattle.lu_grammar.proofs.Files.{Reads-from}
 use Rattle.lu_types.specs.Tables.{TableField}
 use Rattle.term_dict.specs.declared.heading.Heading.{Heading}
-use Rattle.term_dict.specs.declared.numbers.TermNumbers.{TermNumbers}
+use Rattle.lu_types.specs.declared.term.TermNumbers.{TermNumbers}
 use Rattle.term_dict.specs.Headings.{heading_conditions, header, numbers_of, heading, heading_of}
 use Rattle.term_dict.specs.Terms.{Term, no_term, last_term, term_after}
 use Rattle.term_dict.specs.Dictionary.{Dictionary, no_terms, within, place_conditions, against, term_conditions, term_kind, terms_plan, dictionary_plan, tis_plan}

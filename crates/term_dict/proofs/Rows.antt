@@ -7,8 +7,8 @@ use Rattle.lu_grammar.specs.Records.{record_at}
 use Rattle.lu_grammar.specs.Plans.{Broken, each, read_plan, read_file}
 use Rattle.lu_types.specs.Tables.{TableField}
 use Rattle.lu_types.specs.declared.term.TermInfo.{TermInfo}
-use Rattle.lu_types.specs.declared.rules.TheConstants.{TERM_ORDER, DOC_FREQ, TII_PLACE}
-use Rattle.term_dict.specs.declared.numbers.TermNumbers.{TermNumbers}
+use Rattle.lu_types.specs.RuleNumbers as number
+use Rattle.lu_types.specs.declared.term.TermNumbers.{TermNumbers}
 use Rattle.term_dict.specs.Dictionary.{Dictionary, tis_plan}
 use Rattle.term_dict.specs.Index.{tii_plan}
 
@@ -54,12 +54,12 @@ unfolding read read_groups read_plan record_at each is_utf8 chars encode
 units_rise = refl
 
 bytes_rise : tried (header 2 ++ (0 ∷ 3 ∷ 0xEF ∷ 0xBD ∷ 0xA1 ∷ 1 ∷ 1 ∷ 0 ∷ 0 ∷ []) ++ (0 ∷ 4 ∷ 0xF0 ∷ 0x90 ∷ 0x80 ∷ 0x80 ∷ 1 ∷ 1 ∷ 0 ∷ 0 ∷ [])) 43
-    ≡ Err (record { offset = 33; rule = TERM_ORDER })
+    ≡ Err (record { offset = 33; rule = number.term_order })
 unfolding read read_groups read_plan record_at each is_utf8 chars encode
 bytes_rise = refl
 
 -- more documents than the segment has
-too_often : tried (header 2 ++ (0 ∷ 5 ∷ hello ++ (1 ∷ 1 ∷ 0 ∷ 0 ∷ []) ++ (0 ∷ 5 ∷ world ++ (1 ∷ 2 ∷ 1 ∷ 1 ∷ [])))) 46 ≡ Err (record { offset = 35; rule = DOC_FREQ })
+too_often : tried (header 2 ++ (0 ∷ 5 ∷ hello ++ (1 ∷ 1 ∷ 0 ∷ 0 ∷ []) ++ (0 ∷ 5 ∷ world ++ (1 ∷ 2 ∷ 1 ∷ 1 ∷ [])))) 46 ≡ Err (record { offset = 35; rule = number.doc_freq })
 unfolding read read_groups read_plan record_at each is_utf8 chars encode
 too_often = refl
 
@@ -80,6 +80,6 @@ unfolding read read_groups read_plan record_at each
 index_of_two = refl
 
 -- the place is one byte after the first term starts
-index_past : index_tried 0x19 ≡ Err (record { offset = 24; rule = TII_PLACE })
+index_past : index_tried 0x19 ≡ Err (record { offset = 24; rule = number.tii_place })
 unfolding read read_groups read_plan record_at each
 index_past = refl

@@ -5,8 +5,7 @@ use Rattle.std.specs.Str.{is_utf8}
 use Rattle.std.specs.Int.{Width, w32, w64}
 use Rattle.std.specs.Prelude.{ℤ}
 use Rattle.std.proofs.lemmas.Bool.{cases_lt, eqb-true, leb-false, ltb-false}
-use Rattle.lu_grammar.specs.declared.general.TheConstants.{TRAILING}
-use Rattle.lu_types.specs.declared.rules.TheConstants.{TERM_PREFIX, TERM_UTF8, TERM_PLACE}
+use Rattle.lu_types.specs.RuleNumbers as number
 use Rattle.lu_grammar.proofs.Parts.{IsBytes-drop}
 use Rattle.term_dict.proofs.LoopLemmas.{last_term-push}
 use Rattle.std.proofs.lemmas.List.{length-append, drop_at, length-take-le, take_all, take-append-le, drop-drop, append-nil, get_or_at, get_or_past, length-drop}
@@ -25,7 +24,7 @@ use Rattle.lu_grammar.proofs.Records.{ok_pair, same_pair, TakesRecord, ShapeJudg
 use Rattle.lu_grammar.proofs.Plans.{ok_of, err_of, err_is_not_ok, reads-read_plan}
 use Rattle.lu_grammar.proofs.Loops.{read_plan-and_then, each-none, read_shape-followed, then_ok, one-was, times-again, times-more, each-rest}
 use Rattle.term_dict.specs.declared.heading.Heading.{Heading}
-use Rattle.term_dict.specs.declared.numbers.TermNumbers.{TermNumbers}
+use Rattle.lu_types.specs.declared.term.TermNumbers.{TermNumbers}
 use Rattle.term_dict.specs.Headings.{heading_shape, header, heading_conditions, numbers_of, Line, heading, entry, heading_of, on_entry}
 use Rattle.term_dict.specs.Entries.{Entry, entry_shape}
 use Rattle.term_dict.specs.Terms.{Term, no_term, last_term, term_after}
@@ -154,7 +153,7 @@ broken_of place rule = record { offset = place; rule = rule }
 was_ended : {V : Type 0} (x : V × Cursor) (v : V) → ended x ≡ ok_of v → (x.0 ≡ v) × (length x.1.rest ≡ 0)
 was_ended {V} x v e = go (eqb (length x.1.rest) 0) refl e
   where
-    go : (b : Bool) → eqb (length x.1.rest) 0 ≡ b → (if b then ok_of x.0 else err_of (broken_of x.1.place TRAILING)) ≡ ok_of v → (x.0 ≡ v) × (length x.1.rest ≡ 0)
+    go : (b : Bool) → eqb (length x.1.rest) 0 ≡ b → (if b then ok_of x.0 else err_of (broken_of x.1.place number.trailing)) ≡ ok_of v → (x.0 ≡ v) × (length x.1.rest ≡ 0)
     go true t e = (inner x.0 v e, eqb-true _ _ t)
     go false t e = absurd (err_is_not_ok e)
 
@@ -230,7 +229,7 @@ not_false false e = cc
 entry_fits : (before : List Term) (e : Entry) → first_broken (term_conditions anywhere before e) ≡ None → Fits (last_term before) e
 entry_fits before e good =
     let t = term_after (last_term before) e in
-    let all = three (ltb (length (last_term before).text) e.prefix) (not (is_utf8 t.text)) (is_past t) TERM_PREFIX TERM_UTF8 TERM_PLACE good in
+    let all = three (ltb (length (last_term before).text) e.prefix) (not (is_utf8 t.text)) (is_past t) number.term_prefix number.term_utf8 number.term_place good in
     let past = neither (leb (2 ^ 31) t.info.freq) (leb (2 ^ 31) t.info.prox) all.2 in
     record {
       prefix = ltb-false _ _ all.0;

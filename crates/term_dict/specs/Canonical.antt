@@ -1,7 +1,7 @@
 -- The files that a writer makes of terms: each text shares as many bytes as it can with the one before.
 use Rattle.std.specs.Prelude.{ℕ, zero, suc, ◌+◌, ◌-◌, ◌*◌, ◌/◌, ◌==◌, pos, negsuc, if◌then◌else◌, List, [], ◌∷◌, ◌++◌, length, take, drop, nat_le}
 use Rattle.lu_grammar.specs.Parts.{int32, int64, num, vint, vlong, spelling}
-use Rattle.term_dict.specs.declared.numbers.TermNumbers.{TermNumbers}
+use Rattle.lu_types.specs.declared.term.TermNumbers.{TermNumbers}
 use Rattle.term_dict.specs.Entries.{Entry}
 use Rattle.term_dict.specs.Terms.{Term, no_term}
 use Rattle.term_dict.specs.Index.{point_after, entry_count}

@@ -8,7 +8,7 @@ use Rattle.lu_types.specs.declared.fault.CodecFault.{CodecFault}
 use Rattle.lu_types.specs.declared.fault.CodecFault.TheVariants.{Spot, OutOfMemory}
 use Rattle.lu_types.specs.declared.kind.FileKind.{FileKind}
 use Rattle.term_dict.specs.declared.heading.Heading.{Heading}
-use Rattle.term_dict.specs.declared.numbers.TermNumbers.{TermNumbers}
+use Rattle.lu_types.specs.declared.term.TermNumbers.{TermNumbers}
 use Rattle.term_dict.specs.Headings.{header, heading_conditions, numbers_of, Line, heading, entry, heading_of}
 use Rattle.term_dict.specs.Entries.{Entry}
 use Rattle.term_dict.specs.Terms.{Term, no_term, last_term, term_after}

@@ -2,7 +2,7 @@
 use Rattle.std.specs.Prelude.{◌≡◌, ℕ, ◌<◌, ◌^◌, List, [], length, Result, Ok, Err}
 use Rattle.lu_grammar.specs.Bytes.{IsBytes}
 use Rattle.lu_grammar.specs.Plans.{read_file}
-use Rattle.term_dict.specs.declared.numbers.TermNumbers.{TermNumbers}
+use Rattle.lu_types.specs.declared.term.TermNumbers.{TermNumbers}
 use Rattle.term_dict.specs.Dictionary.{Dictionary, anywhere, dictionary_plan}
 use Rattle.term_dict.specs.Checks.{AreBounded, AreWithin}
 

@@ -3,9 +3,9 @@ use Rattle.std.specs.Prelude.{ℕ, ◌^◌, Bool, false, not, ◌||◌, ◌==◌
 use Rattle.std.specs.Str.{is_utf8}
 use Rattle.lu_grammar.specs.Records.{whole, followed, Condition}
 use Rattle.lu_grammar.specs.Plans.{Plan, done, due, and_then, Kind, times}
-use Rattle.lu_types.specs.declared.rules.TheConstants.{TERM_PREFIX, TERM_UTF8, TERM_FIELD, TERM_ORDER, DOC_FREQ, TERM_PLACE}
+use Rattle.lu_types.specs.RuleNumbers as number
 use Rattle.lu_types.specs.Tables.{TableField}
-use Rattle.term_dict.specs.declared.numbers.TermNumbers.{TermNumbers}
+use Rattle.lu_types.specs.declared.term.TermNumbers.{TermNumbers}
 use Rattle.term_dict.specs.Headings.{header, heading_conditions, numbers_of, Line, entry, heading_of, on_entry}
 use Rattle.term_dict.specs.Entries.{Entry, entry_shape}
 use Rattle.term_dict.specs.Terms.{Term, last_term, term_after, is_indexed, is_above}
@@ -41,9 +41,9 @@ anywhere before t = []
 -- its field is indexed, it is above the term before, and it is in some of the documents and in no more
 abbrev pub within : List TableField → ℕ → Standing
 within fields documents before t =
-    record { rule = TERM_FIELD; broken = not (is_indexed fields t.info.field) } ∷
-    record { rule = TERM_ORDER; broken = not (is_above fields before t) } ∷
-    record { rule = DOC_FREQ; broken = t.info.doc_freq == 0 || nat_lt documents t.info.doc_freq } ∷
+    record { rule = number.term_field; broken = not (is_indexed fields t.info.field) } ∷
+    record { rule = number.term_order; broken = not (is_above fields before t) } ∷
+    record { rule = number.doc_freq; broken = t.info.doc_freq == 0 || nat_lt documents t.info.doc_freq } ∷
     []
 
 -- a place is over the last that a file can have
@@ -52,13 +52,13 @@ is_past t = nat_le (2 ^ 31) t.info.freq || nat_le (2 ^ 31) t.info.prox
 
 -- what a term must meet in any segment, after all else
 abbrev pub place_conditions : Term → List Condition
-place_conditions t = record { rule = TERM_PLACE; broken = is_past t } ∷ []
+place_conditions t = record { rule = number.term_place; broken = is_past t } ∷ []
 
 -- the conditions against the entry that stands for this term, after these
 abbrev pub against : Standing → List Term → Entry → Term → List Condition
 against standing before e t =
-    record { rule = TERM_PREFIX; broken = nat_lt (length (last_term before).text) e.prefix } ∷
-    record { rule = TERM_UTF8; broken = not (is_utf8 t.text) } ∷
+    record { rule = number.term_prefix; broken = nat_lt (length (last_term before).text) e.prefix } ∷
+    record { rule = number.term_utf8; broken = not (is_utf8 t.text) } ∷
     standing before t ++
     place_conditions t
 

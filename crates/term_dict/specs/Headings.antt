@@ -3,9 +3,9 @@ use Rattle.std.specs.Prelude.{ℕ, ℤ, pos, negsuc, Bool, not, ◌||◌, List, 
 use Rattle.std.specs.Ordering.{int_eq}
 use Rattle.lu_grammar.specs.Parts.{int32, int64}
 use Rattle.lu_grammar.specs.Records.{Shape, whole, part, followed, Condition}
-use Rattle.lu_types.specs.declared.rules.TheConstants.{TIS_FORMAT, TERM_COUNT, INDEX_INTERVAL, SKIP_INTERVAL, SKIP_LEVELS}
+use Rattle.lu_types.specs.RuleNumbers as number
 use Rattle.term_dict.specs.declared.heading.Heading.{Heading}
-use Rattle.term_dict.specs.declared.numbers.TermNumbers.{TermNumbers}
+use Rattle.lu_types.specs.declared.term.TermNumbers.{TermNumbers}
 
 -- the header's parts
 abbrev pub heading_shape : Shape Heading
@@ -24,11 +24,11 @@ is_below least z = int_lt z (pos least)
 -- the conditions against the header of the terms
 abbrev pub heading_conditions : Heading → List Condition
 heading_conditions h =
-    record { rule = TIS_FORMAT; broken = is_other_format h } ∷
-    record { rule = TERM_COUNT; broken = is_below 0 h.count || int_lt (pos 2147483647) h.count } ∷
-    record { rule = INDEX_INTERVAL; broken = is_below 1 h.index_interval } ∷
-    record { rule = SKIP_INTERVAL; broken = is_below 2 h.skip_interval } ∷
-    record { rule = SKIP_LEVELS; broken = is_below 1 h.max_levels } ∷
+    record { rule = number.tis_format; broken = is_other_format h } ∷
+    record { rule = number.term_count; broken = is_below 0 h.count || int_lt (pos 2147483647) h.count } ∷
+    record { rule = number.index_interval; broken = is_below 1 h.index_interval } ∷
+    record { rule = number.skip_interval; broken = is_below 2 h.skip_interval } ∷
+    record { rule = number.skip_levels; broken = is_below 1 h.max_levels } ∷
     []
 
 -- the numbers of a header without a sign

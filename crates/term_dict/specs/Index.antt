@@ -6,9 +6,9 @@ use Rattle.lu_grammar.specs.Parts.{vlong}
 use Rattle.lu_grammar.specs.Records.{Shape, whole, part, followed, Condition}
 use Rattle.lu_grammar.specs.Plans.{Plan, done, due, and_then, Kind, times}
 use Rattle.lu_types.specs.declared.term.TermInfo.{TermInfo}
-use Rattle.lu_types.specs.declared.rules.TheConstants.{TII_FORMAT, TII_COUNT, TII_INTERVALS, TII_PREFIX, TII_TERM, TII_PLACE}
+use Rattle.lu_types.specs.RuleNumbers as number
 use Rattle.term_dict.specs.declared.heading.Heading.{Heading}
-use Rattle.term_dict.specs.declared.numbers.TermNumbers.{TermNumbers}
+use Rattle.lu_types.specs.declared.term.TermNumbers.{TermNumbers}
 use Rattle.term_dict.specs.Headings.{header, is_other_format, Line, entry, heading_of, on_entry}
 use Rattle.term_dict.specs.Entries.{Entry, entry_shape}
 use Rattle.term_dict.specs.Terms.{Term, no_term, term_after}
@@ -72,17 +72,17 @@ same_intervals h numbers = int_eq h.index_interval (pos numbers.index_interval) 
 -- the conditions against the header of the index
 abbrev pub index_heading_conditions : TermNumbers → Heading → List Condition
 index_heading_conditions numbers h =
-    record { rule = TII_FORMAT; broken = is_other_format h } ∷
-    record { rule = TII_COUNT; broken = not (int_eq h.count (pos (entry_count numbers))) } ∷
-    record { rule = TII_INTERVALS; broken = not (same_intervals h numbers) } ∷
+    record { rule = number.tii_format; broken = is_other_format h } ∷
+    record { rule = number.tii_count; broken = not (int_eq h.count (pos (entry_count numbers))) } ∷
+    record { rule = number.tii_intervals; broken = not (same_intervals h numbers) } ∷
     []
 
 -- the conditions against an entry after this last term and place, which is to stand for the wanted term and place
 abbrev pub index_against : Term → ℕ → IndexEntry → Term → ℕ → List Condition
 index_against last place e wanted wanted_place =
-    record { rule = TII_PREFIX; broken = nat_lt (length last.text) e.term.prefix } ∷
-    record { rule = TII_TERM; broken = not (same_term (term_after last e.term) wanted) } ∷
-    record { rule = TII_PLACE; broken = not (place + e.step == wanted_place) } ∷
+    record { rule = number.tii_prefix; broken = nat_lt (length last.text) e.term.prefix } ∷
+    record { rule = number.tii_term; broken = not (same_term (term_after last e.term) wanted) } ∷
+    record { rule = number.tii_place; broken = not (place + e.step == wanted_place) } ∷
     []
 
 -- the conditions against the next entry

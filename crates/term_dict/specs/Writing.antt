@@ -3,7 +3,7 @@ use Rattle.std.specs.Prelude.{[], ◌∷◌, ◌≡◌, ℕ, ◌%◌, ◌<◌, �
 use Rattle.std.specs.Str.{IsUtf8}
 use Rattle.lu_grammar.specs.Bytes.{IsBytes}
 use Rattle.lu_types.specs.declared.term.TermInfo.{TermInfo}
-use Rattle.term_dict.specs.declared.numbers.TermNumbers.{TermNumbers}
+use Rattle.lu_types.specs.declared.term.TermNumbers.{TermNumbers}
 use Rattle.term_dict.specs.declared.writer.IndexOutput.{IndexOutput}
 use Rattle.lu_grammar.specs.Plans.{Kind, times, read_plan}
 use Rattle.term_dict.specs.Headings.{Line}

@@ -10,10 +10,9 @@ ghost use Rattle.term_dict.specs.Checks.{IsHeader, IsNext, AreBounded, AreWithin
 use crate::entry::entry_at;
 use crate::heading::{heading_at, numbers_of};
 use crate::last::LastTerm;
-use crate::numbers::TermNumbers;
 use lu_prims::{Cur, OutOfMemory};
 use lu_types::rules::{TRAILING, rule_of};
-use lu_types::{CodecFault, FieldTable, FileKind, Spot};
+use lu_types::{CodecFault, FieldTable, FileKind, Spot, TermNumbers};
 use std::alloc::Global;
 
 /// The numbers of the header at the cursor, which moves behind it; or the first rule that is broken there.

@@ -7,9 +7,8 @@ ghost use Rattle.term_dict.specs.Walk.{Walk, walk_of, term_passed, next_place, p
 
 use crate::entry::entry_at;
 use crate::last::LastTerm;
-use crate::numbers::TermNumbers;
 use lu_prims::{Cur, OutOfMemory};
-use lu_types::TermInfo;
+use lu_types::{TermInfo, TermNumbers};
 use std::alloc::Global;
 use std::marker::Model;
 

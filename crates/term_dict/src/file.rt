@@ -8,9 +8,8 @@ ghost use Rattle.term_dict.specs.Walk.{walk_of};
 
 use crate::checking::check_bytes;
 use crate::cursor::TermCursor;
-use crate::numbers::TermNumbers;
 use lu_prims::OutOfMemory;
-use lu_types::{CodecFault, FieldTable};
+use lu_types::{CodecFault, FieldTable, TermNumbers};
 use std::alloc::Global;
 use std::marker::Model;
 

@@ -4,8 +4,8 @@ ghost use Rattle.term_dict.specs.Headings.{heading_shape, heading_conditions, nu
 ghost use Rattle.term_dict.specs.Entries.{TakesShape};
 ghost use Rattle.term_dict.specs.Checks.{AreBounded, IsHeader};
 
-use crate::numbers::TermNumbers;
 use lu_prims::{Bad, Cur};
+use lu_types::TermNumbers;
 use lu_types::rules::{INDEX_INTERVAL, SKIP_INTERVAL, SKIP_LEVELS, TERM_COUNT, TIS_FORMAT};
 
 /// The format number of the terms and of their index.

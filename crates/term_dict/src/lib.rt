@@ -8,7 +8,6 @@ mod file;
 mod heading;
 mod last;
 mod laws;
-mod numbers;
 mod order;
 mod spelling;
 mod writer;
@@ -20,7 +19,7 @@ pub use heading::{FORMAT, Heading, heading_at};
 pub use last::follow;
 pub use laws::{written_index_is_read, written_is_read};
 pub use lu_types::TermInfo;
-pub use numbers::TermNumbers;
+pub use lu_types::TermNumbers;
 pub use writer::{TermFiles, TermWriter};
 
 #[cfg(test)]

@@ -8,7 +8,7 @@ use Rattle.lu_grammar.specs.declared.bad.Bad.{Bad}
 use Rattle.lu_grammar.specs.Bytes.{Cursor}
 use Rattle.lu_grammar.specs.Records.{first_broken, rule_of, read_shape}
 use Rattle.lu_types.specs.declared.term.TermInfo.{TermInfo}
-use Rattle.lu_types.specs.declared.rules.TheConstants.{TII_PREFIX, TII_TERM, TII_PLACE}
+use Rattle.lu_types.specs.RuleNumbers as number
 use Rattle.term_dict.specs.Headings.{entry, on_entry}
 use Rattle.term_dict.specs.Terms.{Term, term_after}
 use Rattle.term_dict.specs.Dictionary.{Dictionary}
@@ -60,7 +60,7 @@ same_term-true a b e =
 -- a good entry stands for what is wanted
 good_entry : (last : Term) (place : ℕ) (e : IndexEntry) (wanted : Term) (wanted_place : ℕ) → first_broken (index_against last place e wanted wanted_place) ≡ None → (term_after last e.term ≡ wanted) × (place + e.step ≡ wanted_place)
 good_entry last place e wanted wanted_place good =
-    let all = three (ltb (length last.text) e.term.prefix) (not (same_term (term_after last e.term) wanted)) (not (eqb (place + e.step) wanted_place)) TII_PREFIX TII_TERM TII_PLACE good in
+    let all = three (ltb (length last.text) e.term.prefix) (not (same_term (term_after last e.term) wanted)) (not (eqb (place + e.step) wanted_place)) number.tii_prefix number.tii_term number.tii_place good in
     (same_term-true (term_after last e.term) wanted (holds _ all.1), eqb-true (place + e.step) wanted_place (holds _ all.2))
 
 -- an entry that was read, and what was found against it

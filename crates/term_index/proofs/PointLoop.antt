@@ -11,7 +11,7 @@ use Rattle.lu_grammar.specs.Reading.{◌>>=◌}
 use Rattle.lu_grammar.proofs.Plans.{read_due, read_due_broken}
 use Rattle.lu_grammar.proofs.Loops.{read_plan-and_then, each-none, times-more, times-fault}
 use Rattle.term_dict.specs.declared.heading.Heading.{Heading}
-use Rattle.term_dict.specs.declared.numbers.TermNumbers.{TermNumbers}
+use Rattle.lu_types.specs.declared.term.TermNumbers.{TermNumbers}
 use Rattle.term_dict.specs.Headings.{Line, header, heading, entry, heading_shape, heading_of}
 use Rattle.term_dict.specs.Terms.{Term, no_term}
 use Rattle.term_dict.specs.Dictionary.{Dictionary}

@@ -4,7 +4,7 @@ use Rattle.lu_grammar.specs.Bytes.{Cursor}
 use Rattle.lu_types.specs.declared.term.TermInfo.{TermInfo}
 use Rattle.lu_grammar.specs.Records.{record_at}
 use Rattle.term_dict.specs.declared.heading.Heading.{Heading}
-use Rattle.term_dict.specs.declared.numbers.TermNumbers.{TermNumbers}
+use Rattle.lu_types.specs.declared.term.TermNumbers.{TermNumbers}
 use Rattle.term_dict.specs.Checks.{record_of}
 use Rattle.term_dict.specs.Headings.{Line, heading, entry, header, heading_of}
 use Rattle.term_dict.specs.Entries.{Entry, entry_of, IsBounded}

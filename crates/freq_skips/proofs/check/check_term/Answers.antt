@@ -1,9 +1,9 @@
 use Rattle.std.proofs.Common.{◌≡◌, ℕ, Err, sym, ap, subst, ◌∙◌, arith}
-use Rattle.lu_grammar.specs.Bytes.{Cursor}
+use Rattle.lu_grammar.specs.Bytes.{Cursor, place_in}
 use Rattle.lu_grammar.specs.Plans.{read_plan}
 use Rattle.freq_skips.specs.Entries.{entries, AreEntries}
-use Rattle.freq_skips.specs.Terms.{term_of, place_in}
-use Rattle.freq_skips.proofs.PlaceLemmas.{place_in-after}
+use Rattle.freq_skips.specs.Terms.{term_of}
+use Rattle.lu_grammar.proofs.Codecs.{place_in-after}
 use Rattle.freq_skips.proofs.JudgeLemmas.{term-entries_broken, term-judged}
 use Rattle.freq_skips.proofs.WalkLemmas.{IsGoodTerm-checked}
 use Rattle.freq_skips.proofs.check.check_term.Goals as goal

@@ -1,6 +1,6 @@
 use Rattle.std.proofs.Common.{arith}
 use Rattle.lu_grammar.specs.Parts.{vint, num}
-use Rattle.freq_skips.proofs.PlaceLemmas.{read_part-place}
+use Rattle.lu_grammar.proofs.Codecs.{read_part-place}
 use Rattle.freq_skips.proofs.datum.datum_parts.Goals as goal
 
 pub returns-in-Ok-optional_vlong-clause-place : goal.returns-in-Ok-optional_vlong-clause-place

@@ -1,5 +1,5 @@
 use Rattle.lu_grammar.specs.Parts.{num}
-use Rattle.freq_skips.proofs.PlaceLemmas.{read_part-place}
+use Rattle.lu_grammar.proofs.Codecs.{read_part-place}
 use Rattle.freq_skips.proofs.entry.optional_num.Goals as goal
 
 pub returns-in-Ok-clause-place : goal.returns-in-Ok-clause-place

@@ -1,13 +1,12 @@
 use Rattle.std.proofs.Common.{◌≡◌, ℕ, suc, add-one, ◌*◌, ◌/◌, ◌<◌, ◌≤◌, arith, refl, sym, subst, ap, ◌∙◌}
-use Rattle.lu_grammar.specs.Bytes.{IsBytes, Cursor}
+use Rattle.lu_grammar.specs.Bytes.{IsBytes, Cursor, place_in}
 use Rattle.lu_grammar.specs.Plans.{times}
 use Rattle.lu_grammar.proofs.Parts.{IsBytes-drop}
 use Rattle.freq_skips.specs.Entries.{postings_from, Stands}
 use Rattle.freq_skips.specs.Levels.{level_of, data_count, datum_kind, no_datum, no_point, Follows, AreGoodData}
-use Rattle.freq_skips.specs.Terms.{place_in}
 use Rattle.freq_skips.specs.Walking.{FollowsAbove, IsSmallAbove}
 use Rattle.freq_skips.proofs.Powers.{stride-two}
-use Rattle.freq_skips.proofs.PlaceLemmas.{place_in-after}
+use Rattle.lu_grammar.proofs.Codecs.{place_in-after}
 use Rattle.freq_skips.proofs.EntryLemmas.{Stands-none}
 use Rattle.freq_skips.proofs.LevelLemmas.{Follows-none, Follows-all}
 use Rattle.freq_skips.proofs.AboveLemmas.{above-starts, above-small}

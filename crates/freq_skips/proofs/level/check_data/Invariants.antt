@@ -1,9 +1,8 @@
 use Rattle.std.proofs.Common.{◌≡◌, suc, ◌-◌, ◌*◌, ◌^◌, ◌<◌, ◌≤◌, List}
-use Rattle.lu_grammar.specs.Bytes.{IsBytes}
+use Rattle.lu_grammar.specs.Bytes.{IsBytes, place_in}
 use Rattle.freq_skips.specs.declared.datum.Point.{Point}
 use Rattle.freq_skips.specs.Entries.{postings_from, Stands}
 use Rattle.freq_skips.specs.Levels.{level_of, data_count, Follows, IsSmall}
-use Rattle.freq_skips.specs.Terms.{place_in}
 use Rattle.freq_skips.specs.Walking.{FollowsAbove, IsSmallAbove, StandAbove}
 use Rattle.freq_skips.proofs.level.check_data.Given as goal
 

@@ -1,6 +1,6 @@
+use Rattle.lu_grammar.specs.Bytes.{place_in}
 use Rattle.std.proofs.Common.{suc}
 use Rattle.freq_skips.specs.Entries.{postings_from}
-use Rattle.freq_skips.specs.Terms.{place_in}
 use Rattle.freq_skips.proofs.LengthLemmas.{none_above}
 use Rattle.freq_skips.proofs.levels.check_level.Goals as goal
 

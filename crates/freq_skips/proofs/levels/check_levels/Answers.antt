@@ -1,6 +1,6 @@
+use Rattle.lu_grammar.specs.Bytes.{place_in}
 use Rattle.std.proofs.Common.{◌≡◌, ℕ, suc, ◌-◌, ◌∷◌, arith, subst, ◌∙◌}
 use Rattle.freq_skips.specs.Entries.{postings_from}
-use Rattle.freq_skips.specs.Terms.{place_in}
 use Rattle.freq_skips.specs.Walking.{StandAbove}
 use Rattle.freq_skips.proofs.LevelsLemmas.{levels-none, levels-next, levels-fault, power-less}
 use Rattle.freq_skips.proofs.levels.check_levels.Goals as goal

@@ -1,10 +1,10 @@
+use Rattle.lu_grammar.specs.Bytes.{place_in}
 use Rattle.std.proofs.Common.{◌≡◌, ◌^◌, ◌<◌, ◌≤◌, List, [], length}
 use Rattle.std.specs.Prelude.{IfSome}
 use Rattle.lu_grammar.specs.Plans.{read_plan}
 use Rattle.freq_skips.specs.declared.datum.Point.{Point}
 use Rattle.freq_skips.specs.Entries.{postings_from}
 use Rattle.freq_skips.specs.Levels.{level_count, levels}
-use Rattle.freq_skips.specs.Terms.{place_in}
 use Rattle.freq_skips.specs.Walking.{StandAbove}
 use Rattle.freq_skips.proofs.levels.check_levels.Given as goal
 

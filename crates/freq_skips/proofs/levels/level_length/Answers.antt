@@ -1,9 +1,8 @@
 use Rattle.std.proofs.Common.{◌≡◌, ℕ, Ok, Err, Some, refl, sym, ap, subst, ◌∙◌, arith}
-use Rattle.lu_grammar.specs.Bytes.{Cursor}
+use Rattle.lu_grammar.specs.Bytes.{Cursor, place_in}
 use Rattle.lu_grammar.specs.Plans.{read_plan}
 use Rattle.freq_skips.specs.Records.{level_length}
 use Rattle.freq_skips.specs.Levels.{level_of, level_data}
-use Rattle.freq_skips.specs.Terms.{place_in}
 use Rattle.freq_skips.proofs.LengthLemmas.{length_at, level_plan-length, level_plan-broken, length-place}
 use Rattle.freq_skips.proofs.levels.level_length.Goals as goal
 

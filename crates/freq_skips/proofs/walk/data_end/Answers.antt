@@ -1,9 +1,8 @@
 use Rattle.std.proofs.Common.{◌≡◌, ℕ, ◌<◌, refl, sym, subst, ap, ◌∙◌, arith}
-use Rattle.lu_grammar.specs.Bytes.{Cursor}
+use Rattle.lu_grammar.specs.Bytes.{Cursor, place_in}
 use Rattle.lu_grammar.specs.Plans.{times}
 use Rattle.freq_skips.specs.Levels.{level_of, data_count, datum_kind, no_datum, no_point, Follows}
-use Rattle.freq_skips.specs.Terms.{place_in}
-use Rattle.freq_skips.proofs.PlaceLemmas.{place_in-after}
+use Rattle.lu_grammar.proofs.Codecs.{place_in-after}
 use Rattle.freq_skips.proofs.LevelLemmas.{Follows-none, Follows-end}
 use Rattle.freq_skips.proofs.walk.data_end.Goals as goal
 

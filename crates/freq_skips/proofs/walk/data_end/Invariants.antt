@@ -1,9 +1,8 @@
 use Rattle.std.proofs.Common.{◌≡◌, ℕ, ◌≤◌, List, Option}
-use Rattle.lu_grammar.specs.Bytes.{Cursor}
+use Rattle.lu_grammar.specs.Bytes.{Cursor, place_in}
 use Rattle.freq_skips.specs.declared.datum.Point.{Point}
 use Rattle.freq_skips.specs.Entries.{Posting}
 use Rattle.freq_skips.specs.Levels.{level_of, data_count, Follows, AreData, IsSmall}
-use Rattle.freq_skips.specs.Terms.{place_in}
 use Rattle.freq_skips.proofs.walk.data_end.Given as goal
 
 abbrev pub invariant-loop-turn : goal.invariant-loop-turn

@@ -1,13 +1,12 @@
 use Rattle.std.proofs.Common.{◌≡◌, ℕ, suc, ◌+◌, ◌-◌, ◌/◌, ◌^◌, ◌<◌, ◌≤◌, inl, inr, Ok, List, [], ◌∷◌, length, set, get_or, get_or-set_same, get_or-set_other, refl, sym, subst, ap, ◌∙◌, arith}
 use Rattle.std.proofs.Math.ListN.{length-set}
 use Rattle.std.proofs.lemmas.Bool.{cases_eq}
-use Rattle.lu_grammar.specs.Bytes.{Cursor}
+use Rattle.lu_grammar.specs.Bytes.{Cursor, place_in}
 use Rattle.lu_grammar.specs.Plans.{read_plan}
 use Rattle.freq_skips.specs.declared.datum.Point.{Point}
 use Rattle.freq_skips.specs.declared.walk.Rung.{Rung}
 use Rattle.freq_skips.specs.Entries.{postings_from}
 use Rattle.freq_skips.specs.Levels.{no_point, level_count, levels, level_of, AreData}
-use Rattle.freq_skips.specs.Terms.{place_in}
 use Rattle.freq_skips.specs.Walks.{IsOnLevel, no_rung, start_in, points_in, value_from}
 use Rattle.freq_skips.proofs.Powers.{stride-two}
 use Rattle.freq_skips.proofs.LevelsLemmas.{power-less}

@@ -1,11 +1,10 @@
 use Rattle.std.proofs.Common.{◌≡◌, ℕ, ◌+◌, ◌^◌, ◌<◌, ◌≤◌, List, length, Ok}
 use Rattle.std.specs.Prelude.{slice_index_or}
-use Rattle.lu_grammar.specs.Bytes.{Cursor}
+use Rattle.lu_grammar.specs.Bytes.{Cursor, place_in}
 use Rattle.lu_grammar.specs.Plans.{read_plan}
 use Rattle.freq_skips.specs.declared.datum.Point.{Point}
 use Rattle.freq_skips.specs.Entries.{postings_from}
 use Rattle.freq_skips.specs.Levels.{level_count, levels}
-use Rattle.freq_skips.specs.Terms.{place_in}
 use Rattle.freq_skips.specs.Walks.{IsOnLevel, no_rung, start_in, points_in, value_from}
 use Rattle.freq_skips.proofs.walk.first_rungs.Given as goal
 

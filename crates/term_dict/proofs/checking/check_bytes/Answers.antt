@@ -1,9 +1,9 @@
 use Rattle.std.proofs.Common.{◌≡◌, ℕ, length, List, Ok, Err, sym, ap, subst, ◌∙◌, arith, refl}
 use Rattle.lu_grammar.specs.Bytes.{Cursor, start_of}
-use Rattle.lu_grammar.specs.declared.general.TheConstants.{TRAILING}
+use Rattle.lu_types.specs.RuleNumbers as number
 use Rattle.lu_grammar.specs.Plans.{Broken, read_plan, times, read_file}
 use Rattle.lu_types.specs.declared.kind.FileKind.TheVariants.{Tis}
-use Rattle.term_dict.specs.declared.numbers.TermNumbers.{TermNumbers}
+use Rattle.lu_types.specs.declared.term.TermNumbers.{TermNumbers}
 use Rattle.term_dict.specs.Dictionary.{Standing, Progress, within, term_kind, no_terms, dictionary_plan}
 use Rattle.term_dict.specs.Checks.{IsHeader}
 use Rattle.term_dict.proofs.LoopLemmas.{IsBrokenSo-same, IsBrokenSo-map}
@@ -44,9 +44,9 @@ returns-then-left-gt0-clause-err c =
     let bytes = c.args.tis.now in
     let ok = c.in-Ok-check_terms.ensures.ok in
     let read = to_terms standing bytes c.at-cur.result c.header_at.new.cur c.in-Ok.numbers c.at-cur.ensures c.in-Ok.ensures ok.0 c.check_terms.new.cur ok.1 in
-    IsBrokenSo-same Tis c.place.result TRAILING (read_file (dictionary_plan standing (length bytes)) bytes) c.fault_at-then-left-gt0.result
+    IsBrokenSo-same Tis c.place.result number.trailing (read_file (dictionary_plan standing (length bytes)) bytes) c.fault_at-then-left-gt0.result
     (file-trailing (dictionary_plan standing (length bytes)) bytes (dictionary_of c.in-Ok.numbers (length bytes) ok.0) c.check_terms.new.cur read (λ none. omega (arith, c.left.ensures, none))
-    ∙ ap (λ (n : ℕ). Err (record { offset = n; rule = TRAILING })) (sym c.place.ensures))
+    ∙ ap (λ (n : ℕ). Err (record { offset = n; rule = number.trailing })) (sym c.place.ensures))
     c.fault_at-then-left-gt0.ensures
 
 pub returns-clause-ok : goal.returns-clause-ok

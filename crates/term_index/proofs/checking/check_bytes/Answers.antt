@@ -1,9 +1,9 @@
 use Rattle.std.proofs.Common.{◌≡◌, ℕ, List, Option, Some, None, Ok, Err, sym, ap, subst, ◌∙◌, arith}
 use Rattle.lu_grammar.specs.Bytes.{Cursor, start_of}
-use Rattle.lu_grammar.specs.declared.general.TheConstants.{TRAILING}
+use Rattle.lu_types.specs.RuleNumbers as number
 use Rattle.lu_grammar.specs.Plans.{Broken, read_plan, times, read_file}
 use Rattle.lu_types.specs.declared.kind.FileKind.TheVariants.{Tii}
-use Rattle.term_dict.specs.declared.numbers.TermNumbers.{TermNumbers}
+use Rattle.lu_types.specs.declared.term.TermNumbers.{TermNumbers}
 use Rattle.term_dict.specs.Dictionary.{Dictionary}
 use Rattle.term_dict.specs.Index.{IndexProgress, index_kind, no_entries, entry_count, tii_plan}
 use Rattle.term_dict.specs.Walk.{Walk}
@@ -54,8 +54,8 @@ returns-then-left-gt0-clause-err c =
     let header = subst (λ (o : Option ℕ). IsIndexHeader n c.at-cur.result c.header_at.new.cur o) c.in_default.is c.header_at.ensures in
     let ok = c.in_default-check_points.ensures.ok in
     let read = to_end d e n bytes c.at-cur.result c.header_at.new.cur c.check_points.new.cur ok.0 c.at-cur.ensures c.numbers-numbers.ensures.numbers (ap (λ (w : Walk). w.dictionary) c.in_ok-cursor.ensures) header ok.1 in
-    IsBrokenSo-same Tii c.place.result TRAILING (read_file (tii_plan d) bytes) c.fault_at-then-left-gt0.result
-    (file-trailing (tii_plan d) bytes tt c.check_points.new.cur read (λ none. omega (arith, c.left.ensures, none)) ∙ ap (λ (k : ℕ). Err (record { offset = k; rule = TRAILING })) (sym c.place.ensures))
+    IsBrokenSo-same Tii c.place.result number.trailing (read_file (tii_plan d) bytes) c.fault_at-then-left-gt0.result
+    (file-trailing (tii_plan d) bytes tt c.check_points.new.cur read (λ none. omega (arith, c.left.ensures, none)) ∙ ap (λ (k : ℕ). Err (record { offset = k; rule = number.trailing })) (sym c.place.ensures))
     c.fault_at-then-left-gt0.ensures
 
 pub returns-clause-ok : goal.returns-clause-ok

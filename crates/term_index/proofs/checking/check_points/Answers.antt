@@ -1,7 +1,7 @@
 use Rattle.std.proofs.Common.{◌≡◌, ◌*◌, ◌-◌, ℕ, length, take, Option, sym, ap, subst, ◌∙◌, arith}
 use Rattle.lu_grammar.specs.Plans.{read_plan, times}
 use Rattle.lu_types.specs.declared.kind.FileKind.TheVariants.{Tii}
-use Rattle.term_dict.specs.declared.numbers.TermNumbers.{TermNumbers}
+use Rattle.lu_types.specs.declared.term.TermNumbers.{TermNumbers}
 use Rattle.term_dict.specs.Terms.{Term}
 use Rattle.term_dict.specs.Index.{index_kind, no_entries, entry_count}
 use Rattle.term_dict.specs.Walk.{Walk}

@@ -1,7 +1,7 @@
 use Rattle.std.proofs.Common.{ap, sym, subst, map, arith}
-use Rattle.lu_grammar.specs.Bytes.{Cursor}
+use Rattle.lu_grammar.specs.Bytes.{Cursor, place_in}
 use Rattle.freq_skips.specs.Entries.{Stands, entry_of}
-use Rattle.freq_skips.specs.Terms.{term_of, place_in}
+use Rattle.freq_skips.specs.Terms.{term_of}
 use Rattle.freq_skips.proofs.EntryLemmas.{Stands-none}
 use Rattle.freq_skips.proofs.TermLemmas.{TermParts-ReadsTo}
 use Rattle.freq_skips.proofs.entries.Entries.at.Goals as goal

@@ -1,6 +1,6 @@
+use Rattle.lu_grammar.specs.Bytes.{place_in}
 use Rattle.std.proofs.Common.{ℕ, ◌∷◌, ap, sym, ◌∙◌, drop, arith}
 use Rattle.freq_skips.specs.Entries.{entries_from}
-use Rattle.freq_skips.specs.Terms.{place_in}
 use Rattle.freq_skips.proofs.EntryLemmas.{never_broken, entries_from-next}
 use Rattle.freq_skips.proofs.entries.Entries.next.Goals as goal
 use Rattle.freq_skips.proofs.entries.Entries.next.Goals.{in-Err, in-Ok}

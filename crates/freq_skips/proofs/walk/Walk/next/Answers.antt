@@ -7,7 +7,7 @@ use Rattle.freq_skips.specs.Entries.{Posting, no_posting, no_entry, entry_kind, 
 use Rattle.freq_skips.specs.Terms.{TermData}
 use Rattle.freq_skips.specs.Walks.{WalkState, AreOnLevels, IsFresh, IsStale, IsBefore, no_rung, start_in, value_from}
 use Rattle.freq_skips.proofs.EntryLemmas.{Stands-as, postings_from-length}
-use Rattle.freq_skips.proofs.PlaceLemmas.{place_in-after}
+use Rattle.lu_grammar.proofs.Codecs.{place_in-after}
 use Rattle.freq_skips.proofs.walk.Walk.next.Goals as goal
 
 pub overflow_cast-self : goal.overflow_cast-self

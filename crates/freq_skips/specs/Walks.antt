@@ -89,6 +89,6 @@ abbrev pub IsStale : Term → ℕ → ℕ → Type 0
 IsStale t level passed = (passed ≡ 0) ⊎ (passed % stride t level ≢ 0)
 
 -- the document before the last of so many entries, and the bytes of the entries before it
-pub record IsBefore (t : Term) (frq : List ℕ) (passed doc freq : ℕ) : Type 0 where
+pub record StandsBefore (t : Term) (frq : List ℕ) (passed doc freq : ℕ) : Type 0 where
   pub doc_is : doc ≡ (slice_index_or (postings_from t (start_in t frq)) (passed - 1) no_posting).before
   pub freq_is : freq ≡ (slice_index_or (postings_from t (start_in t frq)) (passed - 1) no_posting).place - t.info.freq

@@ -190,7 +190,7 @@ impl<'a> Model for Walk<'a> {
     ghost use Rattle.lu_grammar.specs.Bytes.{IsBytes};
     ghost use Rattle.freq_skips.specs.Entries.{AreGoodFrom, postings_from, Stands};
     ghost use Rattle.freq_skips.specs.Levels.{level_count};
-    ghost use Rattle.freq_skips.specs.Walks.{WalkState, IsFresh, IsStale, IsBefore, AreOnLevels, no_rung, start_in, value_from};
+    ghost use Rattle.freq_skips.specs.Walks.{WalkState, IsFresh, IsStale, StandsBefore, AreOnLevels, no_rung, start_in, value_from};
 
     ghost Value = { WalkState };
 
@@ -212,7 +212,7 @@ impl<'a> Model for Walk<'a> {
       low : (n : ℕ) → n < w.fresh → IsFresh w.term w.frq.now n w.passing.index (slice_index_or w.rungs n no_rung).last;
       some : 0 < w.fresh → 0 < w.passing.index;
       high : (n : ℕ) → w.fresh ≤ n → n < level_count w.term → IsStale w.term n w.passing.index;
-      before : 0 < w.passing.index → IsBefore w.term w.frq.now w.passing.index w.doc w.freq;
+      before : 0 < w.passing.index → StandsBefore w.term w.frq.now w.passing.index w.doc w.freq;
     } };
 }
 

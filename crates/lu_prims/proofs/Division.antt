@@ -7,7 +7,7 @@ use Rattle.std.proofs.lemmas.Bool.Decides.{nat_tests}
 use Rattle.std.proofs.lemmas.Nat.{xor_shr, xor_lt, xor_comm, shr_split, mod_below, pow_pos}
 use Rattle.std.specs.Int.Bits.{xor_assoc, xor_zero_r, xor_shifted}
 use Rattle.std.proofs.lemmas.Nat.Bits.{bit_at_xor}
-use Rattle.lu_prims.specs.Checksum.{bits_of, number_of, add_front, divisor, remainder}
+use Rattle.lu_prims.specs.Checksum.{lowest_bits, number_of_bits, add_front, divisor, remainder}
 
 -- ---- bits of numbers
 
@@ -51,14 +51,14 @@ half_xor a b = xor_shr a b 1
 -- ---- lists of bits
 
 -- to add two numbers' bits is to add those of their exclusive or
-add_twice : (k a b : ℕ) (ys : List Bool) → add_front (bits_of k a) (add_front (bits_of k b) ys) ≡ add_front (bits_of k (bit_xor a b)) ys
-unfolding bits_of add_front
+add_twice : (k a b : ℕ) (ys : List Bool) → add_front (lowest_bits k a) (add_front (lowest_bits k b) ys) ≡ add_front (lowest_bits k (bit_xor a b)) ys
+unfolding lowest_bits add_front
 add_twice zero a b ys = refl
 add_twice (suc k) a b [] = refl
 add_twice (suc k) a b (y ∷ ys) =
     let low = three (is_odd a) (is_odd b) y ∙ ap (λ t. cond t (not y) y) (sym (odd_xor a b)) in
-    ap (λ (t : Bool). t ∷ add_front (bits_of k (a / 2)) (add_front (bits_of k (b / 2)) ys)) low
-    ∙ ap (λ (t : List Bool). cond (is_odd (bit_xor a b)) (not y) y ∷ t) (add_twice k (a / 2) (b / 2) ys ∙ ap (λ (n : ℕ). add_front (bits_of k n) ys) (sym (half_xor a b)))
+    ap (λ (t : Bool). t ∷ add_front (lowest_bits k (a / 2)) (add_front (lowest_bits k (b / 2)) ys)) low
+    ∙ ap (λ (t : List Bool). cond (is_odd (bit_xor a b)) (not y) y ∷ t) (add_twice k (a / 2) (b / 2) ys ∙ ap (λ (n : ℕ). add_front (lowest_bits k n) ys) (sym (half_xor a b)))
   where
     three : (p q y : Bool) → cond p (not (cond q (not y) y)) (cond q (not y) y) ≡ cond (cond p (not q) q) (not y) y
     three true true true = refl
@@ -67,15 +67,15 @@ add_twice (suc k) a b (y ∷ ys) =
     three false q y = refl
 
 -- zeros add nothing
-add_zeros : (k : ℕ) (ys : List Bool) → add_front (bits_of k 0) ys ≡ ys
-unfolding bits_of add_front
+add_zeros : (k : ℕ) (ys : List Bool) → add_front (lowest_bits k 0) ys ≡ ys
+unfolding lowest_bits add_front
 add_zeros zero ys = refl
 add_zeros (suc k) [] = refl
 add_zeros (suc k) (y ∷ ys) = ap (λ (t : List Bool). y ∷ t) (add_zeros k ys)
 
 -- a bit more of a number that has no more adds nothing
-add_wider : (k n : ℕ) (ys : List Bool) → n < 2 ^ k → add_front (bits_of (suc k) n) ys ≡ add_front (bits_of k n) ys
-unfolding bits_of add_front
+add_wider : (k n : ℕ) (ys : List Bool) → n < 2 ^ k → add_front (lowest_bits (suc k) n) ys ≡ add_front (lowest_bits k n) ys
+unfolding lowest_bits add_front
 add_wider zero n [] h = refl
 add_wider zero n (y ∷ ys) h = let e : n ≡ 0 = omega arith in ap (λ (t : ℕ). cond (is_odd t) (not y) y ∷ ys) e
 add_wider (suc k) n [] h = refl
@@ -85,10 +85,10 @@ add_wider (suc k) n (y ∷ ys) h = ap (λ (t : List Bool). cond (is_odd n) (not 
     half_below n k h = omega arith
 
 -- bits added to zeros are themselves
-add_to_zeros : (k n : ℕ) → add_front (bits_of k n) (replicate k false) ≡ bits_of k n
-unfolding bits_of add_front
+add_to_zeros : (k n : ℕ) → add_front (lowest_bits k n) (replicate k false) ≡ lowest_bits k n
+unfolding lowest_bits add_front
 add_to_zeros zero n = refl
-add_to_zeros (suc k) n = ap (λ (t : Bool). t ∷ add_front (bits_of k (n / 2)) (replicate k false)) (with_false (is_odd n)) ∙ ap (λ (t : List Bool). is_odd n ∷ t) (add_to_zeros k (n / 2))
+add_to_zeros (suc k) n = ap (λ (t : Bool). t ∷ add_front (lowest_bits k (n / 2)) (replicate k false)) (with_false (is_odd n)) ∙ ap (λ (t : List Bool). is_odd n ∷ t) (add_to_zeros k (n / 2))
   where
     with_false : (p : Bool) → cond p true false ≡ p
     with_false true = refl
@@ -152,35 +152,35 @@ half_changed r false = half_xor r 0 ∙ xor_zero_r (r / 2)
 
 -- one step of the long division is one step of the register
 divide_step : (r : ℕ) (b : Bool) (ys : List Bool) → r < 2 ^ 32
-    → cond (cond (is_odd r) (not b) b) (add_front (bits_of 32 0xEDB8_8320) (add_front (bits_of 31 (r / 2)) ys)) (add_front (bits_of 31 (r / 2)) ys)
-    ≡ add_front (bits_of 32 (shifted (bit_xor r (bit_number b)))) ys
+    → cond (cond (is_odd r) (not b) b) (add_front (lowest_bits 32 0xEDB8_8320) (add_front (lowest_bits 31 (r / 2)) ys)) (add_front (lowest_bits 31 (r / 2)) ys)
+    ≡ add_front (lowest_bits 32 (shifted (bit_xor r (bit_number b)))) ys
 unfolding shifted
 divide_step r b ys h =
     let t = cond (is_odd r) (not b) b in
-    let wide : add_front (bits_of 32 (r / 2)) ys ≡ add_front (bits_of 31 (r / 2)) ys = add_wider 31 (r / 2) ys (omega arith) in
+    let wide : add_front (lowest_bits 32 (r / 2)) ys ≡ add_front (lowest_bits 31 (r / 2)) ys = add_wider 31 (r / 2) ys (omega arith) in
     let next : bit_xor (r / 2) (cond t 0xEDB8_8320 0) ≡ bit_xor (bit_xor r (bit_number b) / 2) (cond (is_odd (bit_xor r (bit_number b))) 0xEDB8_8320 0) =
     ap (λ (n : ℕ). bit_xor n (cond t 0xEDB8_8320 0)) (sym (half_changed r b)) ∙ ap (λ (s : Bool). bit_xor (bit_xor r (bit_number b) / 2) (cond s 0xEDB8_8320 0)) (sym (odd_changed r b)) in
-    by t (r / 2) ys wide ∙ ap (λ (n : ℕ). add_front (bits_of 32 n) ys) next
+    by t (r / 2) ys wide ∙ ap (λ (n : ℕ). add_front (lowest_bits 32 n) ys) next
   where
-    by : (t : Bool) (n : ℕ) (ys : List Bool) → add_front (bits_of 32 n) ys ≡ add_front (bits_of 31 n) ys
-        → cond t (add_front (bits_of 32 0xEDB8_8320) (add_front (bits_of 31 n) ys)) (add_front (bits_of 31 n) ys) ≡ add_front (bits_of 32 (bit_xor n (cond t 0xEDB8_8320 0))) ys
-    by true n ys wide = ap (add_front (bits_of 32 0xEDB8_8320)) (sym wide) ∙ add_twice 32 0xEDB8_8320 n ys ∙ ap (λ (m : ℕ). add_front (bits_of 32 m) ys) (xor_comm 0xEDB8_8320 n)
-    by false n ys wide = sym wide ∙ ap (λ (m : ℕ). add_front (bits_of 32 m) ys) (sym (xor_zero_r n))
+    by : (t : Bool) (n : ℕ) (ys : List Bool) → add_front (lowest_bits 32 n) ys ≡ add_front (lowest_bits 31 n) ys
+        → cond t (add_front (lowest_bits 32 0xEDB8_8320) (add_front (lowest_bits 31 n) ys)) (add_front (lowest_bits 31 n) ys) ≡ add_front (lowest_bits 32 (bit_xor n (cond t 0xEDB8_8320 0))) ys
+    by true n ys wide = ap (add_front (lowest_bits 32 0xEDB8_8320)) (sym wide) ∙ add_twice 32 0xEDB8_8320 n ys ∙ ap (λ (m : ℕ). add_front (lowest_bits 32 m) ys) (xor_comm 0xEDB8_8320 n)
+    by false n ys wide = sym wide ∙ ap (λ (m : ℕ). add_front (lowest_bits 32 m) ys) (sym (xor_zero_r n))
 
 zeros : List Bool
 zeros = replicate 32 false
 
-first_step : (n r : ℕ) (b : Bool) (ys : List Bool) → remainder (suc n) (add_front (bits_of 32 r) (b ∷ ys)) ≡ remainder n (cond (cond (is_odd r) (not b) b) (add_front (bits_of 32 0xEDB8_8320) (add_front (bits_of 31 (r / 2)) ys)) (add_front (bits_of 31 (r / 2)) ys))
-unfolding remainder bits_of add_front divisor
+first_step : (n r : ℕ) (b : Bool) (ys : List Bool) → remainder (suc n) (add_front (lowest_bits 32 r) (b ∷ ys)) ≡ remainder n (cond (cond (is_odd r) (not b) b) (add_front (lowest_bits 32 0xEDB8_8320) (add_front (lowest_bits 31 (r / 2)) ys)) (add_front (lowest_bits 31 (r / 2)) ys))
+unfolding remainder lowest_bits add_front divisor
 first_step n r b ys = refl
 
 stays : (ys : List Bool) → remainder 0 ys ≡ ys
 unfolding remainder
 stays ys = refl
 
-pub divides : (bs : List Bool) (r : ℕ) → r < 2 ^ 32 → remainder (length bs) (add_front (bits_of 32 r) (bs ++ replicate 32 false)) ≡ bits_of 32 (fed bs r)
+pub divides : (bs : List Bool) (r : ℕ) → r < 2 ^ 32 → remainder (length bs) (add_front (lowest_bits 32 r) (bs ++ replicate 32 false)) ≡ lowest_bits 32 (fed bs r)
 unfolding fed
-divides [] r h = stays (add_front (bits_of 32 r) (replicate 32 false)) ∙ add_to_zeros 32 r
+divides [] r h = stays (add_front (lowest_bits 32 r) (replicate 32 false)) ∙ add_to_zeros 32 r
 divides (b ∷ bs) r h =
     first_step (length bs) r b (bs ++ replicate 32 false)
     ∙ ap (remainder (length bs)) (divide_step r b (bs ++ replicate 32 false) h)
@@ -254,8 +254,8 @@ step_ahead r b =
     turned : (x y z : ℕ) → bit_xor (bit_xor x y) z ≡ bit_xor (bit_xor x z) y
     turned x y z = xor_assoc x y z ∙ ap (bit_xor x) (xor_comm y z) ∙ sym (xor_assoc x z y)
 
-fed_bits : (n b r : ℕ) → b < 2 ^ n → fed (bits_of n b) r ≡ shifts n (bit_xor r b)
-unfolding fed bits_of
+fed_bits : (n b r : ℕ) → b < 2 ^ n → fed (lowest_bits n b) r ≡ shifts n (bit_xor r b)
+unfolding fed lowest_bits
 fed_bits zero b r h = let e : b ≡ 0 = omega arith in sym (xor_zero_r r) ∙ ap (bit_xor r) (sym e)
 fed_bits (suc n) b r h =
     fed_bits n (b / 2) (shifted (bit_xor r (bit_number (is_odd b)))) (half_below b n h) ∙ ap (shifts n) (step_ahead r b)
@@ -264,7 +264,7 @@ fed_bits (suc n) b r h =
     half_below b n h = omega arith
 
 -- a byte of the message in one step
-pub fed_byte : (b r : ℕ) → b < 256 → fed (bits_of 8 b) r ≡ bit_xor (shifts 8 (bit_xor r b % 256)) (r / 256)
+pub fed_byte : (b r : ℕ) → b < 256 → fed (lowest_bits 8 b) r ≡ bit_xor (shifts 8 (bit_xor r b % 256)) (r / 256)
 fed_byte b r h =
     let none : b / 256 ≡ 0 = omega arith in
     fed_bits 8 b r h ∙ shifts_split 8 (bit_xor r b)
@@ -278,12 +278,12 @@ low_complement n = ⊎_elim
     (parity n)
 
 -- the number of complemented bits
-pub complement : (k n : ℕ) → n < 2 ^ k → number_of (map not (bits_of k n)) + n + 1 ≡ 2 ^ k
-unfolding number_of bits_of
+pub complement : (k n : ℕ) → n < 2 ^ k → number_of_bits (map not (lowest_bits k n)) + n + 1 ≡ 2 ^ k
+unfolding number_of_bits lowest_bits
 complement zero n h = omega arith
 complement (suc k) n h =
     let others = complement k (n / 2) (half_below n k h) in
-    joined (cond (not (is_odd n)) 1 0) (number_of (map not (bits_of k (n / 2)))) n (2 ^ k) (low_complement n) others ∙ sym (pow-succ' 2 k)
+    joined (cond (not (is_odd n)) 1 0) (number_of_bits (map not (lowest_bits k (n / 2)))) n (2 ^ k) (low_complement n) others ∙ sym (pow-succ' 2 k)
   where
     half_below : (b n : ℕ) → b < 2 ^ suc n → b / 2 < 2 ^ n
     half_below b n h = omega arith

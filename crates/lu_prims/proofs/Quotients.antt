@@ -1,7 +1,7 @@
 -- Long division leaves the one remainder.
 use Rattle.std.proofs.Common.{◌≡◌, ℕ, zero, suc, ◌+◌, ◌≤◌, Bool, true, false, not, cond, List, [], ◌∷◌, ◌++◌, length, refl, sym, ap, ◌∙◌, length-append, arith}
 use Rattle.std.specs.Prelude.{replicate}
-use Rattle.lu_prims.specs.Checksum.{bits_of, add_front, divisor, remainder, times_divisor, IsRemainder}
+use Rattle.lu_prims.specs.Checksum.{lowest_bits, add_front, divisor, remainder, times_divisor, IsRemainder}
 
 length-replicate_bits : (n : ℕ) → length (replicate n false) ≡ n
 length-replicate_bits zero = refl
@@ -47,7 +47,7 @@ add_assoc_front (p ∷ ps) (t ∷ ts) (b ∷ bs) h =
     three false q y = refl
 
 length-divisor : length divisor ≡ 32
-unfolding divisor bits_of
+unfolding divisor lowest_bits
 length-divisor = refl
 
 length-times : (qs : List Bool) → length (times_divisor qs) ≡ length qs + 32

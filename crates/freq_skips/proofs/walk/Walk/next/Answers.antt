@@ -5,7 +5,7 @@ use Rattle.freq_skips.specs.declared.walk.Walked.{Walked}
 use Rattle.freq_skips.specs.declared.rules.Term.{Term}
 use Rattle.freq_skips.specs.Entries.{Posting, no_posting, no_entry, entry_kind, postings_from}
 use Rattle.freq_skips.specs.Terms.{TermData}
-use Rattle.freq_skips.specs.Walks.{WalkState, AreOnLevels, IsFresh, IsStale, IsBefore, no_rung, start_in, value_from}
+use Rattle.freq_skips.specs.Walks.{WalkState, AreOnLevels, IsFresh, IsStale, StandsBefore, no_rung, start_in, value_from}
 use Rattle.freq_skips.proofs.EntryLemmas.{Stands-as, postings_from-length}
 use Rattle.lu_grammar.proofs.Codecs.{place_in-after}
 use Rattle.freq_skips.proofs.walk.Walk.next.Goals as goal
@@ -48,7 +48,7 @@ invariant_of-self-2 c =
         | inl ne ↦ inr ne
         | inr le ↦ absurd (omega arith)
       ]);
-      before = λ lt. subst (λ (m : ℕ). IsBefore t frq m c.self.inside.passing.doc c.saturating_sub.result) (sym index) (record {
+      before = λ lt. subst (λ (m : ℕ). StandsBefore t frq m c.self.inside.passing.doc c.saturating_sub.result) (sym index) (record {
         doc_is = sym (ap (λ (n : ℕ). (slice_index_or (postings_from t start) n no_posting).before) one ∙ ap (λ (q : Posting). q.before) p);
         freq_is = c.saturating_sub.ensures ∙ ap (λ (n : ℕ). n - t.info.freq) c.place-place.ensures
             ∙ sym (ap (λ (n : ℕ). (slice_index_or (postings_from t start) n no_posting).place - t.info.freq) one ∙ ap (λ (q : Posting). q.place - t.info.freq) p);

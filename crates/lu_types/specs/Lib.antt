@@ -1,7 +1,11 @@
 pub mod Bits
+pub mod DocFaults
+pub mod Documents
 pub mod Fields
+pub mod Joins
 pub mod Judging
 pub mod Kinds
 pub mod Names
 pub mod Rules
+pub mod StoredFields
 pub mod Tables

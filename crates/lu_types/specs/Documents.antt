@@ -1,5 +1,5 @@
 -- What each document of the program is made of: texts and bytes.
-use Rattle.std.specs.Prelude.{ℕ, ◌<◌, ◌^◌, All, IfSome}
+use Rattle.std.specs.Prelude.{ℕ, ◌<◌, List, All, IfSome}
 use Rattle.std.specs.Str.{IsUtf8}
 use Rattle.lu_grammar.specs.Bytes.{IsBytes}
 use Rattle.lu_types.specs.declared.document.Document.{Document}
@@ -8,6 +8,11 @@ use Rattle.lu_types.specs.declared.document.Token.{Token}
 use Rattle.lu_types.specs.declared.stored.Stored.{Stored}
 use Rattle.lu_types.specs.declared.stored.Stored.TheVariants.{Text, Binary}
 use Rattle.lu_types.specs.declared.stored.StoredValue.{StoredValue}
+
+-- the bytes of what is stored
+abbrev pub content_of : Stored → List ℕ
+content_of (Text text) = text
+content_of (Binary bytes) = bytes
 
 -- what is stored is a text, or bytes
 abbrev pub IsStored : Stored → Type 0

@@ -1,4 +1,5 @@
 pub mod Bits
+pub mod Bounds
 pub mod DocFaults
 pub mod Documents
 pub mod Fields

@@ -1,6 +1,8 @@
 //! Texts and lists that a value owns: contracts see a text as the list of its bytes, and a list as it is.
-ghost use Rattle.std.specs.Prelude.{◌≡◌, IsUtf8, string_bytes};
+ghost use Rattle.std.specs.Prelude.{◌≡◌, IsUtf8, string_bytes, IfOk};
 
+use lu_prims::OutOfMemory;
+use std::alloc::Global;
 use std::marker::Model;
 
 /// A text that its value owns. It is made from a `String` and gives it back, without taking memory.
@@ -25,6 +27,13 @@ impl Text {
         ensures { result ≡ string_bytes inner }
     {
         Text { inner }
+    }
+
+    /// The text, in a block of its own that has no room to spare.
+    pub fn from_str(alloc: Global, text: &str) -> Result<Text, OutOfMemory>
+        ensures { IfOk result (λ copy. copy ≡ text.now) }
+    {
+        Ok(Text::new(String::from_str(alloc, text)?))
     }
 
     /// The text, lent.

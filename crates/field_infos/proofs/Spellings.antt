@@ -17,8 +17,7 @@ use Rattle.lu_grammar.proofs.Writers.{Writes, Writes-due, Writes-none, Writes-re
 use Rattle.lu_types.specs.Tables.{TableField, number_of, IsTable}
 use Rattle.field_infos.specs.Fnm.{header, field, header_shape, header_conditions, field_shape, field_conditions, format_number, is_other_count, lacks_prox, one_field, after_header, fnm_plan}
 use Rattle.lu_grammar.proofs.Codecs.{IsBytes-nil, IsBytes-cons, IsBytes-append, IsBytes-flat_map, IsBytes-groups, IsBytes-spelling}
-use Rattle.lu_types.specs.declared.field.FieldInfo.{FieldInfo}
-use Rattle.field_infos.specs.Spelling.{field_of_info, AreNamed, field_spelling, header_spelling, fnm_spelling}
+use Rattle.field_infos.specs.Spelling.{AreNamed, field_spelling, header_spelling, fnm_spelling}
 
 -- ---- one record
 
@@ -102,10 +101,10 @@ module _ (has_prox : Bool) (fields : List TableField) (table : IsTable fields) (
   pub fnm-reads : (norm_fields : Option ℕ) → is_other_count norm_fields (length fields) ≡ false → Reads (fnm_plan has_prox norm_fields) (fnm_spelling fields) fields
   fnm-reads norm_fields same = Reads-from (fnm_plan has_prox norm_fields) (fnm_spelling fields) fields (IsBytes-fnm fields table named) (fnm-written norm_fields same)
 
--- ---- fields as the program has them
+-- ---- fields as they are taken
 
 -- one field more
-pub infos-more : (infos : List FieldInfo) (i : ℕ) (d : FieldInfo) → i < length infos → map field_of_info (take (i + 1) infos) ≡ map field_of_info (take i infos) ++ field_of_info (get_or infos i d) ∷ []
-infos-more infos i d within =
+pub fields-more : (fields : List TableField) (i : ℕ) (d : TableField) → i < length fields → take (i + 1) fields ≡ take i fields ++ get_or fields i d ∷ []
+fields-more fields i d within =
     let next : i + 1 ≡ suc i = omega arith in
-    ap (λ n. map field_of_info (take n infos)) next ∙ ap (map field_of_info) (take-suc infos i d within) ∙ map-append field_of_info (take i infos) (get_or infos i d ∷ [])
+    ap (λ n. take n fields) next ∙ take-suc fields i d within

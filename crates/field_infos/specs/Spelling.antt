@@ -3,12 +3,7 @@ use Rattle.std.specs.Prelude.{ℕ, List, ◌++◌, length, All}
 use Rattle.std.specs.List.{flat_map}
 use Rattle.lu_grammar.specs.Parts.{byte, vint, num, text, spelling, IsValue}
 use Rattle.lu_types.specs.Tables.{TableField}
-use Rattle.lu_types.specs.declared.field.FieldInfo.{FieldInfo}
 use Rattle.field_infos.specs.Fnm.{format_number}
-
--- a field that is to be written, as contracts see it
-abbrev pub field_of_info : FieldInfo → TableField
-field_of_info info = record { name = info.name; bits = info.bits }
 
 -- each name is a text that a file can hold
 abbrev pub AreNamed : List TableField → Type 0

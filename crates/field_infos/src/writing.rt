@@ -1,9 +1,9 @@
 //! Writing a `.fnm` file.
-ghost use Rattle.std.specs.Prelude.{◌≡◌, ℕ, ◌^◌, ◌<◌, ◌++◌, IsUtf8, Bool, true, false, List, length, map, All, Option, None, IfOk};
+ghost use Rattle.std.specs.Prelude.{◌≡◌, ℕ, ◌^◌, ◌<◌, ◌++◌, IsUtf8, Bool, true, false, List, length, All, Option, None, IfOk};
 ghost use Rattle.lu_grammar.specs.Meaning.{Reads};
 ghost use Rattle.lu_types.specs.Tables.{TableField, IsTable};
 ghost use Rattle.field_infos.specs.Fnm.{fnm_plan, is_other_count, lacks_prox};
-ghost use Rattle.field_infos.specs.Spelling.{field_of_info, AreNamed, field_spelling, fnm_spelling};
+ghost use Rattle.field_infos.specs.Spelling.{AreNamed, field_spelling, fnm_spelling};
 
 use crate::FORMAT;
 use lu_prims::{OutOfMemory, put_text, put_vint};
@@ -13,10 +13,10 @@ use std::alloc::Global;
 /// The bytes of the `.fnm` file that holds these fields (format page, "Field tables"): its one spelling, which reads as
 /// exactly this table. An `Err` is want of memory.
 pub fn write(alloc: Global, table: &[FieldInfo]) -> Result<Vec<u8>, OutOfMemory>
-    requires table { IsTable (map field_of_info table.now) }
+    requires table { IsTable table.now }
     requires short { All (λ info. length info.name < 2 ^ 31) table.now }
-    ensures spelling { IfOk result (λ bytes. bytes.items ≡ fnm_spelling (map field_of_info table.now)) }
-    ensures reads { IfOk result (λ bytes. Reads (fnm_plan true None) bytes.items (map field_of_info table.now)) }
+    ensures spelling { IfOk result (λ bytes. bytes.items ≡ fnm_spelling table.now) }
+    ensures reads { IfOk result (λ bytes. Reads (fnm_plan true None) bytes.items table.now) }
 {
     let mut out = Vec::new(alloc);
     put_vint(&mut out, FORMAT)?;
@@ -30,7 +30,7 @@ pub fn write(alloc: Global, table: &[FieldInfo]) -> Result<Vec<u8>, OutOfMemory>
 /// Appends the name and the bits of a field.
 fn put_field(out: &mut Vec<u8>, info: &FieldInfo) -> Result<(), OutOfMemory>
     requires { length info.now.name < 2 ^ 31 }
-    ensures { IfOk result (λ _. (out.new.items ≡ out.old.items ++ field_spelling (field_of_info info.now)) × IsUtf8 info.now.name) }
+    ensures { IfOk result (λ _. (out.new.items ≡ out.old.items ++ field_spelling info.now) × IsUtf8 info.now.name) }
 {
     put_text(out, info.name.as_str())?;
     out.push(info.bits)?;

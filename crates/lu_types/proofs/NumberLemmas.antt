@@ -44,6 +44,10 @@ number_of_push name bits fields new q = sym (position_push _ fields (record { na
         let turned : bytes_eq q name ≡ false = nat_list_eq_equiv.symm q name ∙ differs in
         rw turned (or_none (number_of q fields))
 
+-- a new name has the number of fields before
+pub number_of-new : (name : List ℕ) (bits : ℕ) (fields : List TableField) → number_of name fields ≡ None → number_of name (fields ++ record { name = name; bits = bits } ∷ []) ≡ Some (length fields)
+number_of-new name bits fields new = sym (number_of_push name bits fields new name) ∙ ap (λ b. cond b (Some (length fields)) (number_of name fields)) ((bytes_decides name name).1 refl)
+
 -- a table with one more field
 pub IsTable_push : (name : List ℕ) (bits : ℕ) (fields : List TableField) → number_of name fields ≡ None → bits < 128 → length fields < 2 ^ 31 - 1 → IsTable fields → IsTable (fields ++ record { name = name; bits = bits } ∷ [])
 IsTable_push name bits fields new clear room table = record {

@@ -1,10 +1,15 @@
 pub mod Bits
+pub mod Bounds
+pub mod DocFaults
+pub mod Documents
 pub mod Fields
 pub mod FilePlans
+pub mod Joins
 pub mod Judging
 pub mod Kinds
 pub mod Names
 pub mod RuleNumbers
 pub mod Rules
+pub mod StoredFields
 pub mod Tables
 pub mod Terms

@@ -1,6 +1,8 @@
-//! Texts and bytes that a value owns: contracts see them as the list of their bytes.
-ghost use Rattle.std.specs.Prelude.{◌≡◌, string_bytes};
+//! Texts and lists that a value owns: contracts see a text as the list of its bytes, and a list as it is.
+ghost use Rattle.std.specs.Prelude.{◌≡◌, IsUtf8, string_bytes, IfOk};
 
+use lu_prims::OutOfMemory;
+use std::alloc::Global;
 use std::marker::Model;
 
 /// A text that its value owns. It is made from a `String` and gives it back, without taking memory.
@@ -10,11 +12,13 @@ pub struct Text {
 }
 
 impl Model for Text {
-    ghost use Rattle.std.specs.Prelude.{ℕ, List, string_bytes};
+    ghost use Rattle.std.specs.Prelude.{ℕ, List, IsUtf8, string_bytes};
 
     ghost Value = { List ℕ };
 
     ghost view = { λ t. string_bytes t.inner };
+
+    ghost invariant = { λ t. IsUtf8 (string_bytes t.inner) };
 }
 
 impl Text {
@@ -25,9 +29,17 @@ impl Text {
         Text { inner }
     }
 
+    /// The text, in a block of its own that has no room to spare.
+    pub fn from_str(alloc: Global, text: &str) -> Result<Text, OutOfMemory>
+        ensures { IfOk result (λ copy. copy ≡ text.now) }
+    {
+        Ok(Text::new(String::from_str(alloc, text)?))
+    }
+
     /// The text, lent.
     pub fn as_str(&self) -> &str
-        ensures { result.now ≡ self.now }
+        ensures same { result.now ≡ self.now }
+        ensures text { IsUtf8 self.now }
     {
         self.inner.as_str()
     }
@@ -40,37 +52,40 @@ impl Text {
     }
 }
 
-/// Bytes that their value owns. They are made from a `Vec` and give it back, without taking memory.
+/// Bytes that their value owns.
+pub type Bytes = Items<u8>;
+
+/// Items that their value owns, in order. They are made from a `Vec` and give it back, without taking memory.
 #[derive(Debug, Drop)]
-pub struct Bytes {
-    inner: Vec<u8>,
+pub struct Items<T> {
+    inner: Vec<T>,
 }
 
-impl Model for Bytes {
-    ghost use Rattle.std.specs.Prelude.{ℕ, List};
+impl<T> Model for Items<T> {
+    ghost use Rattle.std.specs.Prelude.{List};
 
-    ghost Value = { List ℕ };
+    ghost Value = { List T };
 
-    ghost view = { λ b. b.inner.items };
+    ghost view = { λ l. l.inner.items };
 }
 
-impl Bytes {
-    /// The bytes that the list holds.
-    pub fn new(inner: Vec<u8>) -> Bytes
+impl<T> Items<T> {
+    /// The items that the list holds.
+    pub fn new(inner: Vec<T>) -> Items<T>
         ensures { result ≡ inner.items }
     {
-        Bytes { inner }
+        Items { inner }
     }
 
-    /// The bytes, lent.
-    pub fn as_slice(&self) -> &[u8]
+    /// The items, lent.
+    pub fn as_slice(&self) -> &[T]
         ensures { result.now ≡ self.now }
     {
         self.inner.as_slice()
     }
 
-    /// The list that the bytes were made from.
-    pub fn into_vec(self) -> Vec<u8>
+    /// The list that the items were made from.
+    pub fn into_vec(self) -> Vec<T>
         ensures { result.items ≡ self }
     {
         self.inner

@@ -1,4 +1,6 @@
 //! Stored values, and the part of a store that a segment takes (format page, "Stored documents").
+ghost use Rattle.std.specs.Prelude.{◌≡◌};
+
 use crate::owned::{Bytes, Text};
 
 /// A value that a document stores under a field: its field's name, whether it was tokenized, and what it is.
@@ -14,6 +16,24 @@ pub struct StoredValue {
 pub enum Stored {
     Text(Text),
     Binary(Bytes),
+}
+
+impl Stored {
+    ghost use Rattle.lu_types.specs.Documents.{IsStored, content_of};
+
+    /// The bytes of what is stored, lent: those of the text, or the bytes themselves.
+    pub fn as_bytes(&self) -> &[u8]
+        ensures same { result.now ≡ content_of self.now }
+        ensures stored { IsStored self.now }
+    {
+        match self {
+            Stored::Text(text) => text.as_str().as_bytes(),
+            Stored::Binary(bytes) => {
+                let lent = bytes.as_slice();
+                lent
+            }
+        }
+    }
 }
 
 /// The documents that a segment takes of a store: `count` of them, from number `offset` on, counted from 0.

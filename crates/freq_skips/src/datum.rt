@@ -2,6 +2,7 @@
 ghost use Rattle.std.specs.Prelude.{◌≡◌, ℕ, ◌+◌, ◌-◌, ◌*◌, ◌/◌, ◌^◌, ◌<◌, ◌≤◌, ◌==◌, ◌&&◌, not, length, IfOk, IfSome, MatchOption, MatchResult, Ok, Err, if◌then◌else◌};
 ghost use Rattle.lu_grammar.specs.declared.bad.Bad.{Bad};
 ghost use Rattle.lu_grammar.specs.Bytes.{IsBytes};
+ghost use Rattle.lu_grammar.specs.Answers.{Gives};
 ghost use Rattle.lu_grammar.specs.Parts.{vint, num, vlong, spelling};
 ghost use Rattle.lu_grammar.specs.Records.{read_shape, record_at, first_broken, rule_of};
 ghost use Rattle.freq_skips.specs.Records.{Record, GivesPart, datum, datum_shape, states_payload, optional_length, length_to_child, datum_length};
@@ -65,9 +66,7 @@ fn optional_vlong(cur: &mut Cur<'_>, test: bool) -> Result<Option<u64>, Bad>
 
 /// The parts of a datum of a level, and the place behind those before its child pointer.
 fn datum_parts(cur: &mut Cur<'_>, term: &Term, level: u32) -> Result<(Skip, usize), Bad>
-    ensures parts { MatchResult result
-        (λ x. read_shape (datum_shape term.now level) cur.old ≡ Ok (datum x.0, cur.new))
-        (λ bad. read_shape (datum_shape term.now level) cur.old ≡ Err bad) }
+    ensures parts { Gives (λ x. datum x.0) (read_shape (datum_shape term.now level) cur.old) cur.new result }
     ensures place { IsBytes cur.old.rest → IfOk result (λ x. (x.1 ≡ cur.old.place + length_to_child x.0) × (cur.new.place ≡ cur.old.place + datum_length x.0) × IsBytes cur.new.rest) }
 {
     let doc = match cur.vint() {

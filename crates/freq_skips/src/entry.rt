@@ -1,6 +1,7 @@
 //! One entry: its parts, and what it must meet.
 ghost use Rattle.std.specs.Prelude.{◌≡◌, ℕ, ◌+◌, ◌/◌, ◌%◌, ◌^◌, ◌<◌, ◌==◌, ◌&&◌, not, nat_le, IfOk, MatchResult, Ok, Err, None, if◌then◌else◌};
 ghost use Rattle.lu_grammar.specs.Bytes.{IsBytes};
+ghost use Rattle.lu_grammar.specs.Answers.{Gives};
 ghost use Rattle.lu_grammar.specs.Parts.{num};
 ghost use Rattle.lu_grammar.specs.Records.{read_shape, record_at, first_broken};
 ghost use Rattle.freq_skips.specs.Records.{Record, GivesPart, optional_length, entry, entry_shape, states_frequency, is_odd as is_odd_number};
@@ -43,9 +44,7 @@ pub fn optional_num(cur: &mut Cur<'_>, test: bool) -> Result<Option<u32>, Bad>
 
 /// The delta of an entry, and its frequency where that is stated.
 fn entry_parts(cur: &mut Cur<'_>, term: &Term) -> Result<(u32, Option<u32>), Bad>
-    ensures { MatchResult result
-        (λ x. read_shape (entry_shape term.now) cur.old ≡ Ok (entry x.0 x.1, cur.new))
-        (λ bad. read_shape (entry_shape term.now) cur.old ≡ Err bad) }
+    ensures { Gives (λ x. entry x.0 x.1) (read_shape (entry_shape term.now) cur.old) cur.new result }
 {
     let delta = match cur.vint() {
         Err(bad) => return Err(bad),

@@ -3,6 +3,7 @@ ghost use Rattle.std.specs.Prelude.{◌≡◌, ℕ, suc, ◌+◌, ◌-◌, ◌*�
 ghost use Rattle.lu_grammar.specs.Bytes.{IsBytes, Cursor, place_in};
 ghost use Rattle.lu_grammar.specs.Plans.{read_plan};
 ghost use Rattle.lu_types.specs.declared.kind.FileKind.TheVariants.{Frq};
+ghost use Rattle.lu_types.specs.Judging.{IsBroken};
 ghost use Rattle.freq_skips.specs.declared.datum.Point.{Point};
 ghost use Rattle.freq_skips.specs.Entries.{Posting, postings_from, AreEntries, AreGoodFrom, Stands};
 ghost use Rattle.std.specs.Option.{option_map};
@@ -11,10 +12,10 @@ ghost use Rattle.freq_skips.specs.Walking.{FollowsAbove, IsSmallAbove, StandAbov
 
 use crate::datum::Wanted;
 use crate::following::{Following, NO_POINT};
-use crate::passing::{Passing, fault_at};
+use crate::passing::Passing;
 use crate::rules::Term;
 use lu_prims::Cur;
-use lu_types::Spot;
+use lu_types::{FileKind, Spot};
 
 /// The greatest number up to the most for which the power of the base is at most `number`, or 0, and that power.
 pub fn greatest_power(base: u32, number: u32, most: u32) -> (u32, u64)
@@ -197,8 +198,7 @@ pub fn check_data(
     ensures { (points : List (List Point)) → StandAbove term.now (postings_from term.now (place_in frq.now entries)) (suc level.now.number) points frq.now above
         → MatchResult result
         (λ end. AreGoodData term.now (postings_from term.now (place_in frq.now entries)) (level_of level.now.number level.now.stated points) (place_in frq.now at) (place_in frq.now end) × (end ≤ length frq.now))
-        (λ spot. (spot.kind ≡ Frq) × (read_plan (level_data term.now (postings_from term.now (place_in frq.now entries)) (level_of level.now.number level.now.stated points)) (place_in frq.now at)
-        ≡ Err (record { offset = spot.offset; rule = spot.rule }))) }
+        (λ spot. IsBroken Frq (read_plan (level_data term.now (postings_from term.now (place_in frq.now entries)) (level_of level.now.number level.now.stated points)) (place_in frq.now at)) spot) }
 {
     let count = quotient(term.info.doc_freq, level.stride);
     let mut passing = Passing {
@@ -216,7 +216,7 @@ pub fn check_data(
         let wanted = wanted_next(&mut passing, &mut above, term, level, data.count);
         let place = data.cur.place();
         match data.check_next(term, level.number, &wanted, at) {
-            Err(rule) => return Err(fault_at(place, rule)),
+            Err(rule) => return Err(Spot::at(FileKind::Frq, place, rule)),
             Ok(()) => {}
         }
     }

@@ -1,9 +1,11 @@
 //! All skip levels of a term.
 ghost use Rattle.lu_grammar.specs.Bytes.{place_in};
+ghost use Rattle.lu_grammar.specs.Answers.{Gives};
 ghost use Rattle.std.specs.Prelude.{◌≡◌, ℕ, suc, ◌+◌, ◌/◌, ◌^◌, ◌<◌, ◌≤◌, List, [], ◌∷◌, Option, length, ◌==◌, IfOk, IfSome, MatchResult, Ok, Err};
 ghost use Rattle.lu_grammar.specs.Records.{record_at, first_broken};
 ghost use Rattle.lu_grammar.specs.Plans.{read_plan};
 ghost use Rattle.lu_types.specs.declared.kind.FileKind.TheVariants.{Frq};
+ghost use Rattle.lu_types.specs.Judging.{IsBroken};
 ghost use Rattle.freq_skips.specs.declared.datum.Point.{Point};
 ghost use Rattle.freq_skips.specs.Records.{level_length as length_record, length_shape};
 ghost use Rattle.freq_skips.specs.Entries.{Posting, postings_from, AreGoodFrom};
@@ -12,11 +14,10 @@ ghost use Rattle.freq_skips.specs.Walking.{StandAbove, IsGoodLevel, AreGoodLevel
 
 use crate::datum::skips_start_elsewhere;
 use crate::level::{Level, check_data, level_count};
-use crate::passing::fault_at;
 use crate::rules::Term;
 use lu_prims::Cur;
-use lu_types::Spot;
 use lu_types::rules::{SKIP_START, rule_of};
+use lu_types::{FileKind, Spot};
 
 /// The first rule that the length of a level breaks at a place, the first record of the skip data or not.
 fn length_broken(term: &Term, first: bool, place: usize) -> Option<u16>
@@ -30,9 +31,7 @@ fn length_broken(term: &Term, first: bool, place: usize) -> Option<u16>
 
 /// The length of a level, the first record of the skip data or not; or the first rule that it breaks.
 fn read_length(cur: &mut Cur<'_>, term: &Term, first: bool) -> Result<u64, u16>
-    ensures { MatchResult result
-        (λ n. record_at length_shape (λ r. skip_start term.now first cur.old.place ∷ []) cur.old ≡ Ok (length_record n, cur.new))
-        (λ rule. record_at length_shape (λ r. skip_start term.now first cur.old.place ∷ []) cur.old ≡ Err rule) }
+    ensures { Gives length_record (record_at length_shape (λ r. skip_start term.now first cur.old.place ∷ []) cur.old) cur.new result }
 {
     let place = cur.place();
     match cur.vlong() {
@@ -57,14 +56,14 @@ pub fn level_length(
     ensures level { (postings : List Posting) (points : List (List Point)) → highest ≡ (length points == 0)
         → MatchResult result
         (λ x. read_plan (level_plan term.now postings number points) (place_in frq.now at) ≡ read_plan (level_data term.now postings (level_of number x.0 points)) (place_in frq.now x.1))
-        (λ spot. (spot.kind ≡ Frq) × (read_plan (level_plan term.now postings number points) (place_in frq.now at) ≡ Err (record { offset = spot.offset; rule = spot.rule }))) }
+        (λ spot. IsBroken Frq (read_plan (level_plan term.now postings number points) (place_in frq.now at)) spot) }
 {
     if number == 0 {
         return Ok((None, at));
     }
     let mut cur = Cur::at(frq, at);
     match read_length(&mut cur, term, highest) {
-        Err(rule) => Err(fault_at(at, rule)),
+        Err(rule) => Err(Spot::at(FileKind::Frq, at, rule)),
         Ok(stated) => Ok((Some(stated), cur.place())),
     }
 }
@@ -97,8 +96,7 @@ fn check_level(
     ensures { (points : List (List Point)) → StandAbove term.now (postings_from term.now (place_in frq.now entries)) (suc number) points frq.now above
         → MatchResult result
         (λ places. IsGoodLevel term.now (postings_from term.now (place_in frq.now entries)) number points frq.now at places.«data» places.end)
-        (λ spot. (spot.kind ≡ Frq) × (read_plan (level_plan term.now (postings_from term.now (place_in frq.now entries)) number points) (place_in frq.now at)
-        ≡ Err (record { offset = spot.offset; rule = spot.rule }))) }
+        (λ spot. IsBroken Frq (read_plan (level_plan term.now (postings_from term.now (place_in frq.now entries)) number points) (place_in frq.now at)) spot) }
 {
     let (stated, data) = match level_length(frq, at, term, number, above.is_none()) {
         Err(spot) => return Err(spot),
@@ -124,8 +122,7 @@ pub fn check_levels(frq: &[u8], at: usize, entries: usize, term: &Term) -> Resul
     requires entries_good { AreGoodFrom term.now (place_in frq.now entries) }
     ensures { MatchResult result
         (λ end. AreGoodLevels term.now (postings_from term.now (place_in frq.now entries)) frq.now at end)
-        (λ spot. (spot.kind ≡ Frq) × (read_plan (levels term.now (postings_from term.now (place_in frq.now entries)) (count_of_levels term.now) []) (place_in frq.now at)
-        ≡ Err (record { offset = spot.offset; rule = spot.rule }))) }
+        (λ spot. IsBroken Frq (read_plan (levels term.now (postings_from term.now (place_in frq.now entries)) (count_of_levels term.now) []) (place_in frq.now at)) spot) }
 {
     let interval = u64::from(term.rules.skip_interval);
     let (count, power) = level_count(term);

@@ -3,6 +3,7 @@ ghost use Rattle.std.specs.Prelude.{◌≡◌, ℕ, ◌+◌, ◌<◌, ◌≤◌,
 ghost use Rattle.lu_grammar.specs.Bytes.{Cursor};
 ghost use Rattle.lu_grammar.specs.Plans.{read_plan};
 ghost use Rattle.lu_types.specs.declared.kind.FileKind.TheVariants.{Frq};
+ghost use Rattle.lu_types.specs.Judging.{IsBroken};
 ghost use Rattle.freq_skips.specs.Entries.{entries, AreEntries, Stands, IsNext};
 
 use crate::entry::{Entry, next_entry};
@@ -16,17 +17,6 @@ pub struct Passing<'a> {
     pub cur: Cur<'a>,
     pub index: u32,
     pub doc: u32,
-}
-
-/// The fault of `.frq` at a place.
-pub fn fault_at(place: usize, rule: u16) -> Spot
-    ensures { result ≡ record { kind = Frq; offset = place; rule = rule } }
-{
-    Spot {
-        kind: FileKind::Frq,
-        offset: place as u64,
-        rule,
-    }
 }
 
 impl<'a> Passing<'a> {
@@ -70,7 +60,7 @@ impl<'a> Passing<'a> {
 pub fn check_entries<'a>(cur: Cur<'a>, term: &Term) -> Result<Passing<'a>, Spot>
     ensures { MatchResult result
         (λ passing. AreEntries term.now cur.entry passing.cur)
-        (λ spot. (spot.kind ≡ Frq) × (read_plan (entries term.now) cur.entry ≡ Err (record { offset = spot.offset; rule = spot.rule }))) }
+        (λ spot. IsBroken Frq (read_plan (entries term.now) cur.entry) spot) }
 {
     let mut passing = Passing {
         cur,
@@ -80,7 +70,7 @@ pub fn check_entries<'a>(cur: Cur<'a>, term: &Term) -> Result<Passing<'a>, Spot>
     while passing.index < term.info.doc_freq {
         let place = passing.cur.place();
         match passing.step(term) {
-            Err(rule) => return Err(fault_at(place, rule)),
+            Err(rule) => return Err(Spot::at(FileKind::Frq, place, rule)),
             Ok(_entry) => {}
         }
     }

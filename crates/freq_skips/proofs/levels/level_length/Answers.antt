@@ -11,7 +11,7 @@ returns-in-Err-clause-level c = λ postings points highest.
     let t = c.args.term.now in
     let here = place_in c.args.frq.now c.args.at in
     let read = subst (λ (d : Cursor). length_at t c.args.highest d ≡ Err c.in-Err.rule) c.at-cur.ensures c.in-Err.ensures in
-    rw c.fault_at.ensures (refl, level_plan-broken t postings c.args.number points c.args.highest c.in-Err.rule here c.if-number-eq0.false highest read)
+    rw c.at.ensures (refl, level_plan-broken t postings c.args.number points c.args.highest c.in-Err.rule here c.if-number-eq0.false highest read)
 
 pub returns-in-Ok-clause-within : goal.returns-in-Ok-clause-within
 returns-in-Ok-clause-within c =

@@ -49,7 +49,7 @@ returns-in-Err c = λ points h.
     let wanted = c.wanted_next-wanted.ensures.goes_on start good.0 points good.1 i.stands i.before both.0 in
     let below : c.loop-data.data.count < data_count t l.number = omega (arith, i.count) in
     let fault = c.in-Err.ensures.goes_on (postings_from t start) l.stated points (place_in c.args.frq.now c.args.at) refl wanted.0 both.1 below in
-    rw (c.at.ensures, c.place-place.ensures) (refl, fault)
+    rw (c.at-in-Err.ensures, c.place-place.ensures) (refl, fault)
 
 pub loop-data-preserved : goal.loop-data-preserved
 loop-data-preserved c =

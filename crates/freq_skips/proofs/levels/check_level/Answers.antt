@@ -1,5 +1,5 @@
 use Rattle.lu_grammar.specs.Bytes.{place_in}
-use Rattle.std.proofs.Common.{suc}
+use Rattle.std.proofs.Common.{suc, ◌∙◌}
 use Rattle.freq_skips.specs.Entries.{postings_from}
 use Rattle.freq_skips.proofs.LengthLemmas.{none_above}
 use Rattle.freq_skips.proofs.levels.check_level.Goals as goal
@@ -8,3 +8,10 @@ pub returns-in-Err : goal.returns-in-Err
 returns-in-Err c = λ points h.
     let ps = postings_from c.args.term.now (place_in c.args.frq.now c.args.entries) in
     c.in-Err.ensures.level ps points (none_above c.args.term.now ps (suc c.args.number) points c.args.frq.now c.args.above c.is_none.result c.is_none.ensures h)
+
+pub returns-in-Err-check_data : goal.returns-in-Err-check_data
+returns-in-Err-check_data c = λ points h.
+    let ps = postings_from c.args.term.now (place_in c.args.frq.now c.args.entries) in
+    let same = c.in-Ok.ensures.level ps points (none_above c.args.term.now ps (suc c.args.number) points c.args.frq.now c.args.above c.is_none.result c.is_none.ensures h) in
+    let fault = c.in-Err-check_data.ensures points h in
+    (fault.0, same ∙ fault.1)

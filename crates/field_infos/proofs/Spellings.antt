@@ -1,11 +1,11 @@
 -- The spelling of a table is read as the table.
-use Rattle.std.proofs.Common.{◌≡◌, ◌≢◌, ℕ, zero, suc, ◌+◌, ◌<◌, ◌≤◌, ◌^◌, Bool, false, leb, List, [], ◌∷◌, ◌++◌, length, take, get_or, map, flat_map, All, bytes_eq, Option, None, Ok, refl, sym, ap, subst, ◌∙◌, arith, inl, inr}
+use Rattle.std.proofs.Common.{◌≡◌, ◌≢◌, ℕ, zero, suc, ◌+◌, ◌<◌, ◌≤◌, ◌^◌, Bool, false, leb, List, [], ◌∷◌, ◌++◌, length, take, get_or, flat_map, All, bytes_eq, Option, None, Ok, refl, sym, ap, subst, ◌∙◌, arith, inl, inr}
 use Rattle.std.specs.List.{position_or_len}
 use Rattle.std.specs.Cmp.Lexicographic.{bytes_decides}
 use Rattle.std.proofs.Math.Seq.{take-suc}
 use Rattle.std.proofs.lemmas.Bool.{cases_lt, lt-leb}
 use Rattle.std.proofs.lemmas.Grind.{common_steps}
-use Rattle.std.proofs.lemmas.List.{append-nil, take_all, get_or-take, flat_map_more, map-append}
+use Rattle.std.proofs.lemmas.List.{append-nil, take_all, get_or-take, flat_map_more}
 use Rattle.std.proofs.lemmas.List.Sums.{passes_at_first}
 use Rattle.lu_grammar.specs.Bytes.{IsBytes}
 use Rattle.lu_grammar.specs.Parts.{text, IsValue, spelling, groups}

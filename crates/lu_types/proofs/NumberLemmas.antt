@@ -1,6 +1,7 @@
 -- Numbers of names in a table to which a field is added.
-use Rattle.std.proofs.Common.{◌≡◌, ◌≢◌, ℕ, ◌<◌, ◌≤◌, ◌^◌, ◌-◌, Bool, true, false, not, List, [], ◌∷◌, ◌++◌, Option, Some, None, refl, sym, ◌∙◌, ap, subst, cond, arith, length, get_or, Bor, BTreeMap}
+use Rattle.std.proofs.Common.{◌≡◌, ◌≢◌, ℕ, ◌<◌, ◌≤◌, ◌^◌, ◌-◌, Bool, true, false, not, List, [], ◌∷◌, ◌++◌, Option, Some, None, refl, sym, ◌∙◌, ap, subst, cond, arith, length, get_or, Bor, BTreeMap, ltb-true}
 use mathlib.Core.Bool.{true≢false}
+use Rattle.std.specs.Prelude.{IfSome, nat_lt}
 use Rattle.std.specs.List.{position, position_or_len}
 use Rattle.std.specs.Option.{option_or}
 use Rattle.std.specs.Map.{update}
@@ -26,6 +27,14 @@ pub fails_from_none : {X : Type 0} (p : X → Bool) (xs : List X) (k : ℕ) (d :
 fails_from_none p xs k d none within =
     let passes_none : length xs ≤ position_or_len p xs = grind (arith, common_steps) in
     fails_before_first p xs k d (omega arith)
+
+-- a number that a name has is below the number of fields
+pub number_of-lt : (name : List ℕ) (fields : List TableField) → IfSome (number_of name fields) (λ number. number < length fields)
+number_of-lt name fields = at_test (position_or_len (λ (f : TableField). bytes_eq name f.name) fields) (nat_lt (position_or_len (λ (f : TableField). bytes_eq name f.name) fields) (length fields)) refl
+  where
+    at_test : (n : ℕ) (b : Bool) → nat_lt n (length fields) ≡ b → IfSome (cond b (Some n) None) (λ number. number < length fields)
+    at_test n true less = ltb-true n (length fields) less
+    at_test n false less = tt
 
 or_none : {X : Type 0} (o : Option X) → option_or o None ≡ o
 or_none None = refl

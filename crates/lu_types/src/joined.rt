@@ -1,5 +1,5 @@
 //! Field tables to which appearances of fields are joined (format page, "Field tables").
-ghost use Rattle.std.specs.Prelude.{◌≡◌, [], length, map, slice_get, option_map, Some, None, OnOk, OnErr, IfOk};
+ghost use Rattle.std.specs.Prelude.{◌≡◌, ◌<◌, [], length, map, slice_get, option_map, Some, None, OnOk, OnErr, IfOk, IfSome};
 ghost use Rattle.lu_types.specs.Tables.{number_of};
 ghost use Rattle.lu_types.specs.Fields.{table_field};
 ghost use Rattle.lu_types.specs.Joins.{join_bits, join_field};
@@ -62,7 +62,8 @@ impl<'a> JoinedTable<'a> {
     /// The number of the field with a name; `None` exactly where no field has the name.
     /// Takes time by the logarithm of the number of fields.
     pub fn find(&self, name: &str) -> Option<usize>
-        ensures { result ≡ number_of name.now self.now }
+        ensures found { result ≡ number_of name.now self.now }
+        ensures below { IfSome result (λ number. number < length self.now) }
     {
         self.numbers.get(name).copied()
     }
@@ -86,7 +87,7 @@ impl<'a> JoinedTable<'a> {
     }
 
     /// Adds a field with a new name, and answers its number. An `Err` leaves the table as it was.
-    fn push(&mut self, name: &'a str, bits: u8) -> Result<usize, OutOfMemory>
+    pub(crate) fn push(&mut self, name: &'a str, bits: u8) -> Result<usize, OutOfMemory>
         requires { number_of name.now self.old ≡ None }
         ensures joined { OnOk result (self.new ≡ join_field self.old (record { name = name.now; bits = bits })) }
         ensures number { IfOk result (λ number. number_of name.now self.new ≡ Some number) }

@@ -36,6 +36,14 @@ impl Text {
         Ok(Text::new(String::from_str(alloc, text)?))
     }
 
+    /// The text that the string holds, with its spare room given back to the allocator: an empty text keeps no block.
+    pub fn fitted(mut inner: String) -> Text
+        ensures { result ≡ string_bytes inner }
+    {
+        inner.shrink_to_fit();
+        Text { inner }
+    }
+
     /// The text, lent.
     pub fn as_str(&self) -> &str
         ensures same { result.now ≡ self.now }
@@ -74,6 +82,14 @@ impl<T> Items<T> {
     pub fn new(inner: Vec<T>) -> Items<T>
         ensures { result ≡ inner.items }
     {
+        Items { inner }
+    }
+
+    /// The items that the list holds, with its spare room given back to the allocator: an empty list keeps no block.
+    pub fn fitted(mut inner: Vec<T>) -> Items<T>
+        ensures { result ≡ inner.items }
+    {
+        inner.shrink_to_fit();
         Items { inner }
     }
 

@@ -3,31 +3,28 @@ ghost use Rattle.lu_types.specs.Tables.{number_of, IsTable};
 ghost use Rattle.lu_types.specs.Fields.{table_field};
 
 use crate::field::Field;
+use crate::joined::JoinedTable;
 use lu_prims::OutOfMemory;
 use std::alloc::Global;
-use std::collections::BTreeMap;
 use std::marker::Model;
 
 /// The fields of a segment in the order of their numbers, with their names lent from the bytes of the file
 /// (format page, "Field tables"). No two fields have one name.
 #[derive(Drop)]
 pub struct FieldTable<'a> {
-    /// The fields by number.
-    fields: Vec<Field<'a>>,
-    /// The number of each name.
-    numbers: BTreeMap<&'a str, u32>,
+    /// The fields, and the numbers of their names.
+    fields: JoinedTable<'a>,
 }
 
 impl<'a> Model for FieldTable<'a> {
-    ghost use Rattle.std.specs.Prelude.{List, map};
-    ghost use Rattle.lu_types.specs.Tables.{TableField, IsTable, HasNumbers};
-    ghost use Rattle.lu_types.specs.Fields.{table_field};
+    ghost use Rattle.std.specs.Prelude.{List};
+    ghost use Rattle.lu_types.specs.Tables.{TableField, IsTable};
 
     ghost Value = { List TableField };
 
-    ghost view = { λ table. map table_field table.fields.items };
+    ghost view = { λ table. table.fields };
 
-    ghost invariant = { λ table. IsTable (map table_field table.fields.items) × HasNumbers table.numbers (map table_field table.fields.items) };
+    ghost invariant = { λ table. IsTable table.fields };
 }
 
 impl<'a> FieldTable<'a> {
@@ -36,8 +33,7 @@ impl<'a> FieldTable<'a> {
         ensures { result ≡ [] }
     {
         FieldTable {
-            fields: Vec::new(alloc),
-            numbers: BTreeMap::new(alloc),
+            fields: JoinedTable::new(alloc),
         }
     }
 
@@ -50,14 +46,9 @@ impl<'a> FieldTable<'a> {
         ensures ok { OnOk result (self.new ≡ self.old ++ record { name = name.now; bits = bits } ∷ []) }
         ensures err { OnErr result (self.new ≡ self.old) }
     {
-        let number = self.fields.len() as u32;
-        self.fields.push(Field { name, bits })?;
-        match self.numbers.insert(name, number) {
+        match self.fields.push(name, bits) {
             Ok(_) => Ok(()),
-            Err(_) => {
-                self.fields.pop();
-                Err(OutOfMemory)
-            }
+            Err(error) => Err(error),
         }
     }
 
@@ -66,14 +57,14 @@ impl<'a> FieldTable<'a> {
         ensures count { result ≡ length self.now }
         ensures table { IsTable self.now }
     {
-        self.fields.len() as u32
+        self.fields.count() as u32
     }
 
     /// The field with a number, from 0; `None` exactly where there is no such number.
     pub fn field(&self, number: u32) -> Option<Field<'a>>
         ensures { option_map table_field result ≡ slice_get self.now number }
     {
-        self.fields.get(number as usize).copied()
+        self.fields.field(number as usize)
     }
 
     /// The number of the field with a name; `None` exactly where no field has the name.
@@ -81,6 +72,9 @@ impl<'a> FieldTable<'a> {
     pub fn find(&self, name: &str) -> Option<u32>
         ensures { result ≡ number_of name.now self.now }
     {
-        self.numbers.get(name).copied()
+        match self.fields.find(name) {
+            Some(number) => Some(number as u32),
+            None => None,
+        }
     }
 }

@@ -10,7 +10,7 @@ pub invariant_of-self : goal.invariant_of-self
 invariant_of-self c =
     let old : List TableField = map table_field c.self.inside.fields.items in
     let new : TableField = record { name = c.args.name.now; bits = c.args.bits } in
-    let there : number_of new.name old ≡ Some c.in-Some.number = ap (number_of new.name) c.self.view_is ∙ sym c.in-Some.ensures in
+    let there : number_of new.name old ≡ Some c.in-Some.number = ap (number_of new.name) c.self.view_is ∙ sym c.in-Some.ensures.found in
     let is = join_field-lent c.self.inside.fields.items new c.in-Some.number c.join_bits-field.result c.index_mut-field.result.now there c.index_mut-field.ensures.value c.join_bits-field.ensures in
     subst (HasNumbers c.self.inside.numbers) (sym is) (HasNumbers_join c.self.inside.numbers old new c.in-Some.number c.self.invariant there)
 
@@ -18,7 +18,7 @@ invariant_of-self c =
 pub returns-in-Some-clause-joined : goal.returns-in-Some-clause-joined
 returns-in-Some-clause-joined c =
     let new : TableField = record { name = c.args.name.now; bits = c.args.bits } in
-    let there = ap (number_of new.name) c.self.view_is ∙ sym c.in-Some.ensures in
+    let there = ap (number_of new.name) c.self.view_is ∙ sym c.in-Some.ensures.found in
     join_field-lent c.self.inside.fields.items new c.in-Some.number c.join_bits-field.result c.index_mut-field.result.now there c.index_mut-field.ensures.value c.join_bits-field.ensures
     ∙ ap (λ (t : List TableField). join_field t new) c.self.view_is
 
@@ -27,6 +27,6 @@ pub returns-in-Some-clause-number : goal.returns-in-Some-clause-number
 returns-in-Some-clause-number c =
     let old : List TableField = map table_field c.self.inside.fields.items in
     let new : TableField = record { name = c.args.name.now; bits = c.args.bits } in
-    let there : number_of new.name old ≡ Some c.in-Some.number = ap (number_of new.name) c.self.view_is ∙ sym c.in-Some.ensures in
+    let there : number_of new.name old ≡ Some c.in-Some.number = ap (number_of new.name) c.self.view_is ∙ sym c.in-Some.ensures.found in
     ap (number_of new.name) (join_field-lent c.self.inside.fields.items new c.in-Some.number c.join_bits-field.result c.index_mut-field.result.now there c.index_mut-field.ensures.value c.join_bits-field.ensures)
     ∙ number_of-join_field new.name old new c.in-Some.number there ∙ there

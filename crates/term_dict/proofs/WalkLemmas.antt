@@ -76,7 +76,7 @@ pub record IsGoodEntry (standing : Standing) (interval : ℕ) (s : Progress) (c 
   pub good : first_broken (term_conditions standing s.terms e) ≡ None
   pub whole_record : record_at ((term_kind standing interval).shape s) ((term_kind standing interval).conditions s c.place) c ≡ ok_pair (entry e) d
 
-good_entry : (standing : Standing) (interval : ℕ) (s : Progress) (c : Cursor) (line : Line Entry) (d : Cursor) → record_at ((term_kind standing interval).shape s) ((term_kind standing interval).conditions s c.place) c ≡ ok_pair line d
+pub good_entry : (standing : Standing) (interval : ℕ) (s : Progress) (c : Cursor) (line : Line Entry) (d : Cursor) → record_at ((term_kind standing interval).shape s) ((term_kind standing interval).conditions s c.place) c ≡ ok_pair line d
     → (e : Entry) × IsGoodEntry standing interval s c e d × (line ≡ entry e)
 good_entry standing interval s c line d e =
     let was = record_at-was ((term_kind standing interval).shape s) ((term_kind standing interval).conditions s c.place) c line d e in
@@ -150,7 +150,7 @@ was_ok place (Err rule) x e = absurd (err_is_not_ok e)
 abbrev broken_of : ℕ → ℕ → Broken
 broken_of place rule = record { offset = place; rule = rule }
 
-was_ended : {V : Type 0} (x : V × Cursor) (v : V) → ended x ≡ ok_of v → (x.0 ≡ v) × (length x.1.rest ≡ 0)
+pub was_ended : {V : Type 0} (x : V × Cursor) (v : V) → ended x ≡ ok_of v → (x.0 ≡ v) × (length x.1.rest ≡ 0)
 was_ended {V} x v e = go (eqb (length x.1.rest) 0) refl e
   where
     go : (b : Bool) → eqb (length x.1.rest) 0 ≡ b → (if b then ok_of x.0 else err_of (broken_of x.1.place number.trailing)) ≡ ok_of v → (x.0 ≡ v) × (length x.1.rest ≡ 0)

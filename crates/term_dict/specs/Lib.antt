@@ -3,6 +3,7 @@ pub mod Checks
 pub mod Content
 pub mod Dictionary
 pub mod Entries
+pub mod Facts
 pub mod Headings
 pub mod Index
 pub mod Last

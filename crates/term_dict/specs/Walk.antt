@@ -17,6 +17,10 @@ pub record Walk : Type 0 where
 abbrev pub walk_of : Dictionary → Walk
 walk_of dictionary = record { dictionary = dictionary; passed = 0 }
 
+-- before the term with a number
+abbrev pub walk_to : Dictionary → ℕ → Walk
+walk_to dictionary passed = record { dictionary = dictionary; passed = passed }
+
 -- one term further
 abbrev pub passed_on : Walk → Walk
 passed_on w = record { dictionary = w.dictionary; passed = w.passed + 1 }

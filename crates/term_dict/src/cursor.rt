@@ -3,7 +3,7 @@ ghost use Rattle.std.specs.Prelude.{◌≡◌, ℕ, ◌+◌, ◌<◌, ◌≤◌,
 ghost use Rattle.term_dict.specs.Terms.{Term, term_after};
 ghost use Rattle.term_dict.specs.Dictionary.{Dictionary};
 ghost use Rattle.term_dict.specs.Content.{content, IsRead};
-ghost use Rattle.term_dict.specs.Walk.{Walk, walk_of, term_passed, next_place, passed_on, Shares};
+ghost use Rattle.term_dict.specs.Walk.{Walk, walk_of, walk_to, term_passed, next_place, passed_on, Shares};
 
 use crate::entry::entry_at;
 use crate::last::LastTerm;
@@ -109,5 +109,20 @@ impl<'a> TermCursor<'a> {
         self.passed = 0;
         self.shared = 0;
         self.last.reset();
+    }
+
+    /// Stands before the term with a number, which is below the count of terms. `place` is where that term starts, from the
+    /// start of the file; `text` and `info` are the text of the term before it and what is said of that term, and before the
+    /// first term no text and zeros. Takes no memory, since the buffer has room for the longest text.
+    pub fn move_to(&mut self, place: u32, number: u32, text: &str, info: &TermInfo)
+        requires number { number < length self.old.dictionary.terms }
+        requires place { place ≡ next_place (walk_to self.old.dictionary number) }
+        requires term { record { text = text.now; info = info.now } ≡ term_passed (walk_to self.old.dictionary number) }
+        ensures { self.new ≡ walk_to self.old.dictionary number }
+    {
+        self.last.set(text.as_bytes(), info);
+        self.place = place as usize;
+        self.passed = number;
+        self.shared = 0;
     }
 }

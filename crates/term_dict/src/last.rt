@@ -121,7 +121,8 @@ impl LastTerm {
     /// Makes it the term with this text, for which there is room, and of which this is said.
     pub(crate) fn set(&mut self, text: &[u8], info: &TermInfo)
         requires { length text.now ≤ vec_capacity self.old.text }
-        ensures { term_of self.new ≡ record { text = text.now; info = info.now } }
+        ensures term { term_of self.new ≡ record { text = text.now; info = info.now } }
+        ensures room { vec_capacity self.old.text ≤ vec_capacity self.new.text }
     {
         if follow(&mut self.text, 0, text).is_err() {
             unreachable!();

@@ -1,7 +1,7 @@
 -- A walk that stands before a term by what an entry of the index says.
-use Rattle.std.proofs.Common.{◌≡◌, ℕ, zero, suc, ◌+◌, ◌<◌, ◌≤◌, ◌-◌, List, length, take, get_or, refl, sym, ap, subst, ◌∙◌, arith, add-one}
-use Rattle.std.specs.Prelude.{slice_index_or}
-use Rattle.std.proofs.lemmas.List.{get_or-take, length-take-le}
+use Rattle.std.proofs.Common.{◌≡◌, ℕ, zero, suc, ◌+◌, ◌<◌, ◌≤◌, ◌^◌, ◌-◌, List, length, take, get_or, refl, sym, ap, subst, ◌∙◌, arith, add-one}
+use Rattle.std.specs.Prelude.{slice_index_or, All}
+use Rattle.std.proofs.lemmas.List.{get_or-take, get_or_default, length-take-le}
 use Rattle.lu_grammar.specs.Bytes.{IsBytes}
 use Rattle.term_dict.specs.declared.numbers.TermNumbers.{TermNumbers}
 use Rattle.term_dict.specs.Terms.{Term, no_term, last_term, term_after}
@@ -41,3 +41,11 @@ passed-fits bytes numbers longest (suc n) t h lt is =
     let terms = (content bytes).terms in
     let last : last_term (take (suc n) terms) ≡ slice_index_or terms n no_term = ap (λ (k : ℕ). last_term (take k terms)) (sym (add-one n)) ∙ last_term-take terms n (omega arith) in
     subst (λ (u : Term). length u.text ≤ longest) (sym (is ∙ last)) (h.within n)
+
+-- each term starts inside the file
+pub starts-inside : (bytes : List ℕ) (numbers : TermNumbers) (longest : ℕ) → IsRead bytes numbers longest → All (λ place. place < 2 ^ 31) (content bytes).starts
+starts-inside bytes numbers longest h = λ k d lt.
+    let w = walked bytes numbers longest k h.fits h (omega (arith, lt, (content-length bytes numbers longest h.fits h).1)) in
+    let is = place_is bytes numbers longest k w.0 w.1 h.fits h w.2 in
+    let same = get_or_default (content bytes).starts k d (content bytes).size lt in
+    omega (arith, is, same, w.2.inside, h.small)

@@ -143,7 +143,7 @@ pub record AllRead (bytes : List ℕ) (numbers : TermNumbers) (z : Progress) (d 
   pub whole_file : length d.rest ≡ 0
   pub inside : 24 ≤ length bytes
 
-was_ok : {A : Type 0} (place : ℕ) (r : Result A ℕ) (x : A) → broken_at place r ≡ ok_of x → r ≡ ok_of x
+pub was_ok : {A : Type 0} (place : ℕ) (r : Result A ℕ) (x : A) → broken_at place r ≡ ok_of x → r ≡ ok_of x
 was_ok place (Ok y) x e = ap (λ (t : _). ok_of t) (inner y x e)
 was_ok place (Err rule) x e = absurd (err_is_not_ok e)
 

@@ -7,8 +7,8 @@ use Rattle.std.proofs.lemmas.Option.{slice_get-get_or}
 use Rattle.lu_types.specs.declared.term.TermInfo.{TermInfo}
 use Rattle.term_dict.specs.Terms.{Term, no_term, last_term}
 use Rattle.term_dict.proofs.LoopLemmas.{last_term-push}
-use Rattle.term_dict.specs.Walk.{Walk, term_passed, passed_on, Shares}
-use Rattle.term_index.specs.Points.{walk_to, ShareFront}
+use Rattle.term_dict.specs.Walk.{Walk, term_passed, passed_on, Shares, walk_to}
+use Rattle.term_index.specs.Points.{ShareFront}
 
 -- the last of so many terms
 pub last_term-take : (terms : List Term) (n : ℕ) → n < length terms → last_term (take (n + 1) terms) ≡ slice_index_or terms n no_term

@@ -31,7 +31,7 @@ use Rattle.term_dict.specs.Terms.{Term, no_term, last_term, term_after}
 use Rattle.term_dict.specs.Dictionary.{Dictionary, Standing, anywhere, Progress, no_terms, with_term, term_conditions, is_past, term_kind, terms_plan, dictionary_plan}
 use Rattle.term_dict.specs.Last.{IsSound, Fits}
 use Rattle.term_dict.specs.Content.{content, IsRead}
-use Rattle.term_dict.specs.Walk.{at_place, IsAt, Shares, walk_in}
+use Rattle.term_dict.specs.Walk.{at_place, IsAt}
 use Rattle.term_dict.proofs.FileLemmas.{record_at-was, dictionary_of, finish, inner}
 
 -- ---- the header
@@ -381,14 +381,3 @@ pub next_there : (bytes : List ℕ) (numbers : TermNumbers) (capacity passed pla
 next_there bytes numbers capacity passed place last c bad h w more at unread =
     let next = next_term bytes numbers capacity passed place last h.fits h w (omega (arith, w.few, more)) in
     err_is_not_ok (sym unread ∙ ap (λ (x : Cursor). read_shape (entry_shape false numbers.skip_interval) x) at ∙ next.read)
-
--- the next text begins with so many bytes of the one before
-pub shares_next : (bytes : List ℕ) (numbers : TermNumbers) (capacity passed place place_after : ℕ) (last next : Term) (e : Entry) → IsRead bytes numbers capacity → IsAt bytes numbers passed place last → IsAt bytes numbers (passed + 1) place_after next
-    → next ≡ term_after last e → e.prefix ≤ length last.text → Shares e.prefix (walk_in bytes (passed + 1))
-shares_next bytes numbers capacity passed place place_after last next e h w after is le =
-    let n = e.prefix in
-    let new = passed-terms bytes numbers capacity (passed + 1) place_after next h.fits h after in
-    let old = passed-terms bytes numbers capacity passed place last h.fits h w in
-    ap (λ (t : Term). take n t.text) (new ∙ is)
-    ∙ take-append-le n (take n last.text) e.suffix (omega (arith, length-take-le n last.text le)) ∙ take_all n (take n last.text) (omega (arith, length-take-le n last.text le))
-    ∙ ap (λ (t : Term). take n t.text) (sym old) ∙ ap (λ (k : ℕ). take n (last_term (take k (content bytes).terms)).text) (let k : passed ≡ passed + 1 - 1 = omega arith in k)

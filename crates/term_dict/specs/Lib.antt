@@ -8,6 +8,7 @@ pub mod Headings
 pub mod Index
 pub mod Last
 pub mod Laws
+pub mod Shared
 pub mod Terms
 pub mod Walk
 pub mod Writing

@@ -33,10 +33,6 @@ term_passed w = last_term (take w.passed w.dictionary.terms)
 abbrev pub next_place : Walk → ℕ
 next_place w = slice_index_or w.dictionary.starts w.passed w.dictionary.size
 
--- so many bytes of the last text are those of the text before it
-abbrev pub Shares : ℕ → Walk → Type 0
-Shares n w = take n (term_passed w).text ≡ take n (last_term (take (w.passed - 1) w.dictionary.terms)).text
-
 -- the walk over the terms of these bytes
 abbrev pub walk_in : List ℕ → ℕ → Walk
 walk_in bytes passed = record { dictionary = content bytes; passed = passed }

@@ -12,7 +12,7 @@ mod order;
 mod spelling;
 mod writer;
 
-pub use cursor::TermCursor;
+pub use cursor::{NextTerm, TermCursor};
 pub use entry::{TermEntry, entry_at};
 pub use file::TermFile;
 pub use heading::{FORMAT, Heading, heading_at};

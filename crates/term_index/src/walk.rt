@@ -36,11 +36,11 @@ pub(crate) fn pass_terms(cursor: &mut TermCursor<'_>, count: u32) -> Passed
         shared: usize::MAX,
     };
     for _ in 0..count {
-        let Some(info) = cursor.next() else {
+        let Some(next) = cursor.next_shared() else {
             unreachable!();
         };
-        passed.info = info;
-        passed.shared = passed.shared.min(cursor.shared());
+        passed.info = next.info;
+        passed.shared = passed.shared.min(next.shared);
     }
     passed
 }

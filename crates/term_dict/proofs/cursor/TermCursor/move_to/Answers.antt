@@ -31,5 +31,4 @@ invariant_of-self c =
     let is = text ∙ c.requires.term ∙ ap (λ (w : Walk). term_passed (walk_to w.dictionary number)) (sym c.self.view_is) in (
       IsRead-roomier i.tis.now i.numbers (vec_capacity i.last.text) (vec_capacity c.set.new.self.text) h c.set.ensures.room,
       IsAt-there i.tis.now i.numbers (vec_capacity i.last.text) number c.args.place (term_of c.set.new.self) h lt at is,
-      refl,
     )

@@ -2,7 +2,9 @@ pub mod ByteLemmas
 pub mod CheckLemmas
 pub mod ConditionLemmas
 pub mod FileLemmas
+pub mod FactLemmas
 pub mod IndexLemmas
+pub mod JumpLemmas
 pub mod LineLemmas
 pub mod LoopLemmas
 pub mod OrderLemmas

@@ -1,6 +1,7 @@
 -- The bytes of entries.
-use Rattle.std.proofs.Common.{◌≡◌, ◌≢◌, ◌⊎◌, ℕ, suc, ◌+◌, ◌<◌, min, true, false, eqb, List, [], ◌∷◌, ◌++◌, length, drop, get_or, drop-cons, length-drop, add-one, refl, sym, ap, ◌∙◌, append_assoc, arith, inl, inr}
-use Rattle.std.proofs.lemmas.Bool.{eq-eqb, ne_eqb, cases_lt}
+use Rattle.std.proofs.Common.{◌≡◌, ◌≢◌, ◌⊎◌, ℕ, zero, suc, ◌+◌, ◌<◌, ◌≤◌, min, Bool, true, false, eqb, List, [], ◌∷◌, ◌++◌, length, take, drop, get_or, drop-cons, length-drop, add-one, refl, sym, ap, ◌∙◌, append_assoc, arith, inl, inr}
+use Rattle.std.specs.Prelude.{if◌then◌else◌}
+use Rattle.std.proofs.lemmas.Bool.{eqb-true, eq-eqb, ne_eqb, cases_lt}
 use Rattle.std.proofs.lemmas.List.{append-nil}
 use Rattle.term_dict.specs.Canonical.{shared}
 
@@ -43,3 +44,22 @@ shared-all xs ys k e = elim (cases_lt (length xs) (length ys)) [
 -- the parts of a header
 pub appended-five : (out a b c d e : List ℕ) → out ++ a ++ b ++ c ++ d ++ e ≡ out ++ (a ++ (b ++ (c ++ (d ++ e))))
 appended-five out a b c d e = simp append_assoc
+
+-- a text and one that begins with so many of its bytes
+pub shared-prefix : (xs ys : List ℕ) (p : ℕ) → p ≤ length xs → shared xs (take p xs ++ ys) ≡ p + shared (drop p xs) ys
+shared-prefix xs ys zero le = let e : 0 + shared xs ys ≡ shared xs ys = omega arith in sym e
+shared-prefix [] ys (suc p) le = absurd (omega (arith, le))
+shared-prefix (x ∷ xs) ys (suc p) le =
+    shared-same x x xs (take p xs ++ ys) refl ∙ ap (λ (n : ℕ). suc n) (shared-prefix xs ys p (omega (arith, le)))
+    ∙ (let e : suc (p + shared (drop p xs) ys) ≡ suc p + shared (drop p xs) ys = omega arith in e)
+
+-- what two texts share
+pub take-shared : (xs ys : List ℕ) → take (shared xs ys) xs ≡ take (shared xs ys) ys
+unfolding shared
+take-shared [] ys = refl
+take-shared (x ∷ xs) [] = refl
+take-shared (x ∷ xs) (y ∷ ys) = go (eqb x y) refl (take-shared xs ys)
+  where
+    go : (b : Bool) → eqb x y ≡ b → take (shared xs ys) xs ≡ take (shared xs ys) ys → take (if b then suc (shared xs ys) else 0) (x ∷ xs) ≡ take (if b then suc (shared xs ys) else 0) (y ∷ ys)
+    go true e h = ap (λ (n : ℕ). n ∷ take (shared xs ys) xs) (eqb-true x y e) ∙ ap (λ (t : List ℕ). y ∷ t) h
+    go false e h = refl

@@ -31,7 +31,7 @@ use Rattle.term_dict.specs.Terms.{Term, no_term, last_term, term_after}
 use Rattle.term_dict.specs.Dictionary.{Dictionary, Standing, anywhere, Progress, no_terms, with_term, term_conditions, is_past, term_kind, terms_plan, dictionary_plan}
 use Rattle.term_dict.specs.Last.{IsSound, Fits}
 use Rattle.term_dict.specs.Content.{content, IsRead}
-use Rattle.term_dict.specs.Walk.{at_place, IsAt, Shares, walk_in}
+use Rattle.term_dict.specs.Walk.{at_place, IsAt}
 use Rattle.term_dict.proofs.FileLemmas.{record_at-was, dictionary_of, finish, inner}
 
 -- ---- the header
@@ -76,7 +76,7 @@ pub record IsGoodEntry (standing : Standing) (interval : ℕ) (s : Progress) (c 
   pub good : first_broken (term_conditions standing s.terms e) ≡ None
   pub whole_record : record_at ((term_kind standing interval).shape s) ((term_kind standing interval).conditions s c.place) c ≡ ok_pair (entry e) d
 
-good_entry : (standing : Standing) (interval : ℕ) (s : Progress) (c : Cursor) (line : Line Entry) (d : Cursor) → record_at ((term_kind standing interval).shape s) ((term_kind standing interval).conditions s c.place) c ≡ ok_pair line d
+pub good_entry : (standing : Standing) (interval : ℕ) (s : Progress) (c : Cursor) (line : Line Entry) (d : Cursor) → record_at ((term_kind standing interval).shape s) ((term_kind standing interval).conditions s c.place) c ≡ ok_pair line d
     → (e : Entry) × IsGoodEntry standing interval s c e d × (line ≡ entry e)
 good_entry standing interval s c line d e =
     let was = record_at-was ((term_kind standing interval).shape s) ((term_kind standing interval).conditions s c.place) c line d e in
@@ -143,14 +143,14 @@ pub record AllRead (bytes : List ℕ) (numbers : TermNumbers) (z : Progress) (d 
   pub whole_file : length d.rest ≡ 0
   pub inside : 24 ≤ length bytes
 
-was_ok : {A : Type 0} (place : ℕ) (r : Result A ℕ) (x : A) → broken_at place r ≡ ok_of x → r ≡ ok_of x
+pub was_ok : {A : Type 0} (place : ℕ) (r : Result A ℕ) (x : A) → broken_at place r ≡ ok_of x → r ≡ ok_of x
 was_ok place (Ok y) x e = ap (λ (t : _). ok_of t) (inner y x e)
 was_ok place (Err rule) x e = absurd (err_is_not_ok e)
 
 abbrev broken_of : ℕ → ℕ → Broken
 broken_of place rule = record { offset = place; rule = rule }
 
-was_ended : {V : Type 0} (x : V × Cursor) (v : V) → ended x ≡ ok_of v → (x.0 ≡ v) × (length x.1.rest ≡ 0)
+pub was_ended : {V : Type 0} (x : V × Cursor) (v : V) → ended x ≡ ok_of v → (x.0 ≡ v) × (length x.1.rest ≡ 0)
 was_ended {V} x v e = go (eqb (length x.1.rest) 0) refl e
   where
     go : (b : Bool) → eqb (length x.1.rest) 0 ≡ b → (if b then ok_of x.0 else err_of (broken_of x.1.place number.trailing)) ≡ ok_of v → (x.0 ≡ v) × (length x.1.rest ≡ 0)
@@ -381,14 +381,3 @@ pub next_there : (bytes : List ℕ) (numbers : TermNumbers) (capacity passed pla
 next_there bytes numbers capacity passed place last c bad h w more at unread =
     let next = next_term bytes numbers capacity passed place last h.fits h w (omega (arith, w.few, more)) in
     err_is_not_ok (sym unread ∙ ap (λ (x : Cursor). read_shape (entry_shape false numbers.skip_interval) x) at ∙ next.read)
-
--- the next text begins with so many bytes of the one before
-pub shares_next : (bytes : List ℕ) (numbers : TermNumbers) (capacity passed place place_after : ℕ) (last next : Term) (e : Entry) → IsRead bytes numbers capacity → IsAt bytes numbers passed place last → IsAt bytes numbers (passed + 1) place_after next
-    → next ≡ term_after last e → e.prefix ≤ length last.text → Shares e.prefix (walk_in bytes (passed + 1))
-shares_next bytes numbers capacity passed place place_after last next e h w after is le =
-    let n = e.prefix in
-    let new = passed-terms bytes numbers capacity (passed + 1) place_after next h.fits h after in
-    let old = passed-terms bytes numbers capacity passed place last h.fits h w in
-    ap (λ (t : Term). take n t.text) (new ∙ is)
-    ∙ take-append-le n (take n last.text) e.suffix (omega (arith, length-take-le n last.text le)) ∙ take_all n (take n last.text) (omega (arith, length-take-le n last.text le))
-    ∙ ap (λ (t : Term). take n t.text) (sym old) ∙ ap (λ (k : ℕ). take n (last_term (take k (content bytes).terms)).text) (let k : passed ≡ passed + 1 - 1 = omega arith in k)

@@ -3,10 +3,12 @@ pub mod Checks
 pub mod Content
 pub mod Dictionary
 pub mod Entries
+pub mod Facts
 pub mod Headings
 pub mod Index
 pub mod Last
 pub mod Laws
+pub mod Shared
 pub mod Terms
 pub mod Walk
 pub mod Writing

@@ -17,6 +17,10 @@ pub record Walk : Type 0 where
 abbrev pub walk_of : Dictionary → Walk
 walk_of dictionary = record { dictionary = dictionary; passed = 0 }
 
+-- before the term with a number
+abbrev pub walk_to : Dictionary → ℕ → Walk
+walk_to dictionary passed = record { dictionary = dictionary; passed = passed }
+
 -- one term further
 abbrev pub passed_on : Walk → Walk
 passed_on w = record { dictionary = w.dictionary; passed = w.passed + 1 }
@@ -28,10 +32,6 @@ term_passed w = last_term (take w.passed w.dictionary.terms)
 -- where the next term starts, and after the last one the length of the file
 abbrev pub next_place : Walk → ℕ
 next_place w = slice_index_or w.dictionary.starts w.passed w.dictionary.size
-
--- so many bytes of the last text are those of the text before it
-abbrev pub Shares : ℕ → Walk → Type 0
-Shares n w = take n (term_passed w).text ≡ take n (last_term (take (w.passed - 1) w.dictionary.terms)).text
 
 -- the walk over the terms of these bytes
 abbrev pub walk_in : List ℕ → ℕ → Walk

@@ -1,5 +1,5 @@
 //! A file of terms that was checked (format page, "Terms").
-ghost use Rattle.std.specs.Prelude.{◌≡◌, ◌<◌, ◌^◌, length, IfOk, IfErr};
+ghost use Rattle.std.specs.Prelude.{◌≡◌, ◌<◌, ◌^◌, All, length, IfOk, IfErr};
 ghost use Rattle.lu_grammar.specs.Meaning.{Reads};
 ghost use Rattle.lu_types.specs.declared.kind.FileKind.TheVariants.{Tis};
 ghost use Rattle.term_dict.specs.Dictionary.{tis_plan};
@@ -64,6 +64,7 @@ impl<'a> TermFile<'a> {
         ensures bounded { AreBounded result }
         ensures count { length self.now.terms ≡ result.count }
         ensures starts { length self.now.starts ≡ result.count }
+        ensures places { All (λ place. place < 2 ^ 31) self.now.starts }
     {
         self.numbers
     }

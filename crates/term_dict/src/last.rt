@@ -2,6 +2,7 @@
 ghost use Rattle.std.specs.Prelude.{◌≡◌, ◌+◌, ◌^◌, ◌<◌, ◌≤◌, ◌++◌, ◌==◌, List, length, take, MatchOption, IfOk, OnOk, IsOk, None, vec_capacity};
 ghost use Rattle.std.specs.Str.{IsUtf8, is_utf8};
 ghost use Rattle.lu_grammar.specs.Records.{first_broken};
+ghost use Rattle.term_dict.specs.Canonical.{shared};
 ghost use Rattle.term_dict.specs.Entries.{entry_of, IsBounded};
 ghost use Rattle.term_dict.specs.Terms.{Term, no_term, last_term, term_after, is_above};
 ghost use Rattle.term_dict.specs.Dictionary.{within, place_conditions, term_conditions};
@@ -9,6 +10,7 @@ ghost use Rattle.term_dict.specs.Last.{term_of, IsSound, Fits};
 
 use crate::entry::TermEntry;
 use crate::order::{is_indexed, names_cmp, tail_cmp};
+use crate::spelling::shared_len;
 use lu_prims::OutOfMemory;
 use lu_types::rules::{DOC_FREQ, TERM_FIELD, TERM_ORDER, TERM_PLACE, TERM_PREFIX, TERM_UTF8};
 use lu_types::{FieldTable, TermInfo};
@@ -121,12 +123,22 @@ impl LastTerm {
     /// Makes it the term with this text, for which there is room, and of which this is said.
     pub(crate) fn set(&mut self, text: &[u8], info: &TermInfo)
         requires { length text.now ≤ vec_capacity self.old.text }
-        ensures { term_of self.new ≡ record { text = text.now; info = info.now } }
+        ensures term { term_of self.new ≡ record { text = text.now; info = info.now } }
+        ensures room { vec_capacity self.old.text ≤ vec_capacity self.new.text }
     {
         if follow(&mut self.text, 0, text).is_err() {
             unreachable!();
         }
         self.info = *info;
+    }
+
+    /// How many bytes the text of an entry that is good after the term begins with, which this text begins with too.
+    pub(crate) fn shared_with(&self, entry: &TermEntry<'_>) -> usize
+        requires { entry.now.prefix ≤ length self.now.text.items }
+        ensures { result ≡ shared (term_of self.now).text (term_after (term_of self.now) (entry_of entry.now)).text }
+    {
+        let kept = entry.prefix as usize;
+        kept + shared_len(self.text.as_slice().split_at(kept).1, entry.suffix)
     }
 
     /// Makes the term that of an entry which is good after it, where there is room for the text.

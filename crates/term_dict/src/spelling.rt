@@ -11,8 +11,9 @@ use lu_prims::{OutOfMemory, put_i32, put_i64, put_vint, put_vlong};
 use lu_types::TermInfo;
 
 /// How many bytes two texts begin with alike.
-fn shared_len(a: &[u8], b: &[u8]) -> usize
+pub(crate) fn shared_len(a: &[u8], b: &[u8]) -> usize
     ensures value { result ≡ shared a.now b.now }
+    ensures front { result ≤ length a.now }
     ensures within { result ≤ length b.now }
 {
     let most = a.len().min(b.len());

@@ -219,7 +219,6 @@ fn walks(rt: HostRuntime) -> Result<(), Fail> {
         assert_eq!(rt; cursor.next(), Some(once(0, number)));
         let text = format!(in alloc; "t{:03}", number)?;
         assert_eq!(rt; cursor.text(), text.as_str());
-        assert!(rt; cursor.shared() < 4);
         if number == 127 {
             assert_eq!(rt; cursor.place(), 936);
         }

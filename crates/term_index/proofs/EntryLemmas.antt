@@ -58,7 +58,7 @@ same_term-true a b e =
     ap (λ (t : List ℕ). term_with t a.info) (bytes_eq-true a.text b.text p.0) ∙ ap (term_with b.text) (same_info-true a.info b.info p.1)
 
 -- a good entry stands for what is wanted
-good_entry : (last : Term) (place : ℕ) (e : IndexEntry) (wanted : Term) (wanted_place : ℕ) → first_broken (index_against last place e wanted wanted_place) ≡ None → (term_after last e.term ≡ wanted) × (place + e.step ≡ wanted_place)
+pub good_entry : (last : Term) (place : ℕ) (e : IndexEntry) (wanted : Term) (wanted_place : ℕ) → first_broken (index_against last place e wanted wanted_place) ≡ None → (term_after last e.term ≡ wanted) × (place + e.step ≡ wanted_place)
 good_entry last place e wanted wanted_place good =
     let all = three (ltb (length last.text) e.term.prefix) (not (same_term (term_after last e.term) wanted)) (not (eqb (place + e.step) wanted_place)) number.tii_prefix number.tii_term number.tii_place good in
     (same_term-true (term_after last e.term) wanted (holds _ all.1), eqb-true (place + e.step) wanted_place (holds _ all.2))

@@ -1,5 +1,10 @@
+pub mod DigitLemmas
 pub mod EntryLemmas
+pub mod LoadLemmas
+pub mod MarkLemmas
+pub mod NameLemmas
 pub mod PassLemmas
 pub mod PointLemmas
 pub mod PointLoop
-pub mod SeekLemmas
+pub mod RankLemmas
+pub mod SearchLemmas

@@ -1,21 +1,17 @@
 -- Terms that a walk passes.
-use Rattle.std.proofs.Common.{◌≡◌, ℕ, zero, suc, min, [], ◌∷◌, ◌+◌, ◌-◌, ◌<◌, ◌≤◌, List, length, take, get_or, Option, Some, None, refl, sym, ap, ◌∙◌, arith}
+use Rattle.std.proofs.Common.{◌≡◌, ℕ, zero, suc, min, [], ◌∷◌, ◌+◌, ◌-◌, ◌<◌, ◌≤◌, List, length, take, Option, Some, None, refl, sym, ap, ◌∙◌, arith}
 use Rattle.std.specs.Prelude.{slice_get, slice_index_or}
 use Rattle.std.specs.Option.{option_map}
-use Rattle.std.proofs.lemmas.List.{get_or-take, length-take-le}
 use Rattle.std.proofs.lemmas.Option.{slice_get-get_or}
 use Rattle.lu_types.specs.declared.term.TermInfo.{TermInfo}
-use Rattle.term_dict.specs.Terms.{Term, no_term, last_term}
+use Rattle.term_dict.specs.Terms.{Term, no_term}
 use Rattle.term_dict.proofs.LoopLemmas.{last_term-push}
-use Rattle.term_dict.specs.Walk.{Walk, term_passed, passed_on, Shares}
-use Rattle.term_index.specs.Points.{walk_to, ShareFront}
-
--- the last of so many terms
-pub last_term-take : (terms : List Term) (n : ℕ) → n < length terms → last_term (take (n + 1) terms) ≡ slice_index_or terms n no_term
-last_term-take terms n lt =
-    ap (λ (k : ℕ). get_or (take (n + 1) terms) (k - 1) no_term) (length-take-le (n + 1) terms (omega arith))
-    ∙ ap (λ (k : ℕ). get_or (take (n + 1) terms) k no_term) (let e : n + 1 - 1 ≡ n = omega arith in e)
-    ∙ get_or-take (n + 1) terms n no_term (omega arith)
+use Rattle.term_dict.specs.declared.cursor.NextTerm.{NextTerm}
+use Rattle.term_dict.specs.Shared.{next_after}
+use Rattle.term_dict.specs.Walk.{Walk, term_passed, passed_on, walk_to}
+use Rattle.term_dict.proofs.JumpLemmas.{last_term-take}
+use Rattle.term_dict.proofs.SpellingLemmas.{take-shared}
+use Rattle.term_index.specs.Points.{ShareFront}
 
 take-of_take : (n m : ℕ) (x : List ℕ) → n ≤ m → take n (take m x) ≡ take n x
 take-of_take zero m x le = refl
@@ -27,11 +23,11 @@ take-of_take (suc n) (suc m) (b ∷ bs) le = ap (λ (t : List ℕ). b ∷ t) (ta
 pub take-fewer : (n m : ℕ) (x y : List ℕ) → n ≤ m → take m x ≡ take m y → take n x ≡ take n y
 take-fewer n m x y le e = sym (take-of_take n m x le) ∙ ap (take n) e ∙ take-of_take n m y le
 
-abbrev some_of : TermInfo → Option TermInfo
-some_of info = Some info
+abbrev some_next : NextTerm → Option NextTerm
+some_next next = Some next
 
-abbrev pub none_of : Option TermInfo
-none_of = None
+abbrev none_next : Option NextTerm
+none_next = None
 
 -- so many terms were passed
 pub record HasPassed (start : Walk) (n : ℕ) (w : Walk) (info : TermInfo) (shared : ℕ) : Type 0 where
@@ -47,39 +43,40 @@ HasPassed-none start info shared = record {
 }
 
 -- one term more
-pub HasPassed-more : (start : Walk) (n : ℕ) (w new : Walk) (info : TermInfo) (before : ℕ) (found : TermInfo) (here shared : ℕ) → HasPassed start n w info before → start.passed + n < length start.dictionary.terms
-    → Some found ≡ option_map (λ (t : Term). t.info) (slice_get w.dictionary.terms w.passed) → new ≡ passed_on w → Shares here new → shared ≡ min before here → HasPassed start (n + 1) new found shared
-HasPassed-more start n w new info before found here shared h lt is to shares least =
+pub HasPassed-more : (start : Walk) (n : ℕ) (w new : Walk) (info : TermInfo) (before : ℕ) (found : NextTerm) (shared : ℕ) → HasPassed start n w info before → start.passed + n < length start.dictionary.terms
+    → some_next found ≡ option_map (next_after w) (slice_get w.dictionary.terms w.passed) → new ≡ passed_on w → shared ≡ min before found.shared → HasPassed start (n + 1) new found.info shared
+HasPassed-more start n w new info before found shared h lt is to least =
     let d = start.dictionary in
     let p = start.passed + n in
+    let here = found.shared in
     let walk : new ≡ walk_to d (p + 1) = to ∙ ap passed_on h.walk in
     let at = slice_get-get_or d.terms p no_term lt in
     let term : term_passed new ≡ slice_index_or d.terms p no_term = ap term_passed walk ∙ last_term-take d.terms p lt in
-    let found_is : Some found ≡ Some (slice_index_or d.terms p no_term).info =
-    is ∙ ap (λ (x : Walk). option_map (λ (t : Term). t.info) (slice_get x.dictionary.terms x.passed)) h.walk ∙ ap (λ (o : Option Term). option_map (λ (t : Term). t.info) o) at in
-    let old : (last_term (take (new.passed - 1) new.dictionary.terms)).text ≡ (term_passed w).text =
-    ap (λ (x : Walk). (last_term (take (x.passed - 1) x.dictionary.terms)).text) walk
-    ∙ ap (λ (k : ℕ). (last_term (take k d.terms)).text) (let e : p + 1 - 1 ≡ p = omega arith in e)
-    ∙ ap (λ (x : Walk). (term_passed x).text) (sym h.walk) in
+    let found_is : some_next found ≡ some_next (next_after w (slice_index_or d.terms p no_term)) =
+    is ∙ ap (λ (x : Walk). option_map (next_after w) (slice_get x.dictionary.terms x.passed)) h.walk ∙ ap (option_map (next_after w)) at in
+    let same = some_same found (next_after w (slice_index_or d.terms p no_term)) found_is in
+    let shares : take here (term_passed w).text ≡ take here (term_passed new).text =
+    ap (λ (k : ℕ). take k (term_passed w).text) (ap (λ (x : NextTerm). x.shared) same) ∙ take-shared (term_passed w).text (slice_index_or d.terms p no_term).text
+    ∙ ap (λ (k : ℕ). take k (slice_index_or d.terms p no_term).text) (sym (ap (λ (x : NextTerm). x.shared) same)) ∙ ap (λ (t : Term). take here t.text) (sym term) in
     let later : take shared (term_passed w).text ≡ take shared (term_passed new).text =
-    take-fewer shared here (term_passed w).text (term_passed new).text (omega (arith, least)) (ap (take here) (sym old) ∙ sym shares) in
+    take-fewer shared here (term_passed w).text (term_passed new).text (omega (arith, least)) shares in
     record {
       walk = walk ∙ ap (walk_to d) (let e : p + 1 ≡ start.passed + (n + 1) = omega arith in e);
-      is_last = λ some. some_same found (slice_index_or d.terms p no_term).info found_is ∙ ap (λ (t : Term). t.info) (sym term);
+      is_last = λ some. ap (λ (x : NextTerm). x.info) same ∙ ap (λ (t : Term). t.info) (sym term);
       front = take-fewer shared before (term_passed start).text (term_passed w).text (omega (arith, least)) h.front ∙ later;
     }
   where
-    some_same : (a b : TermInfo) → some_of a ≡ some_of b → a ≡ b
+    some_same : (a b : NextTerm) → some_next a ≡ some_next b → a ≡ b
     some_same a b e = cc
 
 -- there is a term more
 pub HasPassed-there : (start : Walk) (n : ℕ) (w : Walk) (info : TermInfo) (shared : ℕ) → HasPassed start n w info shared → start.passed + n < length start.dictionary.terms
-    → none_of ≡ option_map (λ (t : Term). t.info) (slice_get w.dictionary.terms w.passed) → ⊥
+    → none_next ≡ option_map (next_after w) (slice_get w.dictionary.terms w.passed) → ⊥
 HasPassed-there start n w info shared h lt is =
     let d = start.dictionary in
     let p = start.passed + n in
-    let e : none_of ≡ some_of (slice_index_or d.terms p no_term).info =
-    is ∙ ap (λ (x : Walk). option_map (λ (t : Term). t.info) (slice_get x.dictionary.terms x.passed)) h.walk ∙ ap (λ (o : Option Term). option_map (λ (t : Term). t.info) o) (slice_get-get_or d.terms p no_term lt) in
+    let e : none_next ≡ some_next (next_after w (slice_index_or d.terms p no_term)) =
+    is ∙ ap (λ (x : Walk). option_map (next_after w) (slice_get x.dictionary.terms x.passed)) h.walk ∙ ap (option_map (next_after w)) (slice_get-get_or d.terms p no_term lt) in
     cc
 
 pub ruleset pushing = (last_term-push)

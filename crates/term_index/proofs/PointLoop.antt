@@ -16,10 +16,10 @@ use Rattle.term_dict.specs.Headings.{Line, header, heading, entry, heading_shape
 use Rattle.term_dict.specs.Terms.{Term, no_term}
 use Rattle.term_dict.specs.Dictionary.{Dictionary}
 use Rattle.term_dict.specs.Index.{IndexEntry, IndexProgress, index_kind, no_entries, entry_count, indexed_term, indexed_place, index_heading_conditions, point_after, entries_plan, tii_plan}
-use Rattle.term_dict.specs.Walk.{Walk, term_passed, next_place}
+use Rattle.term_dict.specs.Walk.{Walk, term_passed, next_place, walk_to}
 use Rattle.term_dict.specs.Checks.{AreBounded}
 use Rattle.term_dict.proofs.LineLemmas.{line_at-good, line_at-broken, line_at-unread}
-use Rattle.term_index.specs.Points.{walk_to, progress, IsNextPoint, IsIndexHeader}
+use Rattle.term_index.specs.Points.{progress, IsNextPoint, IsIndexHeader}
 
 -- ---- the header
 
@@ -98,7 +98,7 @@ turn d numbers n k w after wanted same bounded starts lt walk to is =
 -- ---- the whole file
 
 -- nothing more after the entries
-abbrev finish : IndexProgress → Plan (Unit {0}) (Line IndexEntry)
+abbrev pub finish : IndexProgress → Plan (Unit {0}) (Line IndexEntry)
 finish s = done tt
 
 pub index-header-good : (d : Dictionary) (numbers : TermNumbers) (c after : Cursor) → numbers ≡ d.numbers → IsIndexHeader numbers c after None → read_plan (tii_plan d) c ≡ read_plan (entries_plan d) after

@@ -1,2 +1,3 @@
+pub mod InnerSearch
 pub mod Points
 pub mod Seeking

@@ -23,10 +23,6 @@ point_of p = record { term = entry_of p.term; step = p.step }
 abbrev pub IsBoundedPoint : IndexPoint → Type 0
 IsBoundedPoint p = IsBounded p.term × (p.step < 2 ^ 63)
 
--- the walk after so many terms
-abbrev pub walk_to : Dictionary → ℕ → Walk
-walk_to dictionary passed = record { dictionary = dictionary; passed = passed }
-
 -- so many bytes of the last texts of two walks are the same
 abbrev pub ShareFront : ℕ → List ℕ → Walk → Type 0
 ShareFront n text w = take n text ≡ take n (term_passed w).text

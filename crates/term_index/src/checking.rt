@@ -1,10 +1,10 @@
 //! The check of the index, beside a walk over the terms (format page, "Term index").
-ghost use Rattle.std.specs.Prelude.{◌≡◌, ℕ, ◌^◌, ◌<◌, ◌≤◌, length, take, IfOk, IfErr, None, Ok};
+ghost use Rattle.std.specs.Prelude.{◌≡◌, ℕ, ◌+◌, ◌^◌, ◌<◌, ◌≤◌, length, take, IfOk, IfErr, None, Ok};
 ghost use Rattle.std.specs.Str.{bytes_eq};
 ghost use Rattle.lu_grammar.specs.Records.{first_broken};
 ghost use Rattle.lu_types.specs.declared.kind.FileKind.TheVariants.{Tii};
 ghost use Rattle.term_dict.specs.Checks.{AreBounded, IsBrokenSo, IsFaultOf, broken_so};
-ghost use Rattle.term_dict.specs.Terms.{no_term};
+ghost use Rattle.term_dict.specs.Terms.{no_term, term_after};
 ghost use Rattle.term_dict.specs.Entries.{entry_of, IsBounded};
 ghost use Rattle.term_dict.specs.Dictionary.{Dictionary};
 ghost use Rattle.term_dict.specs.Index.{entry_count, same_intervals, same_info, index_heading_conditions, index_against, index_conditions, indexed_term, indexed_place, IndexProgress, index_kind, no_entries, tii_plan};
@@ -26,7 +26,7 @@ use term_dict::{
 };
 
 /// How many entries the index of so many terms has: one for each interval that has begun.
-fn entry_count(numbers: &TermNumbers) -> u32
+pub(crate) fn entry_count(numbers: &TermNumbers) -> u32
     requires { AreBounded numbers.now }
     ensures { result ≡ entry_count numbers.now }
 {
@@ -84,15 +84,15 @@ fn is_same_info(last: &TermInfo, entry: &TermEntry<'_>, wanted: &TermInfo) -> bo
 /// The last entry that was read: the text of its term, in the one buffer that each next text is written over, what was said
 /// of it, and its place in the file of terms.
 #[derive(Drop)]
-struct LastPoint {
-    text: Vec<u8>,
-    info: TermInfo,
-    place: u32,
+pub(crate) struct LastPoint {
+    pub(crate) text: Vec<u8>,
+    pub(crate) info: TermInfo,
+    pub(crate) place: u32,
 }
 
 impl LastPoint {
     /// What the first entry follows: no text, and all places 0. Takes no memory.
-    fn new(alloc: Global) -> LastPoint
+    pub(crate) fn new(alloc: Global) -> LastPoint
         ensures last { last_of result ≡ no_term }
         ensures place { result.place ≡ 0 }
     {
@@ -141,6 +141,27 @@ impl LastPoint {
         self.info = passed.info;
         self.place = place;
         Ok(None)
+    }
+
+    /// Makes it an entry whose numbers stay within their limits.
+    pub(crate) fn advance(&mut self, point: &IndexPoint<'_>) -> Result<(), OutOfMemory>
+        requires freq { self.old.info.freq + point.now.term.freq < 2 ^ 32 }
+        requires prox { self.old.info.prox + point.now.term.prox < 2 ^ 32 }
+        requires place { self.old.place + point.now.step < 2 ^ 32 }
+        ensures term { IfOk result (λ _. last_of self.new ≡ term_after (last_of self.old) (entry_of point.now.term)) }
+        ensures place { IfOk result (λ _. self.new.place ≡ self.old.place + point.now.step) }
+    {
+        let term = &point.term;
+        follow(&mut self.text, term.prefix as usize, term.suffix)?;
+        self.info = TermInfo {
+            field: term.field,
+            doc_freq: term.doc_freq,
+            freq: (u64::from(self.info.freq) + term.freq) as u32,
+            prox: (u64::from(self.info.prox) + term.prox) as u32,
+            skip: term.skip,
+        };
+        self.place = (u64::from(self.place) + point.step) as u32;
+        Ok(())
     }
 }
 

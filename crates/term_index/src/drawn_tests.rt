@@ -369,17 +369,17 @@ fn holds_terms<'a>(
 ) -> Result<(), Fail> {
     let tis = files.tis.as_slice();
     assert!(rt; tis.len() < 10_000);
-    let terms = TermFile::check_tis(alloc, tis, &fields, DOCUMENTS)
-        .ok()
-        .ok_or("good terms")?;
+    let Ok(terms) = TermFile::check_tis(alloc, tis, &fields, DOCUMENTS) else {
+        return Err(Fail::from("good terms"));
+    };
     let mut cursor = terms.cursor(alloc)?;
     walks(rt, &mut cursor, handed);
     cursor.rewind();
     walks(rt, &mut cursor, handed);
     let tii = files.tii.as_slice();
-    if check_tii(alloc, tii, &terms).is_err() {
+    let Ok(()) = check_tii(alloc, tii, &terms) else {
         return Err(Fail::from("a good index"));
-    }
+    };
     let mut index = TermIndex::load(alloc, tii, &terms, &fields)?;
     finds_each(rt, &mut index, handed);
     finds_drawn(rt, alloc, draw, &mut index, handed)?;

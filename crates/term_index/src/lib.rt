@@ -5,7 +5,11 @@ mod checking;
 #[cfg(test)]
 mod drawn_tests;
 mod index;
+mod loading;
+mod mark;
+mod names;
 mod point;
+mod search;
 #[cfg(test)]
 mod tests;
 mod walk;

@@ -30,17 +30,22 @@ fn once(place: u32) -> TermInfo
     }
 }
 
-/// The files of the terms `t000`, `t001` and so on, each in one document, with its number for both places, and an index of
-/// every second one.
+/// The files of terms of a text and three digits, `000`, `001` and so on, each in one document, with its number for both
+/// places, and an index of every so many.
 #[tactic(auto, using(crate::proofs::PassLemmas::pushing))]
-fn numbered(alloc: Global, count: u32, interval: u32) -> Result<TermFiles, OutOfMemory>
+fn numbered(
+    alloc: Global,
+    name: &str,
+    count: u32,
+    interval: u32,
+) -> Result<TermFiles, OutOfMemory>
     requires count { count ≤ 1000 }
     requires some { 1 ≤ interval }
     requires few { interval ≤ 1000 }
 {
     let mut writer = TermWriter::new(alloc, interval, 16, 10)?;
     for number in 0..count {
-        let text = format!(in alloc; "t{:03}", number)?;
+        let text = format!(in alloc; "{}{:03}", name, number)?;
         if text.len() < 100 {
             writer.add(text.as_str(), &once(number))?;
         }
@@ -78,7 +83,7 @@ fn fault_of(alloc: Global, tii: &[u8], terms: &TermFile<'_>) -> Result<(u64, u16
 #[test]
 fn faults(rt: HostRuntime) -> Result<(), Fail> {
     let alloc = rt.alloc();
-    let files = numbered(alloc, 3, 2)?;
+    let files = numbered(alloc, "t", 3, 2)?;
     let tis = files.tis.as_slice();
     assert!(rt; tis.len() <= 9999);
     let fields = one_field(alloc)?;
@@ -120,10 +125,30 @@ fn faults(rt: HostRuntime) -> Result<(), Fail> {
     Ok(())
 }
 
+/// The terms of files that are good, to be sought.
+fn loaded<'a>(
+    alloc: Global,
+    files: &'a TermFiles,
+    fields: &FieldTable<'a>,
+) -> Result<TermIndex<'a>, Fail> {
+    let tis = files.tis.as_slice();
+    if tis.len() > 99_999 {
+        return Err(Fail::from("a small file"));
+    }
+    let Ok(terms) = TermFile::check_tis(alloc, tis, fields, 1) else {
+        return Err(Fail::from("good terms"));
+    };
+    let tii = files.tii.as_slice();
+    let Ok(()) = check_tii(alloc, tii, &terms) else {
+        return Err(Fail::from("a good index"));
+    };
+    Ok(TermIndex::load(alloc, tii, &terms, fields)?)
+}
+
 #[test]
-fn seeks(rt: HostRuntime) -> Result<(), Fail> {
+fn cuts(rt: HostRuntime) -> Result<(), Fail> {
     let alloc = rt.alloc();
-    let files = numbered(alloc, 129, 128)?;
+    let files = numbered(alloc, "t", 129, 128)?;
     let tis = files.tis.as_slice();
     let tii = files.tii.as_slice();
     assert!(rt; tis.len() <= 9999);
@@ -139,17 +164,59 @@ fn seeks(rt: HostRuntime) -> Result<(), Fail> {
         };
         assert_eq!(rt; fault_of(alloc, tii.split_at(cut).0, &terms)?, (start, 1));
     }
-    if check_tii(alloc, tii, &terms).is_err() {
-        return Err(Fail::from("a good index"));
+    Ok(())
+}
+
+#[test]
+fn seeks(rt: HostRuntime) -> Result<(), Fail> {
+    let alloc = rt.alloc();
+    let files = numbered(alloc, "t", 129, 128)?;
+    let fields = one_field(alloc)?;
+    let mut index = loaded(alloc, &files, &fields)?;
+    // One entry is compared, and then terms are read up to the first that is not below.
+    for (field, text, found, count) in [
+        ("f", "t000", Some(once(0)), 2),
+        ("f", "t127", Some(once(127)), 129),
+        ("f", "t128", Some(once(128)), 2),
+        ("f", "t1270", None, 2),
+        ("f", "t129", None, 2),
+        ("g", "t000", None, 2),
+        ("e", "t000", None, 2),
+        ("f", "", None, 2),
+    ] {
+        let mut steps: Steps<Compared> = Steps::new();
+        assert_eq!(rt; index.seek(field, text, &mut steps), found);
+        assert_eq!(rt; steps.count(), count);
     }
-    let mut index = TermIndex::load(alloc, tii, &terms, &fields)?;
-    let mut steps: Steps<Compared> = Steps::new();
-    assert_eq!(rt; index.seek("f", "t128", &mut steps), Some(once(128)));
-    assert_eq!(rt; steps.count(), 129);
-    assert_eq!(rt; index.seek("f", "t000", &mut steps), Some(once(0)));
-    assert_eq!(rt; steps.count(), 130);
-    assert!(rt; index.seek("f", "t129", &mut steps).is_none());
-    assert!(rt; index.seek("f", "t1280", &mut steps).is_none());
-    assert!(rt; index.seek("g", "t000", &mut steps).is_none());
+    Ok(())
+}
+
+#[test]
+fn seeks_each(rt: HostRuntime) -> Result<(), Fail> {
+    let alloc = rt.alloc();
+    let fields = one_field(alloc)?;
+    for (count, interval, most) in [
+        (1000, 4, 13),
+        (0, 128, 129),
+        (1, 128, 130),
+        (5, 1, 5),
+        (5, 9, 11),
+    ] {
+        let files = numbered(alloc, "t0", count, interval)?;
+        let mut index = loaded(alloc, &files, &fields)?;
+        for number in 0..count {
+            let text = format!(in alloc; "t0{:03}", number)?;
+            let past = format!(in alloc; "t0{:03}~", number)?;
+            let mut steps: Steps<Compared> = Steps::new();
+            assert_eq!(rt; index.seek("f", text.as_str(), &mut steps), Some(once(number)));
+            assert!(rt; steps.count() <= most);
+            let mut steps: Steps<Compared> = Steps::new();
+            assert!(rt; index.seek("f", past.as_str(), &mut steps).is_none());
+            assert!(rt; steps.count() <= most);
+        }
+        let mut steps: Steps<Compared> = Steps::new();
+        assert!(rt; index.seek("f", "t", &mut steps).is_none());
+        assert!(rt; index.seek("f", "u", &mut steps).is_none());
+    }
     Ok(())
 }

@@ -1,7 +1,7 @@
 ghost use Rattle.std.specs.Prelude.{◌≡◌, ◌+◌, ◌-◌, ◌*◌, ◌<◌, ◌≤◌, length, take};
 ghost use Rattle.term_dict.specs.Index.{point_after};
-ghost use Rattle.term_dict.specs.Walk.{term_passed};
-ghost use Rattle.term_index.specs.Points.{walk_to, ShareFront, wanted_of};
+ghost use Rattle.term_dict.specs.Walk.{term_passed, walk_to};
+ghost use Rattle.term_index.specs.Points.{ShareFront, wanted_of};
 
 use lu_types::TermInfo;
 use term_dict::TermCursor;
@@ -36,11 +36,11 @@ pub(crate) fn pass_terms(cursor: &mut TermCursor<'_>, count: u32) -> Passed
         shared: usize::MAX,
     };
     for _ in 0..count {
-        let Some(info) = cursor.next() else {
+        let Some(next) = cursor.next_shared() else {
             unreachable!();
         };
-        passed.info = info;
-        passed.shared = passed.shared.min(cursor.shared());
+        passed.info = next.info;
+        passed.shared = passed.shared.min(next.shared);
     }
     passed
 }

@@ -11,5 +11,4 @@ invariant_of-result c =
     let h = c.requires in (
       IsRead-roomier c.args.tis.now c.args.numbers c.args.longest (vec_capacity last.text) h c.in_ok-with_room.ensures.room,
       start_at c.args.tis.now c.args.numbers c.args.longest (term_of last) h.fits h c.in_ok-with_room.ensures.term (IsSound-none _ c.in_ok-with_room.ensures.term),
-      refl,
     )

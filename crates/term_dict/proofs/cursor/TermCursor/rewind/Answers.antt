@@ -11,5 +11,4 @@ invariant_of-self c =
     let h = c.self.invariant.0 in (
       IsRead-roomier i.tis.now i.numbers (vec_capacity i.last.text) (vec_capacity c.reset.new.self.text) h c.reset.ensures.room,
       start_at i.tis.now i.numbers (vec_capacity i.last.text) (term_of c.reset.new.self) h.fits h c.reset.ensures.term (IsSound-none _ c.reset.ensures.term),
-      refl,
     )

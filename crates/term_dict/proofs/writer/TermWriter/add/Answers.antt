@@ -41,7 +41,7 @@ pub invariant_of-self-2 : goal.invariant_of-self-2
 invariant_of-self-2 c =
     let i = c.self.inside in
     subst (λ (t : Term). IsWritten (written_in i.index_interval i.skip_interval i.max_levels (i.count + 1) c.append_term.new.out.items) c.append_term.new.out.items t c.pass-passed.new.self.bytes.items (last_point c.pass-passed.new.self) (i.count + 1))
-    (sym (c.set.ensures ∙ ap (λ (text : List ℕ). term_with text c.args.info.now) c.as_bytes-2.ensures.value)) (added c).written
+    (sym (c.set.ensures.term ∙ ap (λ (text : List ℕ). term_with text c.args.info.now) c.as_bytes-2.ensures.value)) (added c).written
 
 pub returns-clause-ok : goal.returns-clause-ok
 returns-clause-ok c =

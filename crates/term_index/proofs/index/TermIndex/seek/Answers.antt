@@ -1,15 +1,72 @@
-use Rattle.std.proofs.Common.{◌≡◌, ℕ, Option, None, sym, ap, ◌∙◌}
-use Rattle.std.specs.Option.{option_map}
-use Rattle.std.specs.List.{find}
-use Rattle.lu_types.specs.Tables.{number_of}
-use Rattle.term_dict.specs.Terms.{Term}
-use Rattle.term_index.specs.Seeking.{is_sought, Searched}
-use Rattle.term_index.proofs.SeekLemmas.{find-no_field}
+use Rattle.std.proofs.Common.{◌≡◌, ◌≤◌, ℕ, ◌+◌, ◌-◌, ◌*◌, List, length, map, sym, ap, subst, ◌∙◌, arith}
+use Rattle.term_dict.specs.Dictionary.{Dictionary}
+use Rattle.term_dict.specs.Index.{entry_count}
+use Rattle.term_dict.specs.Walk.{Walk}
+use Rattle.term_index.specs.declared.mark.Mark.{Mark}
+use Rattle.term_index.specs.declared.search.Sought.{Sought}
+use Rattle.term_index.specs.Seeking.{Searched, searched, rank, interval_of, digits, read_up_to, seek_steps, most_steps, ticked}
+use Rattle.term_index.specs.InnerSearch.{IsSearchable, AreBelow, mark_of, marks_to}
+use Rattle.term_index.proofs.MarkLemmas.{below-marks, interval-before, steps-few, steps-all}
 use Rattle.term_index.proofs.index.TermIndex.seek.Goals as goal
 
-pub returns-in_default-clause-term : goal.returns-in_default-clause-term
-returns-in_default-clause-term g c =
-    let terms = c.args.self.now.dictionary.terms in
+-- the entries that are below, as a slice
+below-slice : (s : Searched) (sought : Sought) (marks slice : List Mark) → slice ≡ marks → IsSearchable s → map mark_of marks ≡ marks_to s (entry_count s.dictionary.numbers - 1) → AreBelow sought slice (interval_of s.dictionary (rank s sought.field.now sought.text.now))
+below-slice s sought marks slice is h kept = subst (λ (ms : List Mark). AreBelow sought ms (interval_of s.dictionary (rank s sought.field.now sought.text.now))) (sym is) (below-marks s sought marks h kept)
+
+pub enter_interval-requires-clause-number : goal.enter_interval-requires-clause-number
+enter_interval-requires-clause-number g c =
+    let i = c.self.inside in
+    let s = searched i.cursor.dictionary i.names in
+    let sought : Sought = record { field = c.args.field; text = c.args.text } in
+    let below = below-slice s sought i.marks.items c.as_slice.result.now c.as_slice.ensures.value c.self.invariant.0 c.self.invariant.2 in
+    let number = c.count_below-number.ensures.count _ below in
+    omega (arith, number, below.few, ap length c.as_slice.ensures.value, ap length c.as_slice-2.ensures.value)
+
+pub find_from-requires-clause-before : goal.find_from-requires-clause-before
+find_from-requires-clause-before g c =
+    let i = c.self.inside in
+    let d = i.cursor.dictionary in
+    let s = searched d i.names in
+    let field = c.args.field.now in
     let text = c.args.text.now in
-    let none : number_of c.args.field.now c.args.self.now.fields ≡ None = sym (ap (λ (s : Searched). number_of c.args.field.now s.fields) c.self.view_is) ∙ sym c.find.ensures ∙ c.in_default.is in
-    sym (ap (λ (o : Option Term). option_map (λ (x : Term). x.info) o) (ap (λ (n : Option ℕ). find (is_sought n text) terms) none ∙ find-no_field text terms))
+    let sought : Sought = record { field = c.args.field; text = c.args.text } in
+    let below = below-slice s sought i.marks.items c.as_slice.result.now c.as_slice.ensures.value c.self.invariant.0 c.self.invariant.2 in
+    let number = c.count_below-number.ensures.count _ below in
+    let before = interval-before d (rank s field text) (omega (arith, c.self.invariant.0.bounded.index_interval.0)) in
+    let at : c.count_below-number.result * i.index_interval ≡ interval_of d (rank s field text) * d.numbers.index_interval = ap (λ (k : ℕ). k * i.index_interval) number ∙ ap (λ (k : ℕ). interval_of d (rank s field text) * k) c.self.invariant.1 in
+    let le : c.count_below-number.result * i.index_interval ≤ rank s field text = omega (arith, at, before) in
+    subst (λ (w : Walk). w.passed ≤ rank (searched w.dictionary i.names) field text) (sym c.enter_interval.ensures) le
+
+-- the steps of both parts
+steps : (d : Dictionary) (names : List (List ℕ)) (field text : List ℕ) (marks slice : List Mark) (first between last number interval : ℕ) (w : Walk) → map mark_of marks ≡ marks_to (searched d names) (entry_count d.numbers - 1) → slice ≡ marks
+    → number ≡ interval_of d (rank (searched d names) field text) → interval ≡ d.numbers.index_interval → w ≡ record { dictionary = d; passed = number * interval } → between ≡ ticked (digits (length slice)) first
+    → last ≡ ticked (read_up_to w.dictionary (rank (searched w.dictionary names) field text) - w.passed) between → last ≡ ticked (seek_steps (searched d names) field text) first
+steps d names field text marks slice first between last number interval w kept is there same at begun_at ended_at =
+    steps-all (searched d names) field text marks first between last number (number * interval) kept there (ap (λ (k : ℕ). number * k) same) (begun_at ∙ ap (λ (ms : List Mark). ticked (digits (length ms)) first) is)
+    (subst (λ (x : Walk). last ≡ ticked (read_up_to x.dictionary (rank (searched x.dictionary names) field text) - x.passed) between) at ended_at)
+
+pub returns-clause-steps : goal.returns-clause-steps
+returns-clause-steps g c =
+    let i = c.self.inside in
+    let d = i.cursor.dictionary in
+    let s = searched d i.names in
+    let field = c.args.field.now in
+    let text = c.args.text.now in
+    let sought : Sought = record { field = c.args.field; text = c.args.text } in
+    let below = below-slice s sought i.marks.items c.as_slice.result.now c.as_slice.ensures.value c.self.invariant.0 c.self.invariant.2 in
+    let number = c.count_below-number.ensures.count _ below in
+    steps d i.names field text i.marks.items c.as_slice.result.now c.args.steps.now c.count_below-number.new.steps c.find_from.new.steps c.count_below-number.result i.index_interval c.enter_interval.new.cursor c.self.invariant.2 c.as_slice.ensures.value number c.self.invariant.1 c.enter_interval.ensures c.count_below-number.ensures.steps c.find_from.ensures.steps
+    ∙ ap (λ (x : Searched). ticked (seek_steps x field text) c.args.steps.now) c.self.view_is
+
+pub returns-clause-bound : goal.returns-clause-bound
+returns-clause-bound g c =
+    let i = c.self.inside in
+    let d = i.cursor.dictionary in
+    let s = searched d i.names in
+    let field = c.args.field.now in
+    let text = c.args.text.now in
+    let sought : Sought = record { field = c.args.field; text = c.args.text } in
+    let below = below-slice s sought i.marks.items c.as_slice.result.now c.as_slice.ensures.value c.self.invariant.0 c.self.invariant.2 in
+    let number = c.count_below-number.ensures.count _ below in
+    let all = steps d i.names field text i.marks.items c.as_slice.result.now c.args.steps.now c.count_below-number.new.steps c.find_from.new.steps c.count_below-number.result i.index_interval c.enter_interval.new.cursor c.self.invariant.2 c.as_slice.ensures.value number c.self.invariant.1 c.enter_interval.ensures c.count_below-number.ensures.steps c.find_from.ensures.steps in
+    subst (λ (x : Searched). c.find_from.new.steps ≤ c.args.steps.now + most_steps x.dictionary) c.self.view_is (steps-few s field text c.args.steps.now c.find_from.new.steps c.self.invariant.0 all)

@@ -123,6 +123,6 @@ written_fdx : fdx_bytes hello ≡ fdx
 unfolding hello
 written_fdx = refl
 
-written_fdt : fdt_bytes 0 hello ≡ fdt 0 1
+written_fdt : fdt_bytes hello ≡ fdt 0 1
 unfolding hello groups
 written_fdt = refl

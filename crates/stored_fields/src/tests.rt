@@ -145,6 +145,7 @@ fn reads(rt: &impl Abort, alloc: Global) -> Result<(), Fail> {
     else {
         panic!(rt; "the files have a fault");
     };
+    let view = view.again();
     assert!(rt; view.documents() == 2);
     let mut document = view.doc(0);
     let first = StoredRef {

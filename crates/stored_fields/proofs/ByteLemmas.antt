@@ -1,6 +1,6 @@
 -- What is written are bytes.
-use Rattle.std.proofs.Common.{◌≡◌, ℕ, ◌<◌, List, [], ◌∷◌, length, get_or, zero, suc, arith}
-use Rattle.std.specs.Prelude.{All, FitsSigned}
+use Rattle.std.proofs.Common.{ℕ, List, ◌∷◌, length, get_or, zero, suc, arith}
+use Rattle.std.specs.Prelude.{FitsSigned}
 use Rattle.std.specs.List.{flat_map}
 use Rattle.std.specs.Int.{w32}
 use Rattle.lu_types.specs.declared.stored.Stored.{Stored}

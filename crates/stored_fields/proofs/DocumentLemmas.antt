@@ -10,7 +10,7 @@ use Rattle.lu_grammar.specs.Records.{whole, first_broken, rule_of, read_shape, r
 use Rattle.lu_types.specs.declared.kind.FileKind.TheVariants.{Fdt}
 use Rattle.lu_types.specs.declared.fault.Spot.{Spot}
 use Rattle.lu_types.specs.Judging.{IsBroken}
-use Rattle.lu_grammar.specs.Plans.{Plan, done, and_then, times, one, each, Broken, read_plan, ended, read_file}
+use Rattle.lu_grammar.specs.Plans.{Plan, done, times, one, each, Broken, read_plan, ended, read_file}
 use Rattle.lu_grammar.proofs.Codecs.{ok_pair, record_at-read, record_at-breaks, record_at-unread, read_due, read_due_broken, read_plan-and_then, times-more, times-fault, each-none, each-more, each-fault, alone_read, alone_breaks, nothing_left, trailing}
 use Rattle.lu_grammar.proofs.Loops.{read_shape-followed}
 use Rattle.stored_fields.specs.Format.{store_format, is_other_store_format}

@@ -1,8 +1,6 @@
 -- Only the files that the writer gives are read as stored documents.
-use Rattle.std.proofs.Common.{◌≡◌, ℕ, zero, suc, drop, ◌<◌, ◌≤◌, ◌+◌, Bool, true, false, not, List, [], ◌∷◌, ◌++◌, length, map, get_or, None, Some, refl, sym, ap, subst, ◌∙◌, arith, append_assoc, ℤ, pos}
+use Rattle.std.proofs.Common.{◌≡◌, ℕ, zero, suc, drop, ◌<◌, ◌≤◌, ◌+◌, Bool, true, false, List, [], ◌∷◌, ◌++◌, length, map, get_or, None, Some, refl, sym, ap, subst, ◌∙◌, arith, append_assoc, ℤ, pos}
 use Rattle.std.specs.List.{flat_map, last_or}
-use Rattle.std.specs.Ordering.{int_eq}
-use Rattle.std.proofs.lemmas.Bool.Decides.{Decides-int_eq}
 use Rattle.std.proofs.lemmas.Bool.{le-leb, lt-ltb}
 use Rattle.std.specs.Prelude.{nat_le, nat_lt}
 use Rattle.std.proofs.lemmas.List.{append-nil, length-append, length-take, get_or-take, get_or-drop, nil_from_length}
@@ -17,7 +15,7 @@ use Rattle.lu_grammar.proofs.Codecs.{ok_pair, same_pair, ok_of, reads-read_plan,
 use Rattle.lu_grammar.proofs.Loops.{one-was}
 use Rattle.stored_fields.specs.Format.{store_format, header_length, format_shape, is_other_store_format}
 use Rattle.stored_fields.specs.Values.{Document, HasFields}
-use Rattle.stored_fields.specs.Places.{is_past_store, fdx_header_conditions, place_shape, fdx_place_conditions, places_kind, fdx_plan}
+use Rattle.stored_fields.specs.Places.{fdx_header_conditions, place_shape, fdx_place_conditions, places_kind, fdx_plan}
 use Rattle.stored_fields.specs.Documents.{FdtRecord, header_shape, format_conditions, is_within, next_document, fdt_plan}
 use Rattle.stored_fields.specs.Stores.{store_files, windowed}
 use Rattle.stored_fields.specs.Writing.{IsStorableDocument, AreStorable, document_bytes, fdt_bytes, places_from, place_bytes, fdx_bytes}

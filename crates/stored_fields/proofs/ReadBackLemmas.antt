@@ -10,7 +10,7 @@ use Rattle.std.proofs.lemmas.Bool.Decides.{Decides-int_eq}
 use Rattle.stored_fields.proofs.HeldLemmas.{places_many}
 use Rattle.std.proofs.lemmas.List.{append-nil, length-append, get_or-take, get_or-drop, length-take, length-drop}
 use Rattle.lu_types.specs.declared.stored.Window.{Window}
-use Rattle.lu_grammar.specs.Parts.{int32, int64, num, groups, spelling}
+use Rattle.lu_grammar.specs.Parts.{int32, num, groups, spelling}
 use Rattle.lu_grammar.specs.Records.{first_broken}
 use Rattle.lu_grammar.specs.Plans.{done, and_then, one, times, each, read_file}
 use Rattle.lu_grammar.proofs.Codecs.{Writes, Writes-due, Writes-done, Writes-and_then, Writes-none, read_file-Writes}

@@ -1,5 +1,5 @@
 -- A store whose files have no fault.
-use Rattle.std.proofs.Common.{◌≡◌, ℕ, ◌+◌, ◌*◌, ◌<◌, ◌≤◌, List, [], length, drop, get_or, Result, Ok, Err, refl, sym, ap, subst, ◌∙◌, arith, ℤ, pos, inl, inr}
+use Rattle.std.proofs.Common.{◌≡◌, ℕ, ◌+◌, ◌*◌, ◌<◌, ◌≤◌, List, [], length, drop, get_or, Ok, Err, sym, ap, subst, ◌∙◌, arith, ℤ, pos}
 use Rattle.std.proofs.lemmas.List.{length-take, length-drop, get_or-take, get_or-drop}
 use Rattle.lu_types.specs.declared.stored.Window.{Window}
 use Rattle.lu_grammar.specs.Bytes.{IsBytes, Cursor}
@@ -7,7 +7,6 @@ use Rattle.lu_grammar.specs.Parts.{int64, num}
 use Rattle.lu_grammar.specs.Reading.{read, read_part, value_or}
 use Rattle.lu_grammar.specs.declared.bad.Bad.{Bad}
 use Rattle.stored_fields.specs.Remaining.{values_at}
-use Rattle.lu_grammar.specs.Plans.{read_file}
 use Rattle.lu_grammar.specs.Meaning.{Reads}
 use Rattle.lu_grammar.proofs.Codecs.{ok_of, err_is_not_ok, same_pair, read_file-Reads}
 use Rattle.lu_grammar.proofs.Records.{at}

@@ -1,7 +1,7 @@
-use Rattle.std.proofs.Common.{◌≡◌, ◌++◌, rules, length, subst, ◌∙◌}
-use Rattle.stored_fields.specs.Writing.{HeldDocuments, place_bytes}
+use Rattle.std.proofs.Common.{◌≡◌, ◌++◌, rules, length, subst}
+use Rattle.stored_fields.specs.Writing.{place_bytes}
 use Rattle.stored_fields.specs.InnerWriting.{AreHeld}
-use Rattle.stored_fields.proofs.HeldLemmas.{Holds, begun_held}
+use Rattle.stored_fields.proofs.HeldLemmas.{begun_held}
 use Rattle.stored_fields.proofs.writer.StoredWriter.begin.Goals as goal
 
 pub invariant_of-self-in-Ok : goal.invariant_of-self-in-Ok

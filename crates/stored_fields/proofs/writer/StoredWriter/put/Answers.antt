@@ -1,4 +1,4 @@
-use Rattle.std.proofs.Common.{◌<◌, subst, arith}
+use Rattle.std.proofs.Common.{subst}
 use Rattle.stored_fields.specs.Entries.{lent_field}
 use Rattle.stored_fields.specs.InnerWriting.{AreHeld}
 use Rattle.stored_fields.proofs.HeldLemmas.{stored_held}

@@ -8,8 +8,7 @@ use Rattle.lu_grammar.specs.Parts.{int32, int64}
 use Rattle.lu_grammar.specs.Reading.{◌>>=◌, read, read_part, signed_of}
 use Rattle.std.specs.Int.{w32, w64}
 use Rattle.std.proofs.Common.{take}
-use Rattle.lu_grammar.proofs.Records.{ok_pair, same_pair}
-use Rattle.lu_grammar.proofs.Plans.{err_is_not_ok}
+use Rattle.lu_grammar.proofs.Codecs.{ok_pair, same_pair, err_is_not_ok}
 
 -- where there are eight bytes they are a number
 pub int64_there : (bs : List ℕ) → 8 ≤ length bs → read int64 bs ≡ Ok (signed_of w64 (take 8 bs), 8)

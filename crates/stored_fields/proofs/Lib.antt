@@ -1,5 +1,5 @@
 pub mod Rows
-pub mod StepLemmas
+pub mod SpotLemmas
 pub mod PlaceLemmas
 pub mod DocumentLemmas
 pub mod FixedLemmas
@@ -7,7 +7,7 @@ pub mod ValueLemmas
 pub mod StandsLemmas
 pub mod StoreLemmas
 pub mod WriteLemmas
-pub mod BegunLemmas
+pub mod HeldLemmas
 pub mod ReadBackLemmas
 pub mod ByteLemmas
 pub mod LawLemmas

@@ -1,44 +1,35 @@
 -- Only the files that the writer gives are read as stored documents.
-use Rattle.std.proofs.Common.{◌≡◌, ℕ, zero, suc, drop, ◌<◌, ◌≤◌, ◌+◌, Bool, true, false, not, List, [], ◌∷◌, ◌++◌, length, map, get_or, None, refl, sym, ap, subst, ◌∙◌, arith, append_assoc, ℤ, pos}
+use Rattle.std.proofs.Common.{◌≡◌, ℕ, zero, suc, drop, ◌<◌, ◌≤◌, ◌+◌, Bool, true, false, List, [], ◌∷◌, ◌++◌, length, map, get_or, None, Some, refl, sym, ap, subst, ◌∙◌, arith, append_assoc, ℤ, pos}
 use Rattle.std.specs.List.{flat_map, last_or}
-use Rattle.std.specs.Ordering.{int_eq}
-use Rattle.std.proofs.lemmas.Bool.Decides.{Decides-int_eq}
 use Rattle.std.proofs.lemmas.Bool.{le-leb, lt-ltb}
 use Rattle.std.specs.Prelude.{nat_le, nat_lt}
 use Rattle.std.proofs.lemmas.List.{append-nil, length-append, length-take, get_or-take, get_or-drop, nil_from_length}
 use Rattle.lu_types.specs.declared.stored.Window.{Window}
+use Rattle.lu_types.specs.FilePlans.{StandFor}
 use Rattle.lu_grammar.specs.Bytes.{IsBytes, Cursor, start_of}
 use Rattle.lu_grammar.specs.Parts.{int32, int64, spelling}
 use Rattle.lu_grammar.specs.Records.{first_broken, Spells}
 use Rattle.lu_grammar.specs.Plans.{one, times, each, read_plan, read_file}
 use Rattle.lu_grammar.specs.Meaning.{bytes_of}
-use Rattle.lu_grammar.proofs.Records.{ok_pair, same_pair}
-use Rattle.lu_grammar.proofs.Plans.{ok_of, reads-read_plan}
-use Rattle.lu_grammar.proofs.Files.{read_file-Reads}
-use Rattle.lu_grammar.proofs.Loops.{read_plan-and_then, then_ok, one-was}
-use Rattle.stored_fields.specs.declared.layout.TheConstants.{FORMAT, HEADER_BYTES}
-use Rattle.stored_fields.specs.Format.{format_shape, is_other_format}
+use Rattle.lu_grammar.proofs.Codecs.{ok_pair, same_pair, ok_of, reads-read_plan, read_file-Reads, read_plan-and_then, then_ok, record_at-was, due_was, file_was}
+use Rattle.lu_grammar.proofs.Loops.{one-was}
+use Rattle.stored_fields.specs.Format.{store_format, header_length, format_shape, is_other_store_format}
 use Rattle.stored_fields.specs.Values.{Document, HasFields}
-use Rattle.stored_fields.specs.Places.{is_past, header_conditions, place_shape, place_conditions, places_kind, fdx_plan}
-use Rattle.stored_fields.specs.Documents.{Record, header_shape, format_conditions, is_within, next_document, fdt_plan}
-use Rattle.stored_fields.specs.Stores.{IsStore, windowed}
-use Rattle.stored_fields.specs.Writing.{IsStorableDocument, AreStorable, document_bytes, documents_bytes, fdt_bytes, places_from, fdx_bytes}
-use Rattle.stored_fields.proofs.StepLemmas.{record_at-was, due_was, file_was}
+use Rattle.stored_fields.specs.Places.{fdx_header_conditions, place_shape, fdx_place_conditions, places_kind, fdx_plan}
+use Rattle.stored_fields.specs.Documents.{FdtRecord, header_shape, format_conditions, is_within, next_document, fdt_plan}
+use Rattle.stored_fields.specs.Stores.{store_files, windowed}
+use Rattle.stored_fields.specs.Writing.{IsStorableDocument, AreStorable, document_bytes, fdt_bytes, places_from, place_bytes, fdx_bytes}
 use Rattle.std.specs.Prelude.{All}
+use Rattle.stored_fields.proofs.SpotLemmas.{same_format}
+use Rattle.stored_fields.proofs.PlaceLemmas.{header_format, has_places}
+use Rattle.stored_fields.proofs.HeldLemmas.{places_many}
 use Rattle.stored_fields.proofs.WriteLemmas.{IsField}
-use Rattle.stored_fields.proofs.ReadBackLemmas.{documents_cons, at_length, places_of}
-use Rattle.stored_fields.proofs.OnlyLemmas.{taken, spells_document}
+use Rattle.stored_fields.proofs.ReadBackLemmas.{at_length, places_of}
+use Rattle.stored_fields.proofs.OnlyLemmas.{taken, all_cons, spells_document}
 
 -- ---- the header of both files
 
-same_format : (z : ℤ) → is_other_format z ≡ false → z ≡ FORMAT
-same_format z h = go (int_eq z FORMAT) refl h
-  where
-    go : (b : Bool) → int_eq z FORMAT ≡ b → not b ≡ false → z ≡ FORMAT
-    go true is h = (Decides-int_eq z FORMAT).0 is
-    go false is h = cc
-
-format_spelled : (z : ℤ) (front : List ℕ) → Spells format_shape z front → is_other_format z ≡ false → front ≡ spelling int32 FORMAT
+format_spelled : (z : ℤ) (front : List ℕ) → Spells format_shape z front → is_other_store_format z ≡ false → front ≡ spelling int32 store_format
 format_spelled z front (w, none, fits, front_is, (is, none_is)) good =
     front_is ∙ ap (λ (t : List ℕ). spelling int32 w ++ t) none_is ∙ append-nil (spelling int32 w) ∙ ap (λ (x : ℤ). spelling int32 x) (is ∙ same_format z good)
 
@@ -55,7 +46,7 @@ spells_places zero front c d all fits e = let p = same_pair front all c d e in r
 spells_places (suc n) front c d all fits e =
     let first = then_ok (read_plan (one places_kind front) c) (λ x. read_plan (times places_kind n x.0) x.1) (all, d) (sym (read_plan-and_then (one places_kind front) (times places_kind n) c) ∙ e) in
     let was = one-was places_kind front c first.0 first.1 in
-    let judged = record_at-was place_shape (place_conditions (last_or None front)) c was.0 first.0.1 was.1 in
+    let judged = record_at-was place_shape (fdx_place_conditions (last_or None front)) c was.0 first.0.1 was.1 in
     let took = taken place_shape c was.0 first.0.1 fits judged.0 in
     let rest = spells_places n first.0.0 first.0.1 d all took.fits first.2 in
     record {
@@ -74,19 +65,15 @@ record SpellsDocuments (window : Window) (fields : ℕ) (rest : List ℤ) (front
   more : List Document
   named : (i : ℕ) (o : Document) → i < length more → is_within window (length front + i) ≡ true → HasFields fields (get_or more i o)
   all_is : all ≡ front ++ more
-  storable : AreStorable 0 more
-  is : c.rest ≡ documents_bytes 0 more ++ d.rest
+  storable : AreStorable more
+  is : c.rest ≡ flat_map document_bytes more ++ d.rest
   placed : rest ≡ map pos (places_from c.place more)
-
-storable_with : (d : Document) (ds : List Document) → IsStorableDocument 0 d → AreStorable 0 ds → AreStorable 0 (d ∷ ds)
-storable_with d [] h t = h
-storable_with d (e ∷ ds) h t = (h, t)
 
 spells_documents : (window : Window) (fields : ℕ) (places passed rest : List ℤ) (front : List Document) (c d : Cursor) (all : List Document) → places ≡ passed ++ rest → length passed ≡ length front → IsBytes c.rest
     → read_plan (each (next_document window fields places) (length rest) front) c ≡ ok_pair all d → SpellsDocuments window fields rest front all c d
 unfolding each read_plan
 spells_documents window fields places passed [] front c d all split long fits e =
-    let p = same_pair front all c d e in record { more = []; named = λ i o lt. absurd (omega arith); all_is = sym p.0 ∙ sym (append-nil front); storable = refl; is = ap (λ (x : Cursor). x.rest) p.1; placed = refl }
+    let p = same_pair front all c d e in record { more = []; named = λ i o lt. absurd (omega arith); all_is = sym p.0 ∙ sym (append-nil front); storable = λ k d lt. absurd (omega arith); is = ap (λ (x : Cursor). x.rest) p.1; placed = refl }
 spells_documents window fields places passed (z ∷ zs) front c d all split long fits e =
     let plan = next_document window fields places in
     let wanted : ℤ = get_or places (length front) (pos 0) in
@@ -94,17 +81,16 @@ spells_documents window fields places passed (z ∷ zs) front c d all split long
     let first = then_ok (read_plan (plan front) c) (λ x. read_plan (each plan (length zs) x.0) x.1) (all, d) (sym (read_plan-and_then (plan front) (each plan (length zs)) c) ∙ e) in
     let one = spells_document (is_within window (length front)) fields wanted front c first.0 fits first.1 in
     let reads = reads-read_plan (plan front) c first.0.0 first.0.1 fits first.1 in
-    let behind : first.0.1.place ≡ c.place + length (document_bytes 0 one.it) =
-    omega (arith, reads.place, ap length reads.front, ap length one.is, length-append (bytes_of reads.records) first.0.1.rest, length-append (document_bytes 0 one.it) first.0.1.rest) in
+    let behind : first.0.1.place ≡ c.place + length (document_bytes one.it) =
+    omega (arith, reads.place, ap length reads.front, ap length one.is, length-append (bytes_of reads.records) first.0.1.rest, length-append (document_bytes one.it) first.0.1.rest) in
     let longer : length (passed ++ z ∷ []) ≡ length first.0.0 = omega (arith, long, ap length one.all_is, length-append passed (z ∷ []), length-append front (one.it ∷ [])) in
     let rest = spells_documents window fields places (passed ++ z ∷ []) zs first.0.0 first.0.1 d all (split ∙ sym (append_assoc passed (z ∷ []) zs)) longer one.fits first.2 in
     record {
       more = one.it ∷ rest.more;
       named = named_each (length front) (length first.0.0) (omega (arith, ap length one.all_is, length-append front (one.it ∷ []))) one.it rest.more one.named rest.named;
       all_is = rest.all_is ∙ ap (λ (ds : List Document). ds ++ rest.more) one.all_is ∙ append_assoc front (one.it ∷ []) rest.more;
-      storable = storable_with one.it rest.more one.storable rest.storable;
-      is = one.is ∙ ap (λ (t : List ℕ). document_bytes 0 one.it ++ t) rest.is ∙ sym (append_assoc (document_bytes 0 one.it) (documents_bytes 0 rest.more) d.rest)
-          ∙ ap (λ (t : List ℕ). t ++ d.rest) (sym (documents_cons one.it rest.more));
+      storable = all_cons IsStorableDocument one.it rest.more one.storable rest.storable;
+      is = one.is ∙ ap (λ (t : List ℕ). document_bytes one.it ++ t) rest.is ∙ sym (append_assoc (document_bytes one.it) (flat_map document_bytes rest.more) d.rest);
       placed = ap (λ (w : ℤ). w ∷ zs) (sym (one.wanted_is ∙ wanted_is)) ∙ ap (λ (ys : List ℤ). pos c.place ∷ ys) (rest.placed ∙ ap (λ (n : ℕ). map pos (places_from n rest.more)) behind);
     }
   where
@@ -116,26 +102,22 @@ spells_documents window fields places passed (z ∷ zs) front c d all split long
 -- ---- the files
 
 -- `.fdx` that was read is the header, and the spelling of its places
-spells_fdx : (total : ℕ) (window : Window) (fdx : List ℕ) (places : List ℤ) → IsBytes fdx → read_file (fdx_plan total window) fdx ≡ ok_of places → fdx ≡ spelling int32 FORMAT ++ flat_map (λ z. spelling int64 z) places
+spells_fdx : (total : ℕ) (window : Window) (fdx : List ℕ) (places : List ℤ) → IsBytes fdx → read_file (fdx_plan total window) fdx ≡ ok_of places → fdx ≡ spelling int32 store_format ++ flat_map (λ z. spelling int64 z) places
 spells_fdx total window fdx places fits e =
     let file = file_was (fdx_plan total window) fdx places e in
-    let head = due_was format_shape (λ _ z. header_conditions total window z) (λ _ _. times places_kind total []) (start_of fdx) (places, file.0) file.1 in
-    let judged = record_at-was format_shape (header_conditions total window) (start_of fdx) head.0.0 head.0.1 head.1 in
+    let head = due_was format_shape (λ _ z. fdx_header_conditions total window z) (λ _ _. times places_kind total []) (start_of fdx) (places, file.0) file.1 in
+    let judged = record_at-was format_shape (fdx_header_conditions total window) (start_of fdx) head.0.0 head.0.1 head.1 in
     let took = taken format_shape (start_of fdx) head.0.0 head.0.1 fits judged.0 in
     let body = spells_places total [] head.0.1 file.0 places took.fits head.2 in
-    took.rest ∙ ap (λ (t : List ℕ). t ++ head.0.1.rest) (format_spelled head.0.0 took.front took.spells (good head.0.0 (is_other_format head.0.0) (is_past total window) refl judged.1))
-    ∙ ap (λ (t : List ℕ). spelling int32 FORMAT ++ t) (body.is ∙ ap (λ (t : List ℕ). flat_map (λ z. spelling int64 z) body.more ++ t) (nil_from_length file.0.rest file.2) ∙ append-nil (flat_map (λ z. spelling int64 z) body.more)
+    took.rest ∙ ap (λ (t : List ℕ). t ++ head.0.1.rest) (format_spelled head.0.0 took.front took.spells (header_format total window head.0.0 judged.1))
+    ∙ ap (λ (t : List ℕ). spelling int32 store_format ++ t) (body.is ∙ ap (λ (t : List ℕ). flat_map (λ z. spelling int64 z) body.more ++ t) (nil_from_length file.0.rest file.2) ∙ append-nil (flat_map (λ z. spelling int64 z) body.more)
     ∙ ap (λ (zs : List ℤ). flat_map (λ z. spelling int64 z) zs) (sym body.all_is))
-  where
-    good : (z : ℤ) (other past : Bool) → is_other_format z ≡ other → first_broken (record { rule = 40; broken = other } ∷ record { rule = 42; broken = past } ∷ []) ≡ None → is_other_format z ≡ false
-    good z true past is h = cc
-    good z false past is h = is
 
 -- `.fdt` that was read is the writer's, and its documents stand at the places
 pub record SpellsFdt (window : Window) (fields : ℕ) (places : List ℤ) (fdt : List ℕ) (documents : List Document) : Type 0 where
-  storable : AreStorable 0 documents
+  storable : AreStorable documents
   pub named : (i : ℕ) (o : Document) → i < length documents → is_within window i ≡ true → HasFields fields (get_or documents i o)
-  is : fdt ≡ fdt_bytes 0 documents
+  is : fdt ≡ fdt_bytes documents
   placed : places ≡ places_of documents
 
 pub spells_fdt : (window : Window) (fields : ℕ) (places : List ℤ) (fdt : List ℕ) (documents : List Document) → IsBytes fdt → read_file (fdt_plan window fields places) fdt ≡ ok_of documents → SpellsFdt window fields places fdt documents
@@ -146,36 +128,47 @@ spells_fdt window fields places fdt documents fits e =
     let took = taken header_shape (start_of fdt) head.0.0 head.0.1 fits judged.0 in
     let front_is = header_spelled head.0.0 took.front took.spells judged.1 in
     let body = spells_documents window fields places [] places [] head.0.1 file.0 documents refl refl took.fits head.2 in
-    let four : length (spelling int32 FORMAT) ≡ 4 = refl in
-    let place : head.0.1.place ≡ HEADER_BYTES = omega (arith, took.place, ap length front_is, four) in
+    let four : length (spelling int32 store_format) ≡ 4 = refl in
+    let place : head.0.1.place ≡ header_length = omega (arith, took.place, ap length front_is, four) in
     record {
-      storable = subst (AreStorable 0) (sym body.all_is) body.storable;
+      storable = subst AreStorable (sym body.all_is) body.storable;
       named = λ i o lt holds.
           subst (λ (ds : List Document). HasFields fields (get_or ds i o)) (sym body.all_is)
           (body.named i o (omega (arith, lt, ap length body.all_is)) (ap (is_within window) (let e : 0 + i ≡ i = omega arith in e) ∙ holds));
       is = took.rest ∙ ap (λ (t : List ℕ). t ++ head.0.1.rest) front_is
-          ∙ ap (λ (t : List ℕ). spelling int32 FORMAT ++ t) (body.is ∙ ap (λ (t : List ℕ). documents_bytes 0 body.more ++ t) (nil_from_length file.0.rest file.2) ∙ append-nil (documents_bytes 0 body.more) ∙ ap (documents_bytes 0) (sym body.all_is));
+          ∙ ap (λ (t : List ℕ). spelling int32 store_format ++ t) (body.is ∙ ap (λ (t : List ℕ). flat_map document_bytes body.more ++ t) (nil_from_length file.0.rest file.2) ∙ append-nil (flat_map document_bytes body.more) ∙ ap (λ (ds : List Document). flat_map document_bytes ds) (sym body.all_is));
       placed = body.placed ∙ ap (λ (n : ℕ). map pos (places_from n body.more)) place ∙ ap places_of (sym body.all_is);
     }
   where
-    header_spelled : (r : Record) (front : List ℕ) → Spells header_shape r front → first_broken (format_conditions r) ≡ None → front ≡ spelling int32 FORMAT
+    header_spelled : (r : FdtRecord) (front : List ℕ) → Spells header_shape r front → first_broken (format_conditions r) ≡ None → front ≡ spelling int32 store_format
     header_spelled r front (z, none, fits, front_is, (is, none_is)) good =
-        format_spelled z front (z, none, fits, front_is, (refl, none_is)) (same (is_other_format z) refl (ap (λ (x : Record). first_broken (format_conditions x)) is ∙ good))
+        format_spelled z front (z, none, fits, front_is, (refl, none_is)) (same (is_other_store_format z) refl (ap (λ (x : FdtRecord). first_broken (format_conditions x)) is ∙ good))
       where
-        same : (b : Bool) → is_other_format z ≡ b → first_broken (record { rule = 43; broken = b } ∷ []) ≡ None → is_other_format z ≡ false
+        same : (b : Bool) → is_other_store_format z ≡ b → first_broken (record { rule = 43; broken = b } ∷ []) ≡ None → is_other_store_format z ≡ false
         same true i h = cc
         same false i h = i
 
-pub only_written : (fdx fdt : List ℕ) (fields total : ℕ) (window : Window) (documents : List Document) → IsBytes fdx → IsBytes fdt → (store : IsStore fdx fdt fields total window documents)
-    → (fdx ≡ fdx_bytes store.all) × (fdt ≡ fdt_bytes 0 store.all) × AreStorable 0 store.all
-only_written fdx fdt fields total window documents fdx_fits fdt_fits store =
-    let values = spells_fdt window fields store.places fdt store.all fdt_fits (read_file-Reads (fdt_plan window fields store.places) fdt store.all store.fdt_reads) in
-    let places = spells_fdx total window fdx store.places fdx_fits (read_file-Reads (fdx_plan total window) fdx store.places store.fdx_reads) in
-    (places ∙ ap (λ (zs : List ℤ). spelling int32 FORMAT ++ flat_map (λ z. spelling int64 z) zs) values.placed ∙ ap (λ (t : List ℕ). spelling int32 FORMAT ++ t) (flat_pos (places_from HEADER_BYTES store.all)), values.is, values.storable)
+pub only_written : (fdx fdt : List ℕ) (fields total : ℕ) (window : Window) (seen : List Document) → IsBytes fdx → IsBytes fdt → StandFor (store_files (λ _. total) (λ _. window) fields (Some fdx) (Some fdt)) seen
+    → (documents : List Document) × (fdx ≡ fdx_bytes documents) × (fdt ≡ fdt_bytes documents) × AreStorable documents × (length documents ≡ total) × (seen ≡ windowed window documents)
+only_written fdx fdt fields total window seen fdx_fits fdt_fits (places, fdx_reads, (documents, fdt_reads, seen_is)) =
+    let read = read_file-Reads (fdx_plan total window) fdx places fdx_reads in
+    let values = spells_fdt window fields places fdt documents fdt_fits (read_file-Reads (fdt_plan window fields places) fdt documents fdt_reads) in
+    let spelled = spells_fdx total window fdx places fdx_fits read in (
+      documents,
+      spelled ∙ ap (λ (zs : List ℤ). spelling int32 store_format ++ flat_map (λ z. spelling int64 z) zs) values.placed ∙ ap (λ (t : List ℕ). spelling int32 store_format ++ t) (flat_pos (places_from header_length documents)),
+      values.is,
+      values.storable,
+      sym (places_many header_length documents) ∙ sym (map_long (places_from header_length documents)) ∙ sym (ap length values.placed) ∙ (has_places total window fdx places read).many,
+      seen_is,
+    )
   where
-    flat_pos : (ps : List ℕ) → flat_map (λ z. spelling int64 z) (map pos ps) ≡ flat_map (λ p. spelling int64 (pos p)) ps
+    flat_pos : (ps : List ℕ) → flat_map (λ z. spelling int64 z) (map pos ps) ≡ flat_map place_bytes ps
     flat_pos [] = refl
-    flat_pos (p ∷ ps) = ap (λ (t : List ℕ). spelling int64 (pos p) ++ t) (flat_pos ps)
+    flat_pos (p ∷ ps) = ap (λ (t : List ℕ). place_bytes p ++ t) (flat_pos ps)
+
+    map_long : (ps : List ℕ) → length (map pos ps) ≡ length ps
+    map_long [] = refl
+    map_long (p ∷ ps) = ap suc (map_long ps)
 
 -- the documents in a window of a store have the fields that were asked of them
 pub windowed_named : (window : Window) (fields : ℕ) (places : List ℤ) (fdt : List ℕ) (documents : List Document) → IsBytes fdt → read_file (fdt_plan window fields places) fdt ≡ ok_of documents

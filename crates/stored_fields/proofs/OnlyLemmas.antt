@@ -1,5 +1,5 @@
 -- Only what the writer gives is read as stored documents.
-use Rattle.std.proofs.Common.{◌≡◌, ℕ, zero, suc, ◌+◌, ◌^◌, ◌<◌, Bool, true, false, List, [], ◌∷◌, ◌++◌, length, None, Result, refl, sym, ap, subst, ◌∙◌, arith, append_assoc, ℤ, pos}
+use Rattle.std.proofs.Common.{◌≡◌, ℕ, zero, suc, ◌^◌, ◌<◌, Bool, true, false, List, [], ◌∷◌, ◌++◌, length, None, Result, refl, sym, ap, subst, ◌∙◌, arith, append_assoc, ℤ, pos}
 use Rattle.std.specs.Prelude.{All, ◌&&◌, nat_le}
 use Rattle.std.specs.List.{flat_map}
 use borrow.Author.Tests.{ltb-false, leb-false}
@@ -11,15 +11,14 @@ use Rattle.lu_grammar.specs.Bytes.{IsBytes, Cursor}
 use Rattle.lu_grammar.specs.Parts.{num, spelling}
 use Rattle.lu_grammar.specs.Records.{Shape, whole, followed, first_broken, Spells, read_shape}
 use Rattle.lu_grammar.specs.Plans.{done, and_then, one, times, each, read_plan}
-use Rattle.lu_grammar.proofs.Records.{TakesRecord, ShapeJudges, read_shape-judges, ok_pair, same_pair}
-use Rattle.lu_grammar.proofs.Plans.{ok_of}
-use Rattle.lu_grammar.proofs.Loops.{read_plan-and_then, then_ok, one-was}
-use Rattle.stored_fields.specs.declared.value.TheConstants.{TOKENIZED, BINARY}
+use Rattle.lu_grammar.proofs.Codecs.{ok_pair, same_pair, ok_of, read_plan-and_then, then_ok, record_at-was, due_was}
+use Rattle.lu_grammar.proofs.Records.{TakesRecord, ShapeJudges, read_shape-judges}
+use Rattle.lu_grammar.proofs.Loops.{one-was}
+use Rattle.stored_fields.specs.Format.{bit_tokenized, bit_binary}
 use Rattle.lu_types.specs.Bits.{has_bit}
-use Rattle.stored_fields.specs.Values.{StoredField, Document, Entry, content, stored}
-use Rattle.stored_fields.specs.Documents.{Record, value, value_shape, has_other_bit, entry_conditions, value_conditions, with_value, values_kind, count_of, count_shape, start_conditions, document_at}
-use Rattle.stored_fields.specs.Writing.{IsStorable, IsStorableDocument, bits_of, value_bytes, document_bytes}
-use Rattle.stored_fields.proofs.StepLemmas.{record_at-was, due_was}
+use Rattle.stored_fields.specs.Values.{StoredField, Document, StoredEntry, content_shape, stored}
+use Rattle.stored_fields.specs.Documents.{FdtRecord, value, value_shape, has_other_bit, stored_entry_conditions, value_conditions, with_value, values_kind, count_of, count_shape, start_conditions, document_at}
+use Rattle.stored_fields.specs.Writing.{IsStorable, IsStorableDocument, value_bits, value_bytes, document_bytes}
 use Rattle.stored_fields.proofs.WriteLemmas.{IsField}
 use Rattle.stored_fields.proofs.StandsLemmas.{not_elsewhere}
 
@@ -30,14 +29,14 @@ taken {R} shape c r d fits e = let h : ShapeJudges shape c (ok_pair r d) = subst
 -- ---- one value
 
 -- the bits that mean something are those of a value
-text_bits : (bits : ℕ) (t : List ℕ) → has_other_bit bits ≡ false → has_bit BINARY bits ≡ false → bits_of (has_bit TOKENIZED bits) (Text t) ≡ bits
+text_bits : (bits : ℕ) (t : List ℕ) → has_other_bit bits ≡ false → has_bit bit_binary bits ≡ false → value_bits (has_bit bit_tokenized bits) (Text t) ≡ bits
 text_bits zero t few text = refl
 text_bits (suc zero) t few text = refl
 text_bits (suc (suc zero)) t few text = cc
 text_bits (suc (suc (suc zero))) t few text = cc
 text_bits (suc (suc (suc (suc n)))) t few text = absurd (omega (arith, ltb-false 3 (suc (suc (suc (suc n)))) few))
 
-binary_bits : (bits : ℕ) (bs : List ℕ) → has_other_bit bits ≡ false → has_bit BINARY bits ≡ true → bits_of (has_bit TOKENIZED bits) (Binary bs) ≡ bits
+binary_bits : (bits : ℕ) (bs : List ℕ) → has_other_bit bits ≡ false → has_bit bit_binary bits ≡ true → value_bits (has_bit bit_tokenized bits) (Binary bs) ≡ bits
 binary_bits zero bs few binary = cc
 binary_bits (suc zero) bs few binary = cc
 binary_bits (suc (suc zero)) bs few binary = refl
@@ -45,17 +44,17 @@ binary_bits (suc (suc (suc zero))) bs few binary = refl
 binary_bits (suc (suc (suc (suc n)))) bs few binary = absurd (omega (arith, ltb-false 3 (suc (suc (suc (suc n)))) few))
 
 -- a record spells a value as the writer does
-record SpellsValue (asked : Bool) (fields : ℕ) (r : Record) (front : List ℕ) : Type 0 where
+record SpellsValue (asked : Bool) (fields : ℕ) (r : FdtRecord) (front : List ℕ) : Type 0 where
   it : StoredField
   named : IsField asked fields it
   storable : IsStorable it
   is : front ≡ value_bytes it
   adds : (values : Document) → with_value values r ≡ values ++ it ∷ []
 
-abbrev entry_with : ℕ → ℕ → Stored → Entry
+abbrev entry_with : ℕ → ℕ → Stored → StoredEntry
 entry_with field bits v = record { field = field; bits = bits; value = v }
 
-no_other : (asked : Bool) (fields field bits : ℕ) → first_broken (entry_conditions asked fields field bits) ≡ None → has_other_bit bits ≡ false
+no_other : (asked : Bool) (fields field bits : ℕ) → first_broken (stored_entry_conditions asked fields field bits) ≡ None → has_other_bit bits ≡ false
 no_other asked fields field bits good = go (asked && nat_le fields field) (has_other_bit bits) refl good
   where
     go : (a b : Bool) → has_other_bit bits ≡ b → first_broken (record { rule = 45; broken = a } ∷ record { rule = 46; broken = b } ∷ []) ≡ None → has_other_bit bits ≡ false
@@ -63,41 +62,41 @@ no_other asked fields field bits good = go (asked && nat_le fields field) (has_o
     go false true is h = cc
     go false false is h = is
 
-spells_value : (asked : Bool) (fields : ℕ) (r : Record) (front : List ℕ) → Spells value_shape r front → first_broken (value_conditions asked fields r) ≡ None → SpellsValue asked fields r front
-spells_value asked fields r front (field, back, is_field, front_is, (bits, rest, is_bits, back_is, tail)) good = go (has_bit BINARY bits) refl tail
+spells_value : (asked : Bool) (fields : ℕ) (r : FdtRecord) (front : List ℕ) → Spells value_shape r front → first_broken (value_conditions asked fields r) ≡ None → SpellsValue asked fields r front
+spells_value asked fields r front (field, back, is_field, front_is, (bits, rest, is_bits, back_is, tail)) good = go (has_bit bit_binary bits) refl tail
   where
     whole_is : (content_bytes : List ℕ) (b : ℕ) → rest ≡ content_bytes → b ≡ bits → front ≡ spelling num field ++ (b ∷ content_bytes)
     whole_is bytes b e same = front_is ∙ ap (λ (t : List ℕ). spelling num field ++ t) (back_is ∙ ap (λ (t : List ℕ). bits ∷ t) e ∙ ap (λ (n : ℕ). n ∷ bytes) (sym same))
 
-    known : first_broken (entry_conditions asked fields field bits) ≡ None → asked ≡ true → field < fields
+    known : first_broken (stored_entry_conditions asked fields field bits) ≡ None → asked ≡ true → field < fields
     known judged yes_asked = at_field (nat_le fields field) (has_other_bit bits) refl (ap (λ (a : Bool). first_broken (record { rule = 45; broken = a && nat_le fields field } ∷ record { rule = 46; broken = has_other_bit bits } ∷ [])) (sym yes_asked) ∙ judged)
       where
         at_field : (a b : Bool) → nat_le fields field ≡ a → first_broken (record { rule = 45; broken = true && a } ∷ record { rule = 46; broken = b } ∷ []) ≡ None → field < fields
         at_field true b is h = cc
         at_field false b is h = leb-false fields field is
 
-    go : (b : Bool) → has_bit BINARY bits ≡ b → Spells (followed (followed (content b) (λ v. whole (entry_with field bits v))) (λ entry. whole (value entry))) r rest → SpellsValue asked fields r front
+    go : (b : Bool) → has_bit bit_binary bits ≡ b → Spells (followed (followed (content_shape b) (λ v. whole (entry_with field bits v))) (λ entry. whole (value entry))) r rest → SpellsValue asked fields r front
     go true binary (n, more, is_n, rest_is, (bs, none, is_bs, more_is, (r_is, none_is))) =
-        let judged = ap (λ (x : Record). first_broken (value_conditions asked fields x)) r_is ∙ good in
+        let judged = ap (λ (x : FdtRecord). first_broken (value_conditions asked fields x)) r_is ∙ good in
         let few = no_other asked fields field bits judged in
         let content_is : rest ≡ spelling num (length bs) ++ bs = rest_is ∙ ap (λ (k : ℕ). spelling num k ++ more) (sym is_bs.0) ∙ ap (λ (t : List ℕ). spelling num (length bs) ++ t) (more_is ∙ ap (λ (t : List ℕ). bs ++ t) none_is ∙ append-nil bs) in
         record {
           it = stored (entry_with field bits (Binary bs));
           named = known judged;
           storable = (is_field, (subst (λ (k : ℕ). k < 2 ^ 31) (sym is_bs.0) is_n, (refl, is_bs.1)));
-          is = whole_is (spelling num (length bs) ++ bs) (bits_of (has_bit TOKENIZED bits) (Binary bs)) content_is (binary_bits bits bs few binary);
-          adds = λ values. ap (λ (x : Record). with_value values x) (sym r_is);
+          is = whole_is (spelling num (length bs) ++ bs) (value_bits (has_bit bit_tokenized bits) (Binary bs)) content_is (binary_bits bits bs few binary);
+          adds = λ values. ap (λ (x : FdtRecord). with_value values x) (sym r_is);
         }
     go false text (t, none, is_t, rest_is, (r_is, none_is)) =
-        let judged = ap (λ (x : Record). first_broken (value_conditions asked fields x)) r_is ∙ good in
+        let judged = ap (λ (x : FdtRecord). first_broken (value_conditions asked fields x)) r_is ∙ good in
         let few = no_other asked fields field bits judged in
         let content_is : rest ≡ spelling num (length t) ++ t = rest_is ∙ ap (λ (x : List ℕ). (spelling num (length t) ++ t) ++ x) none_is ∙ append-nil (spelling num (length t) ++ t) in
         record {
           it = stored (entry_with field bits (Text t));
           named = known judged;
           storable = (is_field, is_t);
-          is = whole_is (spelling num (length t) ++ t) (bits_of (has_bit TOKENIZED bits) (Text t)) content_is (text_bits bits t few text);
-          adds = λ values. ap (λ (x : Record). with_value values x) (sym r_is);
+          is = whole_is (spelling num (length t) ++ t) (value_bits (has_bit bit_tokenized bits) (Text t)) content_is (text_bits bits t few text);
+          adds = λ values. ap (λ (x : FdtRecord). with_value values x) (sym r_is);
         }
 
 -- ---- so many values
@@ -112,7 +111,7 @@ pub record SpellsValues (asked : Bool) (fields number : ℕ) (front all : Docume
   pub is : c.rest ≡ flat_map value_bytes more ++ d.rest
   pub fits : IsBytes d.rest
 
-all_cons : {A : Type 0} (P : A → Type 0) (x : A) (xs : List A) → P x → All P xs → All P (x ∷ xs)
+pub all_cons : {A : Type 0} (P : A → Type 0) (x : A) (xs : List A) → P x → All P xs → All P (x ∷ xs)
 all_cons P x xs h t zero d lt = h
 all_cons P x xs h t (suc k) d lt = t k d (omega arith)
 
@@ -147,8 +146,8 @@ pub record SpellsDocument (asked : Bool) (fields : ℕ) (wanted : ℤ) (document
   pub it : Document
   pub named : All (IsField asked fields) it
   pub all_is : all ≡ documents ++ it ∷ []
-  pub storable : IsStorableDocument 0 it
-  pub is : c.rest ≡ document_bytes 0 it ++ d.rest
+  pub storable : IsStorableDocument it
+  pub is : c.rest ≡ document_bytes it ++ d.rest
   pub wanted_is : pos c.place ≡ wanted
   pub fits : IsBytes d.rest
 
@@ -164,19 +163,19 @@ spells_document asked fields wanted documents c x fits e =
     let body = then_ok (read_plan (times kind (count_of head.0.0) []) head.0.1) (λ y. ok_pair (documents ++ y.0 ∷ []) y.1) x (sym (read_plan-and_then (times kind (count_of head.0.0) []) (λ values. done (documents ++ values ∷ [])) head.0.1) ∙ head.2) in
     let same = same_pair (documents ++ body.0.0 ∷ []) x.0 body.0.1 x.1 body.2 in
     let values = spells_values asked fields (count_of head.0.0) [] head.0.1 body.0.1 body.0.0 took.fits body.1 in
-    let many : count_of head.0.0 ≡ length values.more + 0 = omega (arith, values.many) in
+    let many : count_of head.0.0 ≡ length values.more = sym values.many in
     record {
       it = values.more;
       named = values.named;
       all_is = sym same.0 ∙ ap (λ (vs : Document). documents ++ vs ∷ []) values.all_is;
       storable = (subst (λ (n : ℕ). n < 2 ^ 31) many counted.0, values.storable);
-      is = took.rest ∙ ap (λ (t : List ℕ). t ++ head.0.1.rest) counted.1 ∙ ap (λ (n : ℕ). spelling num n ++ head.0.1.rest) many ∙ ap (λ (t : List ℕ). spelling num (length values.more + 0) ++ t) values.is
-          ∙ sym (append_assoc (spelling num (length values.more + 0)) (flat_map value_bytes values.more) body.0.1.rest) ∙ ap (λ (y : Cursor). document_bytes 0 values.more ++ y.rest) same.1;
+      is = took.rest ∙ ap (λ (t : List ℕ). t ++ head.0.1.rest) counted.1 ∙ ap (λ (n : ℕ). spelling num n ++ head.0.1.rest) many ∙ ap (λ (t : List ℕ). spelling num (length values.more) ++ t) values.is
+          ∙ sym (append_assoc (spelling num (length values.more)) (flat_map value_bytes values.more) body.0.1.rest) ∙ ap (λ (y : Cursor). document_bytes values.more ++ y.rest) same.1;
       wanted_is = not_elsewhere c.place wanted judged.1;
       fits = subst (λ (y : Cursor). IsBytes y.rest) same.1 values.fits;
     }
   where
-    count_spelled : (r : Record) (front : List ℕ) → Spells count_shape r front → (count_of r < 2 ^ 31) × (front ≡ spelling num (count_of r))
+    count_spelled : (r : FdtRecord) (front : List ℕ) → Spells count_shape r front → (count_of r < 2 ^ 31) × (front ≡ spelling num (count_of r))
     count_spelled r front (n, none, is_n, front_is, (r_is, none_is)) =
         let same : n ≡ count_of r = ap count_of r_is in
         (subst (λ (k : ℕ). k < 2 ^ 31) same is_n, front_is ∙ ap (λ (t : List ℕ). spelling num n ++ t) none_is ∙ append-nil (spelling num n) ∙ ap (λ (k : ℕ). spelling num k) same)

@@ -9,34 +9,42 @@ use Rattle.std.proofs.lemmas.List.{drop-drop, append-nil, length-drop}
 use Rattle.lu_grammar.specs.Reading.{◌>>=◌, read, read_part}
 use Rattle.lu_grammar.specs.Records.{first_broken, record_at}
 use Rattle.lu_grammar.specs.Plans.{times, one, each, Broken, read_plan, ended, read_file}
-use Rattle.lu_grammar.proofs.Plans.{ok_of, read_due, read_due_broken}
-use Rattle.lu_grammar.proofs.Records.{ok_pair, same_pair}
-use Rattle.lu_grammar.proofs.Loops.{read_plan-and_then, then_ok, one-was, times-more, times-fault, each-none}
-use Rattle.stored_fields.specs.Format.{format_shape, is_other_format}
-use Rattle.stored_fields.specs.Places.{is_past, header_conditions, place_shape, place_conditions, is_misplaced, places_kind, fdx_plan}
-use Rattle.stored_fields.proofs.StepLemmas.{alone_read, alone_breaks, alone_was, record_at-was, due_was, file_was, nothing_left, trailing}
+use Rattle.lu_grammar.proofs.Codecs.{ok_of, read_due, read_due_broken, ok_pair, same_pair, read_plan-and_then, then_ok, times-more, times-fault, each-none, alone_read, alone_breaks, alone_was, record_at-was, due_was, file_was, nothing_left, trailing}
+use Rattle.lu_grammar.proofs.Loops.{one-was}
+use Rattle.stored_fields.specs.Format.{store_format, format_shape, is_other_store_format}
+use Rattle.stored_fields.specs.Places.{is_past_store, fdx_header_conditions, place_shape, fdx_place_conditions, is_misplaced, places_kind, fdx_plan}
+use Rattle.stored_fields.proofs.SpotLemmas.{same_format}
 use Rattle.stored_fields.proofs.FixedLemmas.{int32_read, int64_read}
 
 -- ---- one record
 
-pub place_given : (before : Option ℤ) (c d : Cursor) (z w : ℤ) → w ≡ z → read_part int64 c ≡ Ok (z, d) → is_misplaced before w ≡ false → record_at place_shape (place_conditions before) c ≡ Ok (w, d)
+pub place_given : (before : Option ℤ) (c d : Cursor) (z w : ℤ) → w ≡ z → read_part int64 c ≡ Ok (z, d) → is_misplaced before w ≡ false → record_at place_shape (fdx_place_conditions before) c ≡ Ok (w, d)
 place_given before c d z w is e good =
     let here : is_misplaced before z ≡ false = ap (is_misplaced before) (sym is) ∙ good in
-    alone_read int64 (λ z. z) (place_conditions before) c d z e (rw here refl) ∙ ap (λ (x : ℤ). Ok (x, d)) (sym is)
+    alone_read int64 (λ z. z) (fdx_place_conditions before) c d z e (rw here refl) ∙ ap (λ (x : ℤ). Ok (x, d)) (sym is)
 
-pub place_broken : (before : Option ℤ) (c d : Cursor) (z w : ℤ) → w ≡ z → read_part int64 c ≡ Ok (z, d) → is_misplaced before w ≡ true → record_at place_shape (place_conditions before) c ≡ Err 41
+pub place_broken : (before : Option ℤ) (c d : Cursor) (z w : ℤ) → w ≡ z → read_part int64 c ≡ Ok (z, d) → is_misplaced before w ≡ true → record_at place_shape (fdx_place_conditions before) c ≡ Err 41
 place_broken before c d z w is e bad =
     let here : is_misplaced before z ≡ true = ap (is_misplaced before) (sym is) ∙ bad in
-    alone_breaks int64 (λ z. z) (place_conditions before) c d z 41 e (rw here refl)
+    alone_breaks int64 (λ z. z) (fdx_place_conditions before) c d z 41 e (rw here refl)
 
-pub header_given : (total : ℕ) (window : Window) (c d : Cursor) (z w : ℤ) → w ≡ z → read_part int32 c ≡ Ok (z, d) → None ≡ first_broken (header_conditions total window w) → record_at format_shape (header_conditions total window) c ≡ Ok (w, d)
+-- a good header has the format number, and the window is in the store
+pub header_format : (total : ℕ) (window : Window) (z : ℤ) → first_broken (fdx_header_conditions total window z) ≡ None → is_other_store_format z ≡ false
+header_format total window z e = go (is_other_store_format z) (is_past_store total window) refl e
+  where
+    go : (other past : Bool) → is_other_store_format z ≡ other → first_broken (record { rule = 40; broken = other } ∷ record { rule = 42; broken = past } ∷ []) ≡ None → is_other_store_format z ≡ false
+    go true past is h = cc
+    go false past is h = is
+
+pub header_given : (total : ℕ) (window : Window) (c d : Cursor) (z w : ℤ) → w ≡ z → read_part int32 c ≡ Ok (z, d) → None ≡ first_broken (fdx_header_conditions total window w) → record_at format_shape (fdx_header_conditions total window) c ≡ Ok (store_format, d)
 header_given total window c d z w is e good =
-    alone_read int32 (λ z. z) (header_conditions total window) c d z e (ap (λ (x : ℤ). first_broken (header_conditions total window x)) (sym is) ∙ sym good) ∙ ap (λ (x : ℤ). Ok (x, d)) (sym is)
+    alone_read int32 (λ z. z) (fdx_header_conditions total window) c d z e (ap (λ (x : ℤ). first_broken (fdx_header_conditions total window x)) (sym is) ∙ sym good)
+    ∙ ap (λ (x : ℤ). Ok (x, d)) (sym is ∙ same_format w (header_format total window w (sym good)))
 
-pub header_broken_by : (total : ℕ) (window : Window) (c d : Cursor) (z w : ℤ) (rule : ℕ) → w ≡ z → read_part int32 c ≡ Ok (z, d) → Some rule ≡ first_broken (header_conditions total window w)
-    → record_at format_shape (header_conditions total window) c ≡ Err rule
+pub header_broken_by : (total : ℕ) (window : Window) (c d : Cursor) (z w : ℤ) (rule : ℕ) → w ≡ z → read_part int32 c ≡ Ok (z, d) → Some rule ≡ first_broken (fdx_header_conditions total window w)
+    → record_at format_shape (fdx_header_conditions total window) c ≡ Err rule
 header_broken_by total window c d z w rule is e broken =
-    alone_breaks int32 (λ z. z) (header_conditions total window) c d z rule e (ap (λ (x : ℤ). first_broken (header_conditions total window x)) (sym is) ∙ sym broken)
+    alone_breaks int32 (λ z. z) (fdx_header_conditions total window) c d z rule e (ap (λ (x : ℤ). first_broken (fdx_header_conditions total window x)) (sym is) ∙ sym broken)
 
 -- ---- so many places
 
@@ -54,32 +62,32 @@ pub passed_no_place : (from : Cursor) → PassedPlaces from 0 None from
 passed_no_place from = record { places = []; last_is = refl; reads = each-none (one places_kind) [] from }
 
 pub passed_place : (from : Cursor) (number : ℕ) (last : Option ℤ) (here : Cursor) (z : ℤ) (next : Cursor) → PassedPlaces from number last here
-    → record_at place_shape (place_conditions last) here ≡ Ok (z, next) → PassedPlaces from (number + 1) (Some z) next
+    → record_at place_shape (fdx_place_conditions last) here ≡ Ok (z, next) → PassedPlaces from (number + 1) (Some z) next
 passed_place from number last here z next before e = record {
   places = before.places ++ z ∷ [];
   last_is = last_push None before.places z;
-  reads = times-more places_kind number [] from before.places here z next before.reads (subst (λ (o : Option ℤ). record_at place_shape (place_conditions o) here ≡ Ok (z, next)) (sym before.last_is) e);
+  reads = times-more places_kind number [] from before.places here z next before.reads (subst (λ (o : Option ℤ). record_at place_shape (fdx_place_conditions o) here ≡ Ok (z, next)) (sym before.last_is) e);
 }
 
 -- ---- the file
 
 -- the header is passed
 abbrev pub IsBehindHeader : ℕ → Window → List ℕ → Cursor → Type 0
-IsBehindHeader total window bytes here = (z : ℤ) × (record_at format_shape (header_conditions total window) (start_of bytes) ≡ Ok (z, here))
+IsBehindHeader total window bytes here = record_at format_shape (fdx_header_conditions total window) (start_of bytes) ≡ Ok (store_format, here)
 
 fdx_from : (total : ℕ) (window : Window) (bytes : List ℕ) (from : Cursor) → IsBehindHeader total window bytes from → read_plan (fdx_plan total window) (start_of bytes) ≡ read_plan (times places_kind total []) from
-fdx_from total window bytes from (z, e) = read_due format_shape (λ _ z. header_conditions total window z) (λ _ _. times places_kind total []) (start_of bytes) z from e
+fdx_from total window bytes from e = read_due format_shape (λ _ z. fdx_header_conditions total window z) (λ _ _. times places_kind total []) (start_of bytes) store_format from e
 
-pub fdx_header_fault : (total : ℕ) (window : Window) (bytes : List ℕ) (rule : ℕ) → record_at format_shape (header_conditions total window) (start_of bytes) ≡ Err rule
+pub fdx_header_fault : (total : ℕ) (window : Window) (bytes : List ℕ) (rule : ℕ) → record_at format_shape (fdx_header_conditions total window) (start_of bytes) ≡ Err rule
     → read_file (fdx_plan total window) bytes ≡ Err (record { offset = 0; rule = rule })
 fdx_header_fault total window bytes rule e =
-    ap (λ (r : Result (List ℤ × Cursor) Broken). r >>= ended) (read_due_broken format_shape (λ _ z. header_conditions total window z) (λ _ _. times places_kind total []) (start_of bytes) rule e)
+    ap (λ (r : Result (List ℤ × Cursor) Broken). r >>= ended) (read_due_broken format_shape (λ _ z. fdx_header_conditions total window z) (λ _ _. times places_kind total []) (start_of bytes) rule e)
 
 pub fdx_place_fault : (total : ℕ) (window : Window) (bytes : List ℕ) (from : Cursor) (number : ℕ) (last : Option ℤ) (here : Cursor) (rule : ℕ) → IsBehindHeader total window bytes from → PassedPlaces from number last here → number < total
-    → record_at place_shape (place_conditions last) here ≡ Err rule → read_file (fdx_plan total window) bytes ≡ Err (record { offset = here.place; rule = rule })
+    → record_at place_shape (fdx_place_conditions last) here ≡ Err rule → read_file (fdx_plan total window) bytes ≡ Err (record { offset = here.place; rule = rule })
 fdx_place_fault total window bytes from number last here rule header before lt e =
     ap (λ (r : Result (List ℤ × Cursor) Broken). r >>= ended)
-    (fdx_from total window bytes from header ∙ times-fault places_kind number total [] from before.places here rule lt before.reads (subst (λ (o : Option ℤ). record_at place_shape (place_conditions o) here ≡ Err rule) (sym before.last_is) e))
+    (fdx_from total window bytes from header ∙ times-fault places_kind number total [] from before.places here rule lt before.reads (subst (λ (o : Option ℤ). record_at place_shape (fdx_place_conditions o) here ≡ Err rule) (sym before.last_is) e))
 
 pub fdx_trailing : (total : ℕ) (window : Window) (bytes : List ℕ) (from : Cursor) (number : ℕ) (last : Option ℤ) (here : Cursor) → IsBehindHeader total window bytes from → PassedPlaces from number last here → number ≡ total → 0 < length here.rest
     → read_file (fdx_plan total window) bytes ≡ Err (record { offset = here.place; rule = 6 })
@@ -124,7 +132,7 @@ walked zero front c d places e =
 walked (suc n) front c d places e =
     let first = then_ok (read_plan (one places_kind front) c) (λ x. read_plan (times places_kind n x.0) x.1) (places, d) (sym (read_plan-and_then (one places_kind front) (times places_kind n) c) ∙ e) in
     let was = one-was places_kind front c first.0 first.1 in
-    let part = alone_was int64 (λ z. z) c was.0 first.0.1 (record_at-was place_shape (place_conditions (last_or None front)) c was.0 first.0.1 was.1).0 in
+    let part = alone_was int64 (λ z. z) c was.0 first.0.1 (record_at-was place_shape (fdx_place_conditions (last_or None front)) c was.0 first.0.1 was.1).0 in
     let here = int64_read c first.0.1 part.0 part.1 in
     let rest = walked n first.0.0 first.0.1 d places first.2 in
     let behind_first : first.0.1.rest ≡ drop 8 c.rest = ap (λ (x : Cursor). x.rest) here.2 in
@@ -154,8 +162,8 @@ pub record HasPlaces (fdx : List ℕ) (total : ℕ) (window : Window) (places : 
 pub has_places : (total : ℕ) (window : Window) (fdx : List ℕ) (places : List ℤ) → read_file (fdx_plan total window) fdx ≡ ok_of places → HasPlaces fdx total window places
 has_places total window fdx places e =
     let file = file_was (fdx_plan total window) fdx places e in
-    let header = due_was format_shape (λ _ z. header_conditions total window z) (λ _ _. times places_kind total []) (start_of fdx) (places, file.0) file.1 in
-    let judged = record_at-was format_shape (header_conditions total window) (start_of fdx) header.0.0 header.0.1 header.1 in
+    let header = due_was format_shape (λ _ z. fdx_header_conditions total window z) (λ _ _. times places_kind total []) (start_of fdx) (places, file.0) file.1 in
+    let judged = record_at-was format_shape (fdx_header_conditions total window) (start_of fdx) header.0.0 header.0.1 header.1 in
     let part = alone_was int32 (λ z. z) (start_of fdx) header.0.0 header.0.1 judged.0 in
     let four = int32_read (start_of fdx) header.0.1 part.0 part.1 in
     let walk = walked total [] header.0.1 file.0 places header.2 in
@@ -165,10 +173,10 @@ has_places total window fdx places e =
       long = omega (arith, four.0, walk.long, file.2, ap length behind, ap length last, length-drop 4 fdx, length-drop (8 * total) header.0.1.rest);
       many = ap length walk.all ∙ walk.many;
       at = λ i lt. ap (λ (t : List ℕ). read int64 t) (sym (drop-drop (8 * i) 4 fdx) ∙ ap (drop (8 * i)) (sym behind)) ∙ walk.at i lt ∙ ap (λ (xs : List ℤ). ok_pair (get_or xs i (pos 0)) 8) (sym walk.all);
-      within = not_past (is_other_format header.0.0) (is_past total window) refl judged.1;
+      within = not_past (is_other_store_format header.0.0) (is_past_store total window) refl judged.1;
     }
   where
-    not_past : (other past : Bool) → is_past total window ≡ past → first_broken (record { rule = 40; broken = other } ∷ record { rule = 42; broken = past } ∷ []) ≡ None → window.offset + window.count ≤ total
+    not_past : (other past : Bool) → is_past_store total window ≡ past → first_broken (record { rule = 40; broken = other } ∷ record { rule = 42; broken = past } ∷ []) ≡ None → window.offset + window.count ≤ total
     not_past true past is h = cc
     not_past false true is h = cc
     not_past false false is h = ltb-false total (window.offset + window.count) is

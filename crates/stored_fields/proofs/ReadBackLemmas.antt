@@ -7,32 +7,23 @@ use borrow.Author.Tests.{ltb-true, leb-true}
 use Rattle.std.proofs.lemmas.Bool.{lt-leb, le-ltb, cases_lt, lt-ltb}
 use Rattle.std.specs.Ordering.{int_eq}
 use Rattle.std.proofs.lemmas.Bool.Decides.{Decides-int_eq}
-use Rattle.stored_fields.proofs.BegunLemmas.{places_many}
+use Rattle.stored_fields.proofs.HeldLemmas.{places_many}
 use Rattle.std.proofs.lemmas.List.{append-nil, length-append, get_or-take, get_or-drop, length-take, length-drop}
 use Rattle.lu_types.specs.declared.stored.Window.{Window}
-use Rattle.lu_grammar.specs.Parts.{int32, int64, num, groups, spelling}
+use Rattle.lu_grammar.specs.Parts.{int32, num, groups, spelling}
 use Rattle.lu_grammar.specs.Records.{first_broken}
 use Rattle.lu_grammar.specs.Plans.{done, and_then, one, times, each, read_file}
-use Rattle.lu_grammar.proofs.Writers.{Writes, Writes-due, Writes-done, Writes-and_then, Writes-none, read_file-Writes}
-use Rattle.stored_fields.specs.declared.layout.TheConstants.{FORMAT, HEADER_BYTES}
-use Rattle.stored_fields.specs.Format.{format_shape}
+use Rattle.lu_grammar.proofs.Codecs.{Writes, Writes-due, Writes-done, Writes-and_then, Writes-none, read_file-Writes}
+use Rattle.stored_fields.specs.Format.{store_format, header_length, format_shape}
 use Rattle.stored_fields.specs.Values.{Document, HasFields}
-use Rattle.stored_fields.specs.Places.{is_past, header_conditions, is_misplaced, place_conditions, places_kind, fdx_plan}
+use Rattle.stored_fields.specs.Places.{is_past_store, fdx_header_conditions, is_misplaced, fdx_place_conditions, places_kind, fdx_plan}
 use Rattle.stored_fields.specs.Documents.{format, count, count_of, header_shape, format_conditions, count_shape, start_conditions, values_kind, is_within, document_at, next_document, fdt_plan}
 use Rattle.stored_fields.specs.Stores.{windowed}
-use Rattle.stored_fields.specs.Writing.{IsStorableDocument, AreStorable, value_bytes, document_bytes, documents_bytes, fdt_bytes, places_from, fdx_bytes, IsCheckable}
+use Rattle.stored_fields.specs.Writing.{IsStorableDocument, AreStorable, value_bytes, document_bytes, fdt_bytes, places_from, place_bytes, fdx_bytes, IsCheckable}
 use Rattle.stored_fields.proofs.PlaceLemmas.{last_push}
-use Rattle.stored_fields.proofs.WriteLemmas.{IsField, writes_one, writes_values}
+use Rattle.stored_fields.proofs.WriteLemmas.{IsField, all_head, all_tail, writes_one, writes_values}
 
 -- ---- bytes of documents
-
-pub documents_cons : (d : Document) (ds : List Document) → documents_bytes 0 (d ∷ ds) ≡ document_bytes 0 d ++ documents_bytes 0 ds
-documents_cons d [] = sym (append-nil (document_bytes 0 d))
-documents_cons d (e ∷ ds) = refl
-
-pub storable_cons : (d : Document) (ds : List Document) → AreStorable 0 (d ∷ ds) → IsStorableDocument 0 d × AreStorable 0 ds
-storable_cons d [] h = (h, refl)
-storable_cons d (e ∷ ds) h = h
 
 groups_some : (more n : ℕ) → 0 < length (groups more n)
 unfolding groups
@@ -42,8 +33,8 @@ groups_some (suc more) n = elim (cases_lt n 128) [
   | inr le ↦ let f : ltb n 128 ≡ false = le-ltb n 128 le in rw f (omega arith)
 ]
 
-document_some : (d : Document) → 0 < length (document_bytes 0 d)
-document_some d = omega (arith, length-append (spelling num (length d + 0)) (flat_map value_bytes d), groups_some 4 (length d + 0))
+document_some : (d : Document) → 0 < length (document_bytes d)
+document_some d = omega (arith, length-append (spelling num (length d)) (flat_map value_bytes d), groups_some 4 (length d))
 
 -- ---- the places
 
@@ -55,62 +46,61 @@ AreWellPlaced before (p ∷ ps) = (is_misplaced before (pos p) ≡ false) × (p 
 later_place : (q p : ℕ) → q < p → p < 2 ^ 31 → is_misplaced (Some (pos q)) (pos p) ≡ false
 later_place q p lt few = rw (lt-leb p q lt, le-ltb 2147483647 p (omega arith)) refl
 
-well_placed : (q place : ℕ) (documents : List Document) → q < place → place + length (documents_bytes 0 documents) < 2 ^ 31 → AreWellPlaced (Some (pos q)) (places_from place documents)
+well_placed : (q place : ℕ) (documents : List Document) → q < place → place + length (flat_map document_bytes documents) < 2 ^ 31 → AreWellPlaced (Some (pos q)) (places_from place documents)
 well_placed q place [] lt short = tt
 well_placed q place (d ∷ ds) lt short =
-    let here : place < 2 ^ 31 = omega (arith, short, ap length (documents_cons d ds), length-append (document_bytes 0 d) (documents_bytes 0 ds)) in
-    let next : place < place + length (document_bytes 0 d) = omega (arith, document_some d) in
-    let rest : place + length (document_bytes 0 d) + length (documents_bytes 0 ds) < 2 ^ 31 = omega (arith, short, ap length (documents_cons d ds), length-append (document_bytes 0 d) (documents_bytes 0 ds)) in
-    (later_place q place lt here, here, well_placed place (place + length (document_bytes 0 d)) ds next rest)
+    let here : place < 2 ^ 31 = omega (arith, short, length-append (document_bytes d) (flat_map document_bytes ds)) in
+    let next : place < place + length (document_bytes d) = omega (arith, document_some d) in
+    let rest : place + length (document_bytes d) + length (flat_map document_bytes ds) < 2 ^ 31 = omega (arith, short, length-append (document_bytes d) (flat_map document_bytes ds)) in
+    (later_place q place lt here, here, well_placed place (place + length (document_bytes d)) ds next rest)
 
-first_placed : (documents : List Document) → HEADER_BYTES + length (documents_bytes 0 documents) < 2 ^ 31 → AreWellPlaced None (places_from HEADER_BYTES documents)
+first_placed : (documents : List Document) → header_length + length (flat_map document_bytes documents) < 2 ^ 31 → AreWellPlaced None (places_from header_length documents)
 first_placed [] short = tt
 first_placed (d ∷ ds) short =
-    let next : HEADER_BYTES < HEADER_BYTES + length (document_bytes 0 d) = omega (arith, document_some d) in
-    let rest : HEADER_BYTES + length (document_bytes 0 d) + length (documents_bytes 0 ds) < 2 ^ 31 = omega (arith, short, ap length (documents_cons d ds), length-append (document_bytes 0 d) (documents_bytes 0 ds)) in
-    (refl, (omega arith), well_placed HEADER_BYTES (HEADER_BYTES + length (document_bytes 0 d)) ds next rest)
+    let next : header_length < header_length + length (document_bytes d) = omega (arith, document_some d) in
+    let rest : header_length + length (document_bytes d) + length (flat_map document_bytes ds) < 2 ^ 31 = omega (arith, short, length-append (document_bytes d) (flat_map document_bytes ds)) in
+    (refl, (omega arith), well_placed header_length (header_length + length (document_bytes d)) ds next rest)
 
-writes_places : (ps : List ℕ) (front : List ℤ) (place : ℕ) → AreWellPlaced (last_or None front) ps → Writes (times places_kind (length ps) front) place (flat_map (λ p. spelling int64 (pos p)) ps) (front ++ map pos ps)
+writes_places : (ps : List ℕ) (front : List ℤ) (place : ℕ) → AreWellPlaced (last_or None front) ps → Writes (times places_kind (length ps) front) place (flat_map place_bytes ps) (front ++ map pos ps)
 unfolding each
 writes_places [] front place h = subst (λ (zs : List ℤ). Writes (times places_kind 0 front) place [] zs) (sym (append-nil front)) (Writes-none (one places_kind) place front)
 writes_places (p ∷ ps) front place h =
     let fits : FitsSigned w64 (pos p) = record { sfits = omega (arith, h.1) } in
-    let good : first_broken (place_conditions (last_or None front) (pos p)) ≡ None = rw h.0 refl in
-    let first : Writes (one places_kind front) place (spelling int64 (pos p)) (front ++ pos p ∷ []) = writes_one places_kind front place (pos p) (spelling int64 (pos p)) (pos p, [], fits, sym (append-nil (spelling int64 (pos p))), (refl, refl)) good in
+    let good : first_broken (fdx_place_conditions (last_or None front) (pos p)) ≡ None = rw h.0 refl in
+    let first : Writes (one places_kind front) place (place_bytes p) (front ++ pos p ∷ []) = writes_one places_kind front place (pos p) (place_bytes p) (pos p, [], fits, sym (append-nil (place_bytes p)), (refl, refl)) good in
     let rest : AreWellPlaced (last_or None (front ++ pos p ∷ [])) ps = subst (λ (o : Option ℤ). AreWellPlaced o ps) (sym (last_push None front (pos p))) h.2 in
-    subst (λ (zs : List ℤ). Writes (times places_kind (suc (length ps)) front) place (spelling int64 (pos p) ++ flat_map (λ q. spelling int64 (pos q)) ps) zs) (append_assoc front (pos p ∷ []) (map pos ps))
-    (Writes-and_then (one places_kind front) (times places_kind (length ps)) place (spelling int64 (pos p)) (flat_map (λ q. spelling int64 (pos q)) ps) (front ++ pos p ∷ []) ((front ++ pos p ∷ []) ++ map pos ps) first
-    (writes_places ps (front ++ pos p ∷ []) (place + length (spelling int64 (pos p))) rest))
+    subst (λ (zs : List ℤ). Writes (times places_kind (suc (length ps)) front) place (place_bytes p ++ flat_map place_bytes ps) zs) (append_assoc front (pos p ∷ []) (map pos ps))
+    (Writes-and_then (one places_kind front) (times places_kind (length ps)) place (place_bytes p) (flat_map place_bytes ps) (front ++ pos p ∷ []) ((front ++ pos p ∷ []) ++ map pos ps) first
+    (writes_places ps (front ++ pos p ∷ []) (place + length (place_bytes p)) rest))
 
 -- the places of written documents
 abbrev pub places_of : List Document → List ℤ
-places_of documents = map pos (places_from HEADER_BYTES documents)
+places_of documents = map pos (places_from header_length documents)
 
-pub fdx_writes : (window : Window) (documents : List Document) → length (fdt_bytes 0 documents) < 2 ^ 31 → window.offset + window.count ≤ length documents
+pub fdx_writes : (window : Window) (documents : List Document) → length (fdt_bytes documents) < 2 ^ 31 → window.offset + window.count ≤ length documents
     → Writes (fdx_plan (length documents) window) 0 (fdx_bytes documents) (places_of documents)
 fdx_writes window documents short within =
-    let four : length (spelling int32 FORMAT) ≡ 4 = refl in
-    let placed = first_placed documents (omega (arith, four, short, length-append (spelling int32 FORMAT) (documents_bytes 0 documents))) in
-    let in_store : is_past (length documents) window ≡ false = le-ltb (length documents) (window.offset + window.count) within in
-    let fits : FitsSigned w32 FORMAT = record { sfits = omega arith } in
-    let good : first_broken (header_conditions (length documents) window FORMAT) ≡ None = rw in_store refl in
-    let body : Writes (times places_kind (length documents) []) (0 + length (spelling int32 FORMAT)) (flat_map (λ p. spelling int64 (pos p)) (places_from HEADER_BYTES documents)) (places_of documents) =
-    subst (λ (n : ℕ). Writes (times places_kind n []) (0 + length (spelling int32 FORMAT)) (flat_map (λ p. spelling int64 (pos p)) (places_from HEADER_BYTES documents)) (places_of documents)) (places_many HEADER_BYTES documents)
-    (writes_places (places_from HEADER_BYTES documents) [] (0 + length (spelling int32 FORMAT)) placed) in
-    Writes-due format_shape (λ _ z. header_conditions (length documents) window z) (λ _ _. times places_kind (length documents) []) 0 FORMAT (spelling int32 FORMAT) (flat_map (λ p. spelling int64 (pos p)) (places_from HEADER_BYTES documents)) (places_of documents)
-    (FORMAT, [], fits, sym (append-nil (spelling int32 FORMAT)), (refl, refl)) good body
+    let four : length (spelling int32 store_format) ≡ 4 = refl in
+    let placed = first_placed documents (omega (arith, four, short, length-append (spelling int32 store_format) (flat_map document_bytes documents))) in
+    let in_store : is_past_store (length documents) window ≡ false = le-ltb (length documents) (window.offset + window.count) within in
+    let fits : FitsSigned w32 store_format = record { sfits = omega arith } in
+    let good : first_broken (fdx_header_conditions (length documents) window store_format) ≡ None = rw in_store refl in
+    let body : Writes (times places_kind (length documents) []) (0 + length (spelling int32 store_format)) (flat_map place_bytes (places_from header_length documents)) (places_of documents) =
+    subst (λ (n : ℕ). Writes (times places_kind n []) (0 + length (spelling int32 store_format)) (flat_map place_bytes (places_from header_length documents)) (places_of documents)) (places_many header_length documents)
+    (writes_places (places_from header_length documents) [] (0 + length (spelling int32 store_format)) placed) in
+    Writes-due format_shape (λ _ z. fdx_header_conditions (length documents) window z) (λ _ _. times places_kind (length documents) []) 0 store_format (spelling int32 store_format) (flat_map place_bytes (places_from header_length documents)) (places_of documents)
+    (store_format, [], fits, sym (append-nil (spelling int32 store_format)), (refl, refl)) good body
 
 -- ---- the documents
 
-writes_document : (asked : Bool) (fields : ℕ) (wanted : ℤ) (front : List Document) (d : Document) (place : ℕ) → wanted ≡ pos place → IsStorableDocument 0 d → All (IsField asked fields) d
-    → Writes (document_at asked fields wanted front) place (document_bytes 0 d) (front ++ d ∷ [])
+writes_document : (asked : Bool) (fields : ℕ) (wanted : ℤ) (front : List Document) (d : Document) (place : ℕ) → wanted ≡ pos place → IsStorableDocument d → All (IsField asked fields) d
+    → Writes (document_at asked fields wanted front) place (document_bytes d) (front ++ d ∷ [])
 writes_document asked fields wanted front d place is storable there =
-    let n = length d + 0 in
+    let n = length d in
     let kind = values_kind asked fields in
     let all : List Document = front ++ d ∷ [] in
     let here = place + length (spelling num n) in
-    let many : length d ≡ n = omega arith in
-    let values : Writes (times kind n []) here (flat_map value_bytes d) d = subst (λ (k : ℕ). Writes (times kind k []) here (flat_map value_bytes d) d) many (writes_values asked fields d [] here storable.1 there) in
+    let values : Writes (times kind n []) here (flat_map value_bytes d) d = writes_values asked fields d [] here storable.1 there in
     let body : Writes (and_then (times kind n []) (λ values. done (front ++ values ∷ []))) here (flat_map value_bytes d) all =
     subst (λ (t : List ℕ). Writes (and_then (times kind n []) (λ values. done (front ++ values ∷ []))) here t all) (append-nil (flat_map value_bytes d))
     (Writes-and_then (times kind n []) (λ values. done (front ++ values ∷ [])) here (flat_map value_bytes d) [] d all values (Writes-done (here + length (flat_map value_bytes d)) all)) in
@@ -127,28 +117,26 @@ at_length {A} xs y ys d n is = ap (λ (k : ℕ). get_or (xs ++ y ∷ ys) k d) (s
     go [] = refl
     go (x ∷ xs) = go xs
 
-writes_all : (window : Window) (fields : ℕ) (places : List ℤ) (ds front : List Document) (passed : List ℤ) (place : ℕ) → places ≡ passed ++ map pos (places_from place ds) → length passed ≡ length front → AreStorable 0 ds
+writes_all : (window : Window) (fields : ℕ) (places : List ℤ) (ds front : List Document) (passed : List ℤ) (place : ℕ) → places ≡ passed ++ map pos (places_from place ds) → length passed ≡ length front → AreStorable ds
     → ((i : ℕ) → i < length ds → is_within window (length front + i) ≡ true → HasFields fields (get_or ds i []))
-    → Writes (each (next_document window fields places) (length ds) front) place (documents_bytes 0 ds) (front ++ ds)
+    → Writes (each (next_document window fields places) (length ds) front) place (flat_map document_bytes ds) (front ++ ds)
 unfolding each
 writes_all window fields places [] front passed place is long storable named =
     subst (λ (all : List Document). Writes (each (next_document window fields places) 0 front) place [] all) (sym (append-nil front)) (Writes-none (next_document window fields places) place front)
 writes_all window fields places (d ∷ ds) front passed place is long storable named =
     let asked = is_within window (length front) in
     let wanted : ℤ = get_or places (length front) (pos 0) in
-    let parts = storable_cons d ds storable in
-    let place_is : wanted ≡ pos place = ap (λ (zs : List ℤ). get_or zs (length front) (pos 0)) is ∙ at_length passed (pos place) (map pos (places_from (place + length (document_bytes 0 d)) ds)) (pos 0) (length front) long in
+    let place_is : wanted ≡ pos place = ap (λ (zs : List ℤ). get_or zs (length front) (pos 0)) is ∙ at_length passed (pos place) (map pos (places_from (place + length (document_bytes d)) ds)) (pos 0) (length front) long in
     let there : All (IsField asked fields) d = λ k v lt holds. named 0 (omega arith) (ap (is_within window) (let e : length front + 0 ≡ length front = omega arith in e) ∙ holds) k v lt in
-    let first : Writes (next_document window fields places front) place (document_bytes 0 d) (front ++ d ∷ []) = writes_document asked fields wanted front d place place_is parts.0 there in
-    let behind : places ≡ (passed ++ pos place ∷ []) ++ map pos (places_from (place + length (document_bytes 0 d)) ds) =
-    is ∙ sym (append_assoc passed (pos place ∷ []) (map pos (places_from (place + length (document_bytes 0 d)) ds))) in
+    let first : Writes (next_document window fields places front) place (document_bytes d) (front ++ d ∷ []) = writes_document asked fields wanted front d place place_is (all_head IsStorableDocument d ds storable) there in
+    let behind : places ≡ (passed ++ pos place ∷ []) ++ map pos (places_from (place + length (document_bytes d)) ds) =
+    is ∙ sym (append_assoc passed (pos place ∷ []) (map pos (places_from (place + length (document_bytes d)) ds))) in
     let longer : length (passed ++ pos place ∷ []) ≡ length (front ++ d ∷ []) = omega (arith, long, length-append passed (pos place ∷ []), length-append front (d ∷ [])) in
     let later : (i : ℕ) → i < length ds → is_within window (length (front ++ d ∷ []) + i) ≡ true → HasFields fields (get_or ds i []) =
     λ i lt holds. named (suc i) (omega arith) (ap (is_within window) (let e : length front + suc i ≡ length (front ++ d ∷ []) + i = omega (arith, length-append front (d ∷ [])) in e) ∙ holds) in
-    subst (λ (t : List ℕ). Writes (each (next_document window fields places) (suc (length ds)) front) place t (front ++ d ∷ ds)) (sym (documents_cons d ds))
-    (subst (λ (all : List Document). Writes (each (next_document window fields places) (suc (length ds)) front) place (document_bytes 0 d ++ documents_bytes 0 ds) all) (append_assoc front (d ∷ []) ds)
-    (Writes-and_then (next_document window fields places front) (each (next_document window fields places) (length ds)) place (document_bytes 0 d) (documents_bytes 0 ds) (front ++ d ∷ []) ((front ++ d ∷ []) ++ ds) first
-    (writes_all window fields places ds (front ++ d ∷ []) (passed ++ pos place ∷ []) (place + length (document_bytes 0 d)) behind longer parts.1 later)))
+    subst (λ (all : List Document). Writes (each (next_document window fields places) (suc (length ds)) front) place (document_bytes d ++ flat_map document_bytes ds) all) (append_assoc front (d ∷ []) ds)
+    (Writes-and_then (next_document window fields places front) (each (next_document window fields places) (length ds)) place (document_bytes d) (flat_map document_bytes ds) (front ++ d ∷ []) ((front ++ d ∷ []) ++ ds) first
+    (writes_all window fields places ds (front ++ d ∷ []) (passed ++ pos place ∷ []) (place + length (document_bytes d)) behind longer (all_tail IsStorableDocument d ds storable) later))
 
 -- the fields of a document in the window are there
 named_within : (fields : ℕ) (window : Window) (documents : List Document) → IsCheckable fields window documents → (i : ℕ) → is_within window i ≡ true → HasFields fields (get_or documents i [])
@@ -167,25 +155,25 @@ named_within fields window documents h i holds = go (nat_le window.offset i) (na
         get_or-take window.count (drop window.offset documents) k [] inside ∙ get_or-drop window.offset documents k [] ∙ ap (λ (j : ℕ). get_or documents j []) back in
         subst (HasFields fields) same (h.named k [] (omega (arith, h.within, length-take window.count (drop window.offset documents), length-drop window.offset documents)))
 
-pub fdt_writes : (fields : ℕ) (window : Window) (documents : List Document) → AreStorable 0 documents → IsCheckable fields window documents → Writes (fdt_plan window fields (places_of documents)) 0 (fdt_bytes 0 documents) documents
+pub fdt_writes : (fields : ℕ) (window : Window) (documents : List Document) → AreStorable documents → IsCheckable fields window documents → Writes (fdt_plan window fields (places_of documents)) 0 (fdt_bytes documents) documents
 fdt_writes fields window documents storable h =
     let places = places_of documents in
-    let fits : FitsSigned w32 FORMAT = record { sfits = omega arith } in
-    let many : length documents ≡ length places = sym (places_many HEADER_BYTES documents) ∙ sym (map_long (places_from HEADER_BYTES documents)) in
-    let body : Writes (each (next_document window fields places) (length places) []) (0 + length (spelling int32 FORMAT)) (documents_bytes 0 documents) documents =
-    subst (λ (n : ℕ). Writes (each (next_document window fields places) n []) HEADER_BYTES (documents_bytes 0 documents) documents) many
-    (writes_all window fields places documents [] [] HEADER_BYTES refl refl storable (λ i lt holds. named_within fields window documents h i (ap (is_within window) (let e : i ≡ 0 + i = omega arith in e) ∙ holds))) in
-    Writes-due header_shape (λ _ r. format_conditions r) (λ _ _. each (next_document window fields places) (length places) []) 0 (format FORMAT) (spelling int32 FORMAT) (documents_bytes 0 documents) documents
-    (FORMAT, [], fits, sym (append-nil (spelling int32 FORMAT)), (refl, refl)) refl body
+    let fits : FitsSigned w32 store_format = record { sfits = omega arith } in
+    let many : length documents ≡ length places = sym (places_many header_length documents) ∙ sym (map_long (places_from header_length documents)) in
+    let body : Writes (each (next_document window fields places) (length places) []) (0 + length (spelling int32 store_format)) (flat_map document_bytes documents) documents =
+    subst (λ (n : ℕ). Writes (each (next_document window fields places) n []) header_length (flat_map document_bytes documents) documents) many
+    (writes_all window fields places documents [] [] header_length refl refl storable (λ i lt holds. named_within fields window documents h i (ap (is_within window) (let e : i ≡ 0 + i = omega arith in e) ∙ holds))) in
+    Writes-due header_shape (λ _ r. format_conditions r) (λ _ _. each (next_document window fields places) (length places) []) 0 (format store_format) (spelling int32 store_format) (flat_map document_bytes documents) documents
+    (store_format, [], fits, sym (append-nil (spelling int32 store_format)), (refl, refl)) refl body
   where
     map_long : (ps : List ℕ) → length (map pos ps) ≡ length ps
     map_long [] = refl
     map_long (p ∷ ps) = ap suc (map_long ps)
 
 -- both files are read as the documents
-pub read_back : (fields : ℕ) (window : Window) (documents : List Document) → AreStorable 0 documents → IsCheckable fields window documents
-    → (read_file (fdx_plan (length documents) window) (fdx_bytes documents) ≡ Ok (places_of documents)) × (read_file (fdt_plan window fields (places_of documents)) (fdt_bytes 0 documents) ≡ Ok documents)
+pub read_back : (fields : ℕ) (window : Window) (documents : List Document) → AreStorable documents → IsCheckable fields window documents
+    → (read_file (fdx_plan (length documents) window) (fdx_bytes documents) ≡ Ok (places_of documents)) × (read_file (fdt_plan window fields (places_of documents)) (fdt_bytes documents) ≡ Ok documents)
 read_back fields window documents storable h = (
   read_file-Writes (fdx_plan (length documents) window) (fdx_bytes documents) (places_of documents) (fdx_writes window documents h.short h.within),
-  read_file-Writes (fdt_plan window fields (places_of documents)) (fdt_bytes 0 documents) documents (fdt_writes fields window documents storable h),
+  read_file-Writes (fdt_plan window fields (places_of documents)) (fdt_bytes documents) documents (fdt_writes fields window documents storable h),
 )

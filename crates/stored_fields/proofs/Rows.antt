@@ -1,15 +1,15 @@
 -- Worked rows on the definitions: what reading answers at chosen bytes.
-use Rattle.std.proofs.Common.{◌≡◌, ℕ, true, false, List, [], ◌∷◌, ◌++◌, Result, Ok, Err, refl, pos, ℤ, map, take}
+use Rattle.std.proofs.Common.{◌≡◌, ℕ, Some, None, true, false, List, [], ◌∷◌, ◌++◌, Result, Ok, Err, refl, pos, ℤ, map, take}
 use Rattle.std.specs.Prelude.{codes, replicate}
 use Rattle.std.specs.Str.{is_utf8, chars}
 use Rattle.lu_types.specs.declared.stored.Stored.TheVariants.{Text, Binary}
 use Rattle.lu_types.specs.declared.stored.Window.{Window}
 use Rattle.lu_grammar.specs.Parts.{groups}
-use Rattle.stored_fields.specs.Writing.{fdx_bytes, fdt_bytes}
+use Rattle.stored_fields.specs.Writing.{fdx_bytes, fdt_bytes, HeldDocuments, with_begun, with_stored}
 use Rattle.lu_grammar.specs.Reading.{read, read_groups}
 use Rattle.lu_grammar.specs.Records.{record_at}
 use Rattle.lu_grammar.specs.Plans.{each, Broken, read_plan, read_file}
-use Rattle.stored_fields.specs.Values.{Document}
+use Rattle.stored_fields.specs.Values.{StoredField, Document}
 use Rattle.stored_fields.specs.Places.{fdx_plan}
 use Rattle.stored_fields.specs.Documents.{fdt_plan}
 
@@ -123,6 +123,30 @@ written_fdx : fdx_bytes hello ≡ fdx
 unfolding hello
 written_fdx = refl
 
-written_fdt : fdt_bytes 0 hello ≡ fdt 0 1
+written_fdt : fdt_bytes hello ≡ fdt 0 1
 unfolding hello groups
 written_fdt = refl
+
+-- ---- what the writer holds
+
+none_yet : HeldDocuments
+none_yet = record { finished = []; opened = None }
+
+begun_empty : with_begun 0 none_yet ≡ record { finished = [] ∷ []; opened = None }
+unfolding none_yet
+begun_empty = refl
+
+begun_two : with_begun 2 none_yet ≡ record { finished = []; opened = Some (record { announced = 2; values = [] }) }
+unfolding none_yet
+begun_two = refl
+
+abbrev empty_text : StoredField
+empty_text = record { field = 0; tokenized = false; value = Text [] }
+
+stored_first : with_stored empty_text (with_begun 2 none_yet) ≡ record { finished = []; opened = Some (record { announced = 2; values = empty_text ∷ [] }) }
+unfolding none_yet
+stored_first = refl
+
+stored_last : with_stored empty_text (with_stored empty_text (with_begun 2 none_yet)) ≡ record { finished = (empty_text ∷ empty_text ∷ []) ∷ []; opened = None }
+unfolding none_yet
+stored_last = refl

@@ -1,61 +1,35 @@
 -- A store whose files have no fault.
-use Rattle.std.proofs.Common.{◌≡◌, ℕ, ◌+◌, ◌*◌, ◌<◌, ◌≤◌, List, [], length, drop, get_or, Result, Ok, Err, refl, sym, ap, subst, ◌∙◌, arith, ℤ, pos, inl, inr}
+use Rattle.std.proofs.Common.{◌≡◌, ℕ, ◌+◌, ◌*◌, ◌<◌, ◌≤◌, List, [], length, drop, get_or, Ok, Err, sym, ap, subst, ◌∙◌, arith, ℤ, pos}
 use Rattle.std.proofs.lemmas.List.{length-take, length-drop, get_or-take, get_or-drop}
-use Rattle.lu_types.specs.declared.kind.FileKind.TheVariants.{Fdx, Fdt}
-use Rattle.lu_types.specs.declared.fault.Spot.{Spot}
 use Rattle.lu_types.specs.declared.stored.Window.{Window}
 use Rattle.lu_grammar.specs.Bytes.{IsBytes, Cursor}
 use Rattle.lu_grammar.specs.Parts.{int64, num}
-use Rattle.lu_grammar.specs.Reading.{read, read_part}
+use Rattle.lu_grammar.specs.Reading.{read, read_part, value_or}
 use Rattle.lu_grammar.specs.declared.bad.Bad.{Bad}
 use Rattle.stored_fields.specs.Remaining.{values_at}
-use Rattle.lu_grammar.specs.Plans.{read_file}
-use Rattle.lu_grammar.proofs.Plans.{ok_of, err_is_not_ok}
-use Rattle.lu_grammar.proofs.Records.{at, same_pair}
-use Rattle.lu_grammar.proofs.Files.{Reads-from, FirstFault-from}
+use Rattle.lu_grammar.specs.Meaning.{Reads}
+use Rattle.lu_grammar.proofs.Codecs.{ok_of, err_is_not_ok, same_pair, read_file-Reads}
+use Rattle.lu_grammar.proofs.Records.{at}
 use Rattle.std.specs.Prelude.{All}
 use Rattle.stored_fields.proofs.OnlyFiles.{windowed_named}
 use Rattle.stored_fields.specs.Values.{Document, HasFields}
 use Rattle.stored_fields.specs.Places.{fdx_plan}
 use Rattle.stored_fields.specs.Documents.{fdt_plan}
-use Rattle.stored_fields.specs.Stores.{value_or, places_in, documents_in, windowed, IsStore, IsFirstFault, IsSound}
+use Rattle.stored_fields.specs.Stores.{places_in, documents_in, windowed, HaveNoFault}
+use Rattle.stored_fields.proofs.SpotLemmas.{settled}
 use Rattle.stored_fields.proofs.PlaceLemmas.{has_places, place_is}
 use Rattle.stored_fields.proofs.StandsLemmas.{IsOn, Stands, all_stand}
 
--- a result that is some value is its value
-settled : {V E : Type 0} (other v : V) (r : Result V E) → r ≡ ok_of v → r ≡ Ok (value_or other r)
-settled other v r e = e ∙ ap ok_of (sym (ap (value_or other) e))
-
-pub sound : (fields total : ℕ) (window : Window) (fdx fdt : List ℕ) → IsBytes fdt → (places : List ℤ) × (read_file (fdx_plan total window) fdx ≡ Ok places)
-    → (documents : List Document) × (read_file (fdt_plan window fields (places_in total window fdx)) fdt ≡ Ok documents) → IsSound fields total window fdx fdt
-sound fields total window fdx fdt fits (places, e) (documents, d) = record { bytes = fits; places = settled [] places _ e; documents = settled [] documents _ d }
-
-pub is_store : (fields total : ℕ) (window : Window) (fdx fdt : List ℕ) → IsBytes fdx → IsSound fields total window fdx fdt → IsStore fdx fdt fields total window (windowed window (documents_in fields total window fdx fdt))
-is_store fields total window fdx fdt fdx_fits s = record {
-  places = places_in total window fdx;
-  all = documents_in fields total window fdx fdt;
-  fdx_reads = Reads-from (fdx_plan total window) fdx (places_in total window fdx) fdx_fits s.places;
-  fdt_reads = Reads-from (fdt_plan window fields (places_in total window fdx)) fdt (documents_in fields total window fdx fdt) s.bytes s.documents;
-  within = refl;
+pub sound : (fields total : ℕ) (window : Window) (fdx fdt : List ℕ) → IsBytes fdt → Reads (fdx_plan total window) fdx (places_in total window fdx)
+    → Reads (fdt_plan window fields (places_in total window fdx)) fdt (documents_in fields total window fdx fdt) → HaveNoFault fields total window fdx fdt
+sound fields total window fdx fdt fits places documents = record {
+  bytes = fits;
+  places = read_file-Reads (fdx_plan total window) fdx (places_in total window fdx) places;
+  documents = read_file-Reads (fdt_plan window fields (places_in total window fdx)) fdt (documents_in fields total window fdx fdt) documents;
 }
 
-pub fdx_first_fault : (fields total : ℕ) (window : Window) (fdx fdt : List ℕ) (s : Spot) → IsBytes fdx → (s.kind ≡ Fdx) × (read_file (fdx_plan total window) fdx ≡ Err (record { offset = s.offset; rule = s.rule }))
-    → IsFirstFault fdx fdt fields total window s
-fdx_first_fault fields total window fdx fdt s fits (kind, e) = inl (kind, FirstFault-from (fdx_plan total window) fdx (record { offset = s.offset; rule = s.rule }) fits e)
-
-pub fdt_first_fault : (fields total : ℕ) (window : Window) (fdx fdt : List ℕ) (s : Spot) → IsBytes fdx → IsBytes fdt → (places : List ℤ) × (read_file (fdx_plan total window) fdx ≡ Ok places)
-    → (s.kind ≡ Fdt) × (read_file (fdt_plan window fields (places_in total window fdx)) fdt ≡ Err (record { offset = s.offset; rule = s.rule })) → IsFirstFault fdx fdt fields total window s
-fdt_first_fault fields total window fdx fdt s fdx_fits fdt_fits (places, ok) (kind, e) = inr (
-  kind,
-  (
-    places_in total window fdx,
-    Reads-from (fdx_plan total window) fdx (places_in total window fdx) fdx_fits (settled [] places (read_file (fdx_plan total window) fdx) ok),
-    FirstFault-from (fdt_plan window fields (places_in total window fdx)) fdt (record { offset = s.offset; rule = s.rule }) fdt_fits e,
-  ),
-)
-
 -- the documents in the window are as many as it says
-pub windowed_many : (fields total : ℕ) (window : Window) (fdx fdt : List ℕ) → IsSound fields total window fdx fdt → length (windowed window (documents_in fields total window fdx fdt)) ≡ window.count
+pub windowed_many : (fields total : ℕ) (window : Window) (fdx fdt : List ℕ) → HaveNoFault fields total window fdx fdt → length (windowed window (documents_in fields total window fdx fdt)) ≡ window.count
 windowed_many fields total window fdx fdt s =
     let all = documents_in fields total window fdx fdt in
     let has = has_places total window fdx (places_in total window fdx) s.places in
@@ -63,7 +37,7 @@ windowed_many fields total window fdx fdt s =
     omega (arith, has.within, has.many, stand.many, length-take window.count (drop window.offset all), length-drop window.offset all)
 
 -- a document in the window stands at its place
-pub document_stands : (fields total : ℕ) (window : Window) (fdx fdt : List ℕ) (number : ℕ) → IsSound fields total window fdx fdt → number < window.count
+pub document_stands : (fields total : ℕ) (window : Window) (fdx fdt : List ℕ) (number : ℕ) → HaveNoFault fields total window fdx fdt → number < window.count
     → Stands fdt (get_or (places_in total window fdx) (window.offset + number) (pos 0)) (get_or (windowed window (documents_in fields total window fdx fdt)) number [])
 document_stands fields total window fdx fdt number s lt =
     let all = documents_in fields total window fdx fdt in
@@ -75,22 +49,22 @@ document_stands fields total window fdx fdt number s lt =
 -- ---- what reading a document needs
 
 -- the number of a document in the store is below their number, and its place stands in `.fdx`
-pub number_in_store : (fields total : ℕ) (window : Window) (fdx fdt : List ℕ) (number : ℕ) → IsSound fields total window fdx fdt → number < window.count
+pub number_in_store : (fields total : ℕ) (window : Window) (fdx fdt : List ℕ) (number : ℕ) → HaveNoFault fields total window fdx fdt → number < window.count
     → (window.offset + number < total) × (4 + 8 * (window.offset + number + 1) ≤ length fdx)
 number_in_store fields total window fdx fdt number s lt =
     let has = has_places total window fdx (places_in total window fdx) s.places in
     (omega (arith, has.within), omega (arith, has.within, has.long))
 
 -- the place that was read is where the document stands
-pub document_here : (fields total : ℕ) (window : Window) (fdx fdt : List ℕ) (number : ℕ) (z : ℤ) → IsSound fields total window fdx fdt → number < window.count → read int64 (drop (4 + 8 * (window.offset + number)) fdx) ≡ Ok (z, 8)
+pub stands_here : (fields total : ℕ) (window : Window) (fdx fdt : List ℕ) (number : ℕ) (z : ℤ) → HaveNoFault fields total window fdx fdt → number < window.count → read int64 (drop (4 + 8 * (window.offset + number)) fdx) ≡ Ok (z, 8)
     → Stands fdt z (get_or (windowed window (documents_in fields total window fdx fdt)) number [])
-document_here fields total window fdx fdt number z s lt e =
+stands_here fields total window fdx fdt number z s lt e =
     let is : get_or (places_in total window fdx) (window.offset + number) (pos 0) ≡ z =
     place_is total window fdx (places_in total window fdx) s.places (window.offset + number) (number_in_store fields total window fdx fdt number s lt).0 z e in
     subst (λ (w : ℤ). Stands fdt w (get_or (windowed window (documents_in fields total window fdx fdt)) number [])) is (document_stands fields total window fdx fdt number s lt)
 
 -- a number of a document in the view is in the window
-pub number_in_window : (fields total : ℕ) (window : Window) (fdx fdt : List ℕ) (number : ℕ) (view : List Document) → IsSound fields total window fdx fdt → windowed window (documents_in fields total window fdx fdt) ≡ view
+pub number_in_window : (fields total : ℕ) (window : Window) (fdx fdt : List ℕ) (number : ℕ) (view : List Document) → HaveNoFault fields total window fdx fdt → windowed window (documents_in fields total window fdx fdt) ≡ view
     → number < length view → number < window.count
 number_in_window fields total window fdx fdt number view s is lt = omega (arith, windowed_many fields total window fdx fdt s, ap length is)
 
@@ -109,7 +83,7 @@ document_values fdt wanted values there c left next is e =
     (settled [] values (values_at left next) all, ap (value_or []) all)
 
 -- the documents in the window have the fields that were asked of them
-pub windowed_fields : (fields total : ℕ) (window : Window) (fdx fdt : List ℕ) → IsSound fields total window fdx fdt → All (HasFields fields) (windowed window (documents_in fields total window fdx fdt))
+pub windowed_fields : (fields total : ℕ) (window : Window) (fdx fdt : List ℕ) → HaveNoFault fields total window fdx fdt → All (HasFields fields) (windowed window (documents_in fields total window fdx fdt))
 windowed_fields fields total window fdx fdt s =
     let all = documents_in fields total window fdx fdt in
     let has = has_places total window fdx (places_in total window fdx) s.places in

@@ -6,16 +6,16 @@ use Rattle.std.proofs.lemmas.Bool.{lt-leb}
 use Rattle.std.proofs.lemmas.List.{append-nil}
 use Rattle.lu_types.specs.declared.stored.Stored.{Stored}
 use Rattle.lu_types.specs.declared.stored.Stored.TheVariants.{Text, Binary}
-use Rattle.lu_grammar.specs.Parts.{num, text, spelling}
+use Rattle.lu_grammar.specs.Parts.{num, text, IsValue, spelling}
 use Rattle.lu_grammar.specs.Records.{Shape, whole, followed, first_broken, Spells}
-use Rattle.lu_grammar.specs.Plans.{done, and_then, Kind, one, times, each}
-use Rattle.lu_grammar.proofs.Records.{Spells-followed}
-use Rattle.lu_grammar.proofs.Writers.{Writes, Writes-due, Writes-done, Writes-and_then, Writes-none}
-use Rattle.stored_fields.specs.declared.value.TheConstants.{TOKENIZED, BINARY}
+use Rattle.lu_grammar.specs.Plans.{Plan, done, and_then, Kind, one, times, each}
+use Rattle.lu_grammar.proofs.Codecs.{Spells-followed, Writes, Writes-due, Writes-done, Writes-and_then, Writes-none}
+use Rattle.stored_fields.specs.Format.{bit_tokenized, bit_binary}
 use Rattle.lu_types.specs.Bits.{has_bit}
-use Rattle.stored_fields.specs.Values.{StoredField, Document, Entry, content, entry_shape, stored}
-use Rattle.stored_fields.specs.Documents.{count, value, count_of, count_shape, value_shape, value_conditions, has_other_bit, with_value, values_kind}
-use Rattle.stored_fields.specs.Writing.{IsStorableValue, IsStorable, bits_of, content_bytes, value_bytes, document_bytes, documents_bytes, AreStorable, IsStorableDocument, begun_document, begun_documents}
+use Rattle.stored_fields.specs.Values.{StoredField, Document, StoredEntry, content_shape, stored_entry_shape, stored}
+use Rattle.stored_fields.specs.Documents.{FdtRecord, count, value, count_of, count_shape, value_shape, value_conditions, has_other_bit, with_value, values_kind}
+use Rattle.stored_fields.specs.Writing.{IsStorableValue, IsStorable, value_bits, content_bytes, value_bytes, IsStorableDocument, AreStorable, document_bytes, OpenDocument}
+use Rattle.stored_fields.specs.InnerWriting.{open_plan, finished_plan, open_bytes}
 
 -- ---- one value
 
@@ -23,37 +23,37 @@ abbrev is_binary : Stored → Bool
 is_binary (Text t) = false
 is_binary (Binary bs) = true
 
-binary_bit : (tokenized : Bool) (v : Stored) → has_bit BINARY (bits_of tokenized v) ≡ is_binary v
+binary_bit : (tokenized : Bool) (v : Stored) → has_bit bit_binary (value_bits tokenized v) ≡ is_binary v
 binary_bit true (Text t) = refl
 binary_bit false (Text t) = refl
 binary_bit true (Binary bs) = refl
 binary_bit false (Binary bs) = refl
 
-tokenized_bit : (tokenized : Bool) (v : Stored) → has_bit TOKENIZED (bits_of tokenized v) ≡ tokenized
+tokenized_bit : (tokenized : Bool) (v : Stored) → has_bit bit_tokenized (value_bits tokenized v) ≡ tokenized
 tokenized_bit true (Text t) = refl
 tokenized_bit false (Text t) = refl
 tokenized_bit true (Binary bs) = refl
 tokenized_bit false (Binary bs) = refl
 
-no_other_bit : (tokenized : Bool) (v : Stored) → has_other_bit (bits_of tokenized v) ≡ false
+no_other_bit : (tokenized : Bool) (v : Stored) → has_other_bit (value_bits tokenized v) ≡ false
 no_other_bit true (Text t) = refl
 no_other_bit false (Text t) = refl
 no_other_bit true (Binary bs) = refl
 no_other_bit false (Binary bs) = refl
 
-pub bits_fit : (tokenized : Bool) (v : Stored) → bits_of tokenized v < 256
+pub bits_fit : (tokenized : Bool) (v : Stored) → value_bits tokenized v < 256
 bits_fit true (Text t) = omega arith
 bits_fit false (Text t) = omega arith
 bits_fit true (Binary bs) = omega arith
 bits_fit false (Binary bs) = omega arith
 
-spells_content : (v : Stored) → IsStorableValue v → Spells (content (is_binary v)) v (content_bytes v)
+spells_content : (v : Stored) → IsStorableValue v → Spells (content_shape (is_binary v)) v (content_bytes v)
 spells_content (Text t) h = (t, [], h, sym (append-nil (spelling text t)), (refl, refl))
 spells_content (Binary bs) h = (length bs, bs, h.0, refl, (bs, [], h.1, sym (append-nil bs), (refl, refl)))
 
 -- the entry that spells a value
-abbrev entry : StoredField → Entry
-entry v = record { field = v.field; bits = bits_of v.tokenized v.value; value = v.value }
+abbrev entry : StoredField → StoredEntry
+entry v = record { field = v.field; bits = value_bits v.tokenized v.value; value = v.value }
 
 entry_stores : (v : StoredField) → stored (entry v) ≡ v
 entry_stores v = ap (λ (b : Bool). with_bit b) (tokenized_bit v.tokenized v.value)
@@ -61,19 +61,19 @@ entry_stores v = ap (λ (b : Bool). with_bit b) (tokenized_bit v.tokenized v.val
     with_bit : Bool → StoredField
     with_bit b = record { field = v.field; tokenized = b; value = v.value }
 
-spells_entry : (v : StoredField) → IsStorable v → Spells entry_shape (entry v) (value_bytes v)
+spells_entry : (v : StoredField) → IsStorable v → Spells stored_entry_shape (entry v) (value_bytes v)
 spells_entry v h =
-    let shape : Bool → Shape Entry = λ b. followed (content b) (λ x. whole (record { field = v.field; bits = bits_of v.tokenized v.value; value = x })) in
+    let shape : Bool → Shape StoredEntry = λ b. followed (content_shape b) (λ x. whole (record { field = v.field; bits = value_bits v.tokenized v.value; value = x })) in
     let tail : Spells (shape (is_binary v.value)) (entry v) (content_bytes v.value ++ []) =
-    Spells-followed (content (is_binary v.value)) (λ x. whole (record { field = v.field; bits = bits_of v.tokenized v.value; value = x })) v.value (entry v) (content_bytes v.value) [] (spells_content v.value h.1) (refl, refl) in
-    let tail_bit : Spells (shape (has_bit BINARY (bits_of v.tokenized v.value))) (entry v) (content_bytes v.value) =
+    Spells-followed (content_shape (is_binary v.value)) (λ x. whole (record { field = v.field; bits = value_bits v.tokenized v.value; value = x })) v.value (entry v) (content_bytes v.value) [] (spells_content v.value h.1) (refl, refl) in
+    let tail_bit : Spells (shape (has_bit bit_binary (value_bits v.tokenized v.value))) (entry v) (content_bytes v.value) =
     subst (λ (b : Bool). Spells (shape b) (entry v) (content_bytes v.value)) (sym (binary_bit v.tokenized v.value)) (subst (λ (t : List ℕ). Spells (shape (is_binary v.value)) (entry v) t) (append-nil (content_bytes v.value)) tail) in
-    (v.field, bits_of v.tokenized v.value ∷ content_bytes v.value, h.0, refl, (bits_of v.tokenized v.value, content_bytes v.value, bits_fit v.tokenized v.value, refl, tail_bit))
+    (v.field, value_bits v.tokenized v.value ∷ content_bytes v.value, h.0, refl, (value_bits v.tokenized v.value, content_bytes v.value, bits_fit v.tokenized v.value, refl, tail_bit))
 
 spells_value : (v : StoredField) → IsStorable v → Spells value_shape (value (entry v)) (value_bytes v)
 spells_value v h =
     subst (λ (t : List ℕ). Spells value_shape (value (entry v)) t) (append-nil (value_bytes v))
-    (Spells-followed entry_shape (λ x. whole (value x)) (entry v) (value (entry v)) (value_bytes v) [] (spells_entry v h) (refl, refl))
+    (Spells-followed stored_entry_shape (λ x. whole (value x)) (entry v) (value (entry v)) (value_bytes v) [] (spells_entry v h) (refl, refl))
 
 -- the field is one of so many, where this is asked
 abbrev pub IsField : Bool → ℕ → StoredField → Type 0
@@ -116,29 +116,40 @@ writes_values asked fields (v ∷ vs) front place storable there =
 
 -- ---- the documents as the writer holds them
 
-writes_begun : (lacks : ℕ) (values : Document) (place : ℕ) → IsStorableDocument lacks values → Writes (begun_document lacks) place (document_bytes lacks values) values
-writes_begun lacks values place storable =
-    let n = length values + lacks in
-    let back : n - lacks ≡ length values = omega arith in
-    let body : Writes (times (values_kind false 0) (n - lacks) []) (place + length (spelling num n)) (flat_map value_bytes values) values =
-    subst (λ (k : ℕ). Writes (times (values_kind false 0) k []) (place + length (spelling num n)) (flat_map value_bytes values) values) (sym back)
-    (writes_values false 0 values [] (place + length (spelling num n)) storable.1 (unasked values)) in
-    Writes-due count_shape (λ _ _. []) (λ _ r. times (values_kind false 0) (count_of r - lacks) []) place (count n) (spelling num n) (flat_map value_bytes values) values (n, [], storable.0, sym (append-nil (spelling num n)), (refl, refl)) refl body
-  where
-    unasked : (vs : Document) → All (IsField false 0) vs
-    unasked vs k d lt e = cc
+-- no field is asked
+pub unasked : (vs : Document) → All (IsField false 0) vs
+unasked vs k d lt e = cc
 
--- the bytes of documents are read as these documents, the last of which lacks so many values
-pub writes_documents : (lacks : ℕ) (documents : List Document) (place : ℕ) → AreStorable lacks documents → Writes (begun_documents (length documents) lacks) place (documents_bytes lacks documents) documents
-unfolding begun_documents
-writes_documents lacks [] place storable = Writes-done place []
-writes_documents lacks (d ∷ []) place storable =
-    subst (λ (t : List ℕ). Writes (begun_documents 1 lacks) place t (d ∷ [])) (append-nil (document_bytes lacks d))
-    (Writes-and_then (begun_document lacks) (λ d. done (d ∷ [])) place (document_bytes lacks d) [] d (d ∷ []) (writes_begun lacks d place storable) (Writes-done (place + length (document_bytes lacks d)) (d ∷ [])))
-writes_documents lacks (d ∷ e ∷ ds) place storable =
-    let here = place + length (document_bytes 0 d) in
-    let n = length ds in
-    Writes-and_then (begun_document 0) (λ d. and_then (begun_documents (suc n) lacks) (λ ds. done (d ∷ ds))) place (document_bytes 0 d) (documents_bytes lacks (e ∷ ds)) d (d ∷ e ∷ ds) (writes_begun 0 d place storable.0)
-    (subst (λ (t : List ℕ). Writes (and_then (begun_documents (suc n) lacks) (λ ds. done (d ∷ ds))) here t (d ∷ e ∷ ds)) (append-nil (documents_bytes lacks (e ∷ ds)))
-    (Writes-and_then (begun_documents (suc n) lacks) (λ ds. done (d ∷ ds)) here (documents_bytes lacks (e ∷ ds)) [] (e ∷ ds) (d ∷ e ∷ ds) (writes_documents lacks (e ∷ ds) here storable.1)
-    (Writes-done (here + length (documents_bytes lacks (e ∷ ds))) (d ∷ e ∷ ds))))
+-- an open document that lacks so many values
+pub writes_open : (lacks : ℕ) (d : OpenDocument) (place : ℕ) → length d.values + lacks ≡ d.announced → IsValue num d.announced → All IsStorable d.values → Writes (open_plan lacks) place (open_bytes d) d
+writes_open lacks d place many few storable =
+    let n = d.announced in
+    let here = place + length (spelling num n) in
+    let back : length d.values ≡ n - lacks = omega (arith, many) in
+    let next : Document → Plan OpenDocument FdtRecord = λ values. done (record { announced = n; values = values }) in
+    let values : Writes (times (values_kind false 0) (n - lacks) []) here (flat_map value_bytes d.values) d.values =
+    subst (λ (k : ℕ). Writes (times (values_kind false 0) k []) here (flat_map value_bytes d.values) d.values) back (writes_values false 0 d.values [] here storable (unasked d.values)) in
+    let body : Writes (and_then (times (values_kind false 0) (n - lacks) []) next) here (flat_map value_bytes d.values) d =
+    subst (λ (t : List ℕ). Writes (and_then (times (values_kind false 0) (n - lacks) []) next) here t d) (append-nil (flat_map value_bytes d.values))
+    (Writes-and_then (times (values_kind false 0) (n - lacks) []) next here (flat_map value_bytes d.values) [] d.values d values (Writes-done (here + length (flat_map value_bytes d.values)) d)) in
+    Writes-due count_shape (λ _ _. []) (λ _ r. and_then (times (values_kind false 0) (count_of r - lacks) []) (λ values. done (record { announced = count_of r; values = values }))) place (count n) (spelling num n)
+    (flat_map value_bytes d.values) d (n, [], few, sym (append-nil (spelling num n)), (refl, refl)) refl body
+
+-- a document with all of its values
+abbrev pub full : Document → OpenDocument
+full values = record { announced = length values; values = values }
+
+-- finished documents, after those in front
+pub writes_finished : (documents front : List Document) (place : ℕ) → AreStorable documents → Writes (each finished_plan (length documents) front) place (flat_map document_bytes documents) (front ++ documents)
+unfolding each
+writes_finished [] front place storable = subst (λ (all : List Document). Writes (each finished_plan 0 front) place [] all) (sym (append-nil front)) (Writes-none finished_plan place front)
+writes_finished (d ∷ ds) front place storable =
+    let here = place + length (document_bytes d) in
+    let add : OpenDocument → Plan (List Document) FdtRecord = λ o. done (front ++ o.values ∷ []) in
+    let good = all_head IsStorableDocument d ds storable in
+    let first : Writes (finished_plan front) place (document_bytes d) (front ++ d ∷ []) =
+    subst (λ (t : List ℕ). Writes (finished_plan front) place t (front ++ d ∷ [])) (append-nil (document_bytes d))
+    (Writes-and_then (open_plan 0) add place (document_bytes d) [] (full d) (front ++ d ∷ []) (writes_open 0 (full d) place (omega arith) good.0 good.1) (Writes-done here (front ++ d ∷ []))) in
+    subst (λ (all : List Document). Writes (each finished_plan (suc (length ds)) front) place (document_bytes d ++ flat_map document_bytes ds) all) (append_assoc front (d ∷ []) ds)
+    (Writes-and_then (finished_plan front) (each finished_plan (length ds)) place (document_bytes d) (flat_map document_bytes ds) (front ++ d ∷ []) ((front ++ d ∷ []) ++ ds) first
+    (writes_finished ds (front ++ d ∷ []) here (all_tail IsStorableDocument d ds storable)))

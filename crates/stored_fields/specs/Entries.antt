@@ -1,11 +1,11 @@
--- What borrowed values stand for.
+-- What borrowed values stand for (format page, "Stored documents").
 use Rattle.lu_types.specs.declared.stored.Stored.{Stored}
 use Rattle.lu_types.specs.declared.stored.Stored.TheVariants as owned
 use Rattle.stored_fields.specs.declared.value.ValueRef.{ValueRef}
 use Rattle.stored_fields.specs.declared.value.ValueRef.TheVariants as lent
 use Rattle.stored_fields.specs.declared.value.StoredRef.{StoredRef}
 use Rattle.stored_fields.specs.declared.entry.EntryRef.{EntryRef}
-use Rattle.stored_fields.specs.Values.{StoredField, Entry}
+use Rattle.stored_fields.specs.Values.{StoredField, StoredEntry}
 
 -- what a lent value is
 abbrev pub value_of : ValueRef → Stored
@@ -13,9 +13,9 @@ value_of (lent.Text text) = owned.Text text.now
 value_of (lent.Binary bytes) = owned.Binary bytes.now
 
 -- the value that is lent
-abbrev pub stored_field : StoredRef → StoredField
-stored_field lent = record { field = lent.field; tokenized = lent.tokenized; value = value_of lent.value }
+abbrev pub lent_field : StoredRef → StoredField
+lent_field lent = record { field = lent.field; tokenized = lent.tokenized; value = value_of lent.value }
 
 -- the entry that is lent
-abbrev pub entry_of : EntryRef → Entry
-entry_of lent = record { field = lent.field; bits = lent.bits; value = value_of lent.value }
+abbrev pub lent_entry : EntryRef → StoredEntry
+lent_entry lent = record { field = lent.field; bits = lent.bits; value = value_of lent.value }

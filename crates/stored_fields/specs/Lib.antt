@@ -3,7 +3,7 @@ pub mod Values
 pub mod Places
 pub mod Documents
 pub mod Stores
-pub mod Steps
 pub mod Entries
 pub mod Remaining
 pub mod Writing
+pub mod InnerWriting

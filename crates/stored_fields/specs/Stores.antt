@@ -1,24 +1,49 @@
--- What the two files of a store stand for, and where their first fault stands.
-use Rattle.std.specs.Prelude.{◌≡◌, ℕ, ◌-◌, ◌/◌, List, [], length, take, drop, ℤ, ◌⊎◌, Result, Ok, Err}
+-- What the two files of a store stand for (format page, "Stored documents").
+use Rattle.std.specs.Prelude.{◌≡◌, ℕ, Bool, ◌-◌, ◌/◌, List, [], length, take, drop, ℤ, Option, Ok}
 use Rattle.lu_types.specs.declared.kind.FileKind.TheVariants.{Fdx, Fdt}
-use Rattle.lu_types.specs.declared.fault.Spot.{Spot}
 use Rattle.lu_types.specs.declared.stored.Window.{Window}
-use Rattle.lu_grammar.specs.Bytes.{IsBytes}
-use Rattle.lu_grammar.specs.Plans.{read_file}
-use Rattle.lu_grammar.specs.Meaning.{Reads, FirstFault}
-use Rattle.stored_fields.specs.declared.layout.TheConstants.{HEADER_BYTES, PLACE_BYTES}
+use Rattle.lu_types.specs.FilePlans.{FilePlan, stands, needs}
+use Rattle.lu_grammar.specs.Bytes.{IsBytes, Cursor}
+use Rattle.lu_grammar.specs.Reading.{value_or}
+use Rattle.lu_grammar.specs.Plans.{read_plan, read_file}
+use Rattle.stored_fields.specs.Format.{header_length, place_length}
 use Rattle.stored_fields.specs.Values.{Document}
 use Rattle.stored_fields.specs.Places.{fdx_plan}
-use Rattle.stored_fields.specs.Documents.{fdt_plan}
+use Rattle.stored_fields.specs.Documents.{document_plan, fdt_plan}
 
 -- how many documents a store has, by the length of its `.fdx`
 abbrev pub total_of : List ℕ → ℕ
-total_of fdx = (length fdx - HEADER_BYTES) / PLACE_BYTES
+total_of fdx = (length fdx - header_length) / place_length
 
--- the value, or another where there is none
-abbrev pub value_or : {V E : Type 0} → V → Result V E → V
-value_or other (Ok v) = v
-value_or other (Err e) = other
+-- all documents of a store of so many
+abbrev pub whole_store : ℕ → Window
+whole_store total = record { offset = 0; count = total }
+
+-- those of the documents that the window has
+abbrev pub windowed : {A : Type 0} → Window → List A → List A
+windowed window all = take window.count (drop window.offset all)
+
+-- ---- the two files, in order, and what they stand for: the documents in the window
+
+-- those of a store of which a segment with so many fields takes a window; its `.fdx` tells how many documents there are, and the window
+abbrev pub store_files : (List ℕ → ℕ) → (List ℕ → Window) → ℕ → Option (List ℕ) → Option (List ℕ) → FilePlan (List Document)
+store_files total window fields fdx fdt =
+    needs Fdx fdx (λ bytes. fdx_plan (total bytes) (window bytes))
+    (λ bytes places. needs Fdt fdt (λ _. fdt_plan (window bytes) fields places) (λ _ documents. stands (windowed (window bytes) documents)))
+
+-- those of a segment of so many documents, with so many fields, that has its store to itself
+abbrev pub own_files : ℕ → ℕ → Option (List ℕ) → Option (List ℕ) → FilePlan (List Document)
+own_files size fields fdx fdt = store_files (λ _. size) (λ _. whole_store size) fields fdx fdt
+
+-- those of a shared store, of which a segment with so many fields takes this window
+abbrev pub shared_files : Window → ℕ → Option (List ℕ) → Option (List ℕ) → FilePlan (List Document)
+shared_files window fields fdx fdt = store_files total_of (λ _. window) fields fdx fdt
+
+-- those of a store without its segment: all of its documents, as many as `.fdx` has places for, with so many fields
+abbrev pub all_files : ℕ → Option (List ℕ) → Option (List ℕ) → FilePlan (List Document)
+all_files fields fdx fdt = store_files total_of (λ bytes. whole_store (total_of bytes)) fields fdx fdt
+
+-- ---- what is read
 
 -- the places that a `.fdx` without a fault holds
 abbrev pub places_in : ℕ → Window → List ℕ → List ℤ
@@ -28,26 +53,12 @@ places_in total window fdx = value_or [] (read_file (fdx_plan total window) fdx)
 abbrev pub documents_in : ℕ → ℕ → Window → List ℕ → List ℕ → List Document
 documents_in fields total window fdx fdt = value_or [] (read_file (fdt_plan window fields (places_in total window fdx)) fdt)
 
--- those of the documents that the window has
-abbrev pub windowed : {A : Type 0} → Window → List A → List A
-windowed window all = take window.count (drop window.offset all)
-
--- all of both files are the records of a store of so many documents, and these are the documents in the window
-pub record IsStore (fdx fdt : List ℕ) (fields total : ℕ) (window : Window) (documents : List Document) : Type 0 where
-  pub places : List ℤ
-  pub all : List Document
-  pub fdx_reads : Reads (fdx_plan total window) fdx places
-  pub fdt_reads : Reads (fdt_plan window fields places) fdt all
-  pub within : documents ≡ windowed window all
-
--- the first fault of the two files, `.fdx` before `.fdt`
-abbrev pub IsFirstFault : List ℕ → List ℕ → ℕ → ℕ → Window → Spot → Type 0
-IsFirstFault fdx fdt fields total window spot =
-    ((spot.kind ≡ Fdx) × FirstFault (fdx_plan total window) fdx spot.offset spot.rule)
-    ⊎ ((spot.kind ≡ Fdt) × ((places : List ℤ) × Reads (fdx_plan total window) fdx places × FirstFault (fdt_plan window fields places) fdt spot.offset spot.rule))
+-- the document that stands here, where it has no fault
+abbrev pub document_here : Bool → ℕ → ℤ → Cursor → Document
+document_here asked fields wanted here = (value_or ([], here) (read_plan (document_plan asked fields wanted) here)).0
 
 -- the files have no fault
-pub record IsSound (fields total : ℕ) (window : Window) (fdx fdt : List ℕ) : Type 0 where
+pub record HaveNoFault (fields total : ℕ) (window : Window) (fdx fdt : List ℕ) : Type 0 where
   pub bytes : IsBytes fdt
   pub places : read_file (fdx_plan total window) fdx ≡ Ok (places_in total window fdx)
   pub documents : read_file (fdt_plan window fields (places_in total window fdx)) fdt ≡ Ok (documents_in fields total window fdx fdt)

@@ -1,11 +1,11 @@
--- Stored values, and how one is spelled.
+-- Stored values, and how one is spelled (format page, "Stored documents").
 use Rattle.std.specs.Prelude.{ℕ, Bool, true, false, List, ◌<◌, All}
 use Rattle.lu_types.specs.declared.stored.Stored.{Stored}
 use Rattle.lu_types.specs.declared.stored.Stored.TheVariants.{Text, Binary}
 use Rattle.lu_types.specs.Bits.{has_bit}
 use Rattle.lu_grammar.specs.Parts.{byte, num, bytes, text}
 use Rattle.lu_grammar.specs.Records.{Shape, whole, part, followed}
-use Rattle.stored_fields.specs.declared.value.TheConstants.{TOKENIZED, BINARY}
+use Rattle.stored_fields.specs.Format.{bit_tokenized, bit_binary}
 
 -- a value that a document stores: the number of its field, whether it was tokenized, and what it is
 pub record StoredField : Type 0 where
@@ -22,20 +22,20 @@ abbrev pub HasFields : ℕ → Document → Type 0
 HasFields fields values = All (λ v. v.field < fields) values
 
 -- a value as it stands in `.fdt`, with its bits
-pub record Entry : Type 0 where
+pub record StoredEntry : Type 0 where
   pub field : ℕ
   pub bits : ℕ
   pub value : Stored
 
 -- so many bytes where the value is binary, and a text where it is not
-abbrev pub content : Bool → Shape Stored
-content true = part num (λ n. part (bytes n) (λ front. whole (Binary front)))
-content false = part text (λ t. whole (Text t))
+abbrev pub content_shape : Bool → Shape Stored
+content_shape true = part num (λ n. part (bytes n) (λ front. whole (Binary front)))
+content_shape false = part text (λ t. whole (Text t))
 
 -- the number of the field, the bits, and what the value is
-abbrev pub entry_shape : Shape Entry
-entry_shape = part num (λ field. part byte (λ bits. followed (content (has_bit BINARY bits)) (λ value. whole (record { field = field; bits = bits; value = value }))))
+abbrev pub stored_entry_shape : Shape StoredEntry
+stored_entry_shape = part num (λ field. part byte (λ bits. followed (content_shape (has_bit bit_binary bits)) (λ value. whole (record { field = field; bits = bits; value = value }))))
 
 -- what an entry stores
-abbrev pub stored : Entry → StoredField
-stored entry = record { field = entry.field; tokenized = has_bit TOKENIZED entry.bits; value = entry.value }
+abbrev pub stored : StoredEntry → StoredField
+stored entry = record { field = entry.field; tokenized = has_bit bit_tokenized entry.bits; value = entry.value }

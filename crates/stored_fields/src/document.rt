@@ -1,6 +1,6 @@
 //! The stored values of one document, in order (format page, "Stored documents").
 ghost use Rattle.std.specs.Prelude.{◌≡◌, [], ◌∷◌, MatchOption};
-ghost use Rattle.stored_fields.specs.Entries.{stored_field};
+ghost use Rattle.stored_fields.specs.Entries.{lent_field};
 
 use crate::entry::next_entry;
 use crate::value::{StoredRef, TOKENIZED};
@@ -20,7 +20,7 @@ pub struct StoredDoc<'a> {
 impl<'a> Model for StoredDoc<'a> {
     ghost use Rattle.std.specs.Prelude.{◌≡◌, [], Ok};
     ghost use Rattle.stored_fields.specs.Values.{Document};
-    ghost use Rattle.stored_fields.specs.Stores.{value_or};
+    ghost use Rattle.lu_grammar.specs.Reading.{value_or};
     ghost use Rattle.stored_fields.specs.Remaining.{values_at};
 
     ghost Value = { Document };
@@ -33,7 +33,7 @@ impl<'a> Model for StoredDoc<'a> {
 impl<'a> StoredDoc<'a> {
     /// The next value, as slices of the file; `None` after the last.
     pub fn next(&mut self) -> Option<StoredRef<'a>>
-        ensures { MatchOption result ((self.old ≡ []) × (self.new ≡ [])) (λ value. self.old ≡ stored_field value ∷ self.new) }
+        ensures { MatchOption result ((self.old ≡ []) × (self.new ≡ [])) (λ value. self.old ≡ lent_field value ∷ self.new) }
     {
         if self.left == 0 {
             return None;

@@ -1,18 +1,20 @@
 //! The check of `.fdt` (format page, "Stored documents").
-ghost use Rattle.std.specs.Prelude.{◌≡◌, ℕ, ◌+◌, ◌*◌, ◌^◌, ◌<◌, ◌≤◌, length, drop, get_or, pos, Some, None, Ok};
+ghost use Rattle.std.specs.Prelude.{◌≡◌, ℕ, ◌+◌, ◌*◌, ◌≤◌, length, drop, Ok};
 ghost use Rattle.lu_types.specs.declared.kind.FileKind.TheVariants.{Fdt};
+ghost use Rattle.lu_types.specs.Judging.{ChecksPlain, GivesInPlain};
+ghost use Rattle.lu_grammar.specs.Answers.{Gives};
 ghost use Rattle.lu_grammar.specs.Parts.{int64};
 ghost use Rattle.lu_grammar.specs.Reading.{read};
-ghost use Rattle.lu_grammar.specs.Records.{first_broken};
-ghost use Rattle.lu_grammar.specs.Plans.{read_file};
+ghost use Rattle.lu_grammar.specs.Records.{first_broken, record_at};
+ghost use Rattle.lu_grammar.specs.Plans.{read_plan, read_file};
+ghost use Rattle.stored_fields.specs.Format.{store_format};
+ghost use Rattle.stored_fields.specs.Entries.{lent_entry};
 ghost use Rattle.stored_fields.specs.Places.{fdx_plan};
-ghost use Rattle.stored_fields.specs.Documents.{count, header_shape, format_conditions, count_shape, is_elsewhere, start_conditions, value_shape, entry_conditions, value_conditions, is_within, fdt_plan};
-ghost use Rattle.stored_fields.specs.Stores.{places_in};
-ghost use Rattle.stored_fields.specs.Steps.{Gives, Passes, PassesDocument, Judges};
+ghost use Rattle.stored_fields.specs.Documents.{format, count, value, header_shape, format_conditions, count_shape, is_elsewhere, start_conditions, value_shape, stored_entry_conditions, value_conditions, is_within, document_plan, fdt_plan};
+ghost use Rattle.stored_fields.specs.Stores.{places_in, documents_in, document_here};
 
-use crate::entry::next_entry;
-use crate::faults::spot;
-use crate::layout::{HEADER_BYTES, PLACE_BYTES, is_other_format};
+use crate::entry::{EntryRef, next_entry};
+use crate::layout::{HEADER_BYTES, PLACE_BYTES, is_other_store_format};
 use crate::value::{BINARY, TOKENIZED};
 use lu_prims::Cur;
 use lu_types::rules::{FDT_FORMAT, FDT_PLACE, STORED_BITS, STORED_FIELD, TRAILING, rule_of};
@@ -31,20 +33,20 @@ pub fn place_at(fdx: &[u8], number: u32) -> i64
 
 /// Whether the window has the document with a number.
 fn is_within(window: Window, number: u32) -> bool
-    requires { window.offset + window.count < 2 ^ 32 }
     ensures { result ≡ is_within window number }
 {
-    window.offset <= number && number < window.offset + window.count
+    let end = u64::from(window.offset) + u64::from(window.count);
+    window.offset <= number && u64::from(number) < end
 }
 
 /// Passes the header, or answers which rule it breaks first.
 fn pass_header(here: &mut Cur<'_>) -> Result<(), u16>
-    ensures { Passes header_shape format_conditions here.old here.new result }
+    ensures { Gives (λ _. format store_format) (record_at header_shape format_conditions here.old) here.new result }
 {
     match here.i32() {
         Err(bad) => Err(rule_of(bad)),
         Ok(format) => {
-            if is_other_format(format) {
+            if is_other_store_format(format) {
                 return Err(FDT_FORMAT);
             }
             Ok(())
@@ -64,7 +66,7 @@ fn is_elsewhere(place: usize, wanted: i64) -> bool
 
 /// How many values the next document has, which is to start at a place; or which rule it breaks first.
 fn next_count(here: &mut Cur<'_>, wanted: i64) -> Result<u32, u16>
-    ensures { Gives count_shape (λ _. start_conditions wanted here.old.place) count here.old here.new result }
+    ensures { Gives count (record_at count_shape (λ _. start_conditions wanted here.old.place) here.old) here.new result }
 {
     let start = here.place();
     match here.num() {
@@ -80,7 +82,7 @@ fn next_count(here: &mut Cur<'_>, wanted: i64) -> Result<u32, u16>
 
 /// Which rule a value breaks first. Whether its field is one of so many is asked or not.
 fn entry_broken(asked: bool, fields: u32, field: u32, bits: u8) -> Option<u16>
-    ensures { result ≡ first_broken (entry_conditions asked fields field bits) }
+    ensures { result ≡ first_broken (stored_entry_conditions asked fields field bits) }
 {
     if asked && field >= fields {
         return Some(STORED_FIELD);
@@ -91,15 +93,15 @@ fn entry_broken(asked: bool, fields: u32, field: u32, bits: u8) -> Option<u16>
     None
 }
 
-/// Passes a value, or answers which rule it breaks first.
-fn pass_value(here: &mut Cur<'_>, asked: bool, fields: u32) -> Result<(), u16>
-    ensures { Passes value_shape (value_conditions asked fields) here.old here.new result }
+/// The next value, or which rule it breaks first.
+fn next_value<'a>(here: &mut Cur<'a>, asked: bool, fields: u32) -> Result<EntryRef<'a>, u16>
+    ensures { Gives (λ entry. value (lent_entry entry)) (record_at value_shape (value_conditions asked fields) here.old) here.new result }
 {
     match next_entry(here) {
         Err(bad) => Err(rule_of(bad)),
         Ok(entry) => match entry_broken(asked, fields, entry.field, entry.bits) {
             Some(rule) => Err(rule),
-            None => Ok(()),
+            None => Ok(entry),
         },
     }
 }
@@ -107,17 +109,17 @@ fn pass_value(here: &mut Cur<'_>, asked: bool, fields: u32) -> Result<(), u16>
 /// Passes the next document, which is to start at a place, or answers its first fault. Whether the fields of its values are
 /// among so many is asked or not.
 fn pass_document(here: &mut Cur<'_>, asked: bool, fields: u32, wanted: i64) -> Result<(), Spot>
-    ensures { PassesDocument asked fields wanted here.old here.new result }
+    ensures { GivesInPlain Fdt (λ _. document_here asked fields wanted here.old) (read_plan (document_plan asked fields wanted) here.old) here.new result }
 {
     let start = here.place();
     let count = match next_count(here, wanted) {
-        Err(rule) => return Err(spot(FileKind::Fdt, start, rule)),
+        Err(rule) => return Err(Spot::at(FileKind::Fdt, start, rule)),
         Ok(count) => count,
     };
     for _value in 0..count {
         let place = here.place();
-        if let Err(rule) = pass_value(here, asked, fields) {
-            return Err(spot(FileKind::Fdt, place, rule));
+        if let Err(rule) = next_value(here, asked, fields) {
+            return Err(Spot::at(FileKind::Fdt, place, rule));
         }
     }
     Ok(())
@@ -132,13 +134,12 @@ pub fn check_documents(
     total: u32,
     window: Window,
 ) -> Result<(), Spot>
-    requires room { window.offset + window.count < 2 ^ 32 }
-    requires places { read_file (fdx_plan total window) fdx.now ≡ Ok (places_in total window fdx.now) }
-    ensures { Judges (fdt_plan window fields (places_in total window fdx.now)) fdt.now Fdt result }
+    requires { read_file (fdx_plan total window) fdx.now ≡ Ok (places_in total window fdx.now) }
+    ensures { ChecksPlain (λ _. documents_in fields total window fdx.now fdt.now) Fdt (fdt_plan window fields (places_in total window fdx.now)) fdt.now result }
 {
     let mut here = Cur::at(fdt, 0);
     if let Err(rule) = pass_header(&mut here) {
-        return Err(spot(FileKind::Fdt, 0, rule));
+        return Err(Spot::at(FileKind::Fdt, 0, rule));
     }
     for number in 0..total {
         let wanted = place_at(fdx, number);
@@ -148,7 +149,7 @@ pub fn check_documents(
         }
     }
     if here.left() > 0 {
-        return Err(spot(FileKind::Fdt, here.place(), TRAILING));
+        return Err(Spot::at(FileKind::Fdt, here.place(), TRAILING));
     }
     Ok(())
 }

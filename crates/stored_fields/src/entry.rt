@@ -1,10 +1,9 @@
 //! One stored value as it stands in `.fdt` (format page, "Stored documents").
-ghost use Rattle.std.specs.Prelude.{◌≡◌, ℕ, ◌<◌, ◌^◌};
-ghost use Rattle.lu_grammar.specs.Parts.{num, bytes, text};
-ghost use Rattle.stored_fields.specs.Values.{content, entry_shape};
 ghost use Rattle.std.specs.Prelude.{true};
-ghost use Rattle.stored_fields.specs.Entries.{value_of, entry_of};
-ghost use Rattle.stored_fields.specs.Steps.{Finds};
+ghost use Rattle.lu_grammar.specs.Answers.{Gives};
+ghost use Rattle.lu_grammar.specs.Records.{read_shape};
+ghost use Rattle.stored_fields.specs.Values.{content_shape, stored_entry_shape};
+ghost use Rattle.stored_fields.specs.Entries.{value_of, lent_entry};
 
 use crate::value::{BINARY, ValueRef};
 use lu_prims::{Bad, Cur};
@@ -23,7 +22,7 @@ pub struct EntryRef<'a> {
 
 /// The value behind the bits: so many bytes, or a text.
 fn next_content<'a>(here: &mut Cur<'a>, binary: bool) -> Result<ValueRef<'a>, Bad>
-    ensures { Finds (content binary) value_of here.old here.new result }
+    ensures { Gives value_of (read_shape (content_shape binary) here.old) here.new result }
 {
     if binary {
         return next_binary(here);
@@ -36,7 +35,7 @@ fn next_content<'a>(here: &mut Cur<'a>, binary: bool) -> Result<ValueRef<'a>, Ba
 
 /// The length of a binary value, and its bytes.
 fn next_binary<'a>(here: &mut Cur<'a>) -> Result<ValueRef<'a>, Bad>
-    ensures { Finds (content true) value_of here.old here.new result }
+    ensures { Gives value_of (read_shape (content_shape true) here.old) here.new result }
 {
     match here.num() {
         Err(bad) => Err(bad),
@@ -49,7 +48,7 @@ fn next_binary<'a>(here: &mut Cur<'a>) -> Result<ValueRef<'a>, Bad>
 
 /// The value that stands here. After an `Err` the cursor may have moved.
 pub fn next_entry<'a>(here: &mut Cur<'a>) -> Result<EntryRef<'a>, Bad>
-    ensures { Finds entry_shape entry_of here.old here.new result }
+    ensures { Gives lent_entry (read_shape stored_entry_shape here.old) here.new result }
 {
     match here.num() {
         Err(bad) => Err(bad),

@@ -1,9 +1,9 @@
-//! Numbers that both files of a store have in common.
+//! Numbers that both files of a store have in common (format page, "Stored documents").
 ghost use Rattle.std.specs.Prelude.{◌≡◌};
-ghost use Rattle.stored_fields.specs.Format.{is_other_format};
+ghost use Rattle.stored_fields.specs.Format.{is_other_store_format};
 
 /// The format number of `.fdx` and `.fdt`.
-pub const FORMAT: i32 = 2;
+pub const STORE_FORMAT: i32 = 2;
 
 /// The bytes of the header of `.fdx`, and of that of `.fdt`.
 pub const HEADER_BYTES: usize = 4;
@@ -15,8 +15,8 @@ pub const PLACE_BYTES: usize = 8;
 pub const GREATEST_PLACE: i64 = 2147483647;
 
 /// Whether a format number is not that of the format.
-pub fn is_other_format(format: i32) -> bool
-    ensures { result ≡ is_other_format format }
+pub fn is_other_store_format(format: i32) -> bool
+    ensures { result ≡ is_other_store_format format }
 {
-    format != FORMAT
+    format != STORE_FORMAT
 }

@@ -4,7 +4,6 @@
 mod document;
 mod documents;
 mod entry;
-mod faults;
 pub mod laws;
 mod layout;
 mod places;
@@ -13,6 +12,7 @@ mod view;
 mod writer;
 
 pub use document::StoredDoc;
+pub use places::check_places;
 pub use value::{StoredRef, ValueRef};
 pub use view::{StoredView, stored_total};
 pub use writer::{StoredFiles, StoredWriter};

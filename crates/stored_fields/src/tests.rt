@@ -122,14 +122,34 @@ fn checks_windows(rt: &impl Abort, alloc: Global) -> Result<(), Fail> {
         (2, 1, Some((FileKind::Fdt, 15, STORED_FIELD))),
         (3, 0, None),
         (2, 2, Some((FileKind::Fdx, 0, STORE_RANGE))),
+        (u32::MAX, 2, Some((FileKind::Fdx, 0, STORE_RANGE))),
     ];
     for (offset, count, wanted) in rows {
-        let found = verdict(StoredView::check_window(fdx, fdt, FIELDS, Window { offset, count }));
+        let window = Window { offset, count };
+        let found = verdict(StoredView::check_window(fdx, fdt, FIELDS, window));
         assert!(rt; found == wanted, "window {offset}");
+        let past = check_places(fdx, 3, window).is_err();
+        assert!(rt;
+            past == (offset > 3 || offset + count > 3),
+            "places {offset}"
+        );
     }
     let moved = with_byte(alloc, fdx, 19, 10)?;
     let found = verdict(StoredView::check(&moved, fdt, 10, 3));
     assert!(rt; found == Some((FileKind::Fdt, 8, FDT_PLACE)));
+    Ok(())
+}
+
+/// A document without values is finished as it is begun.
+fn reads_empty(rt: &impl Abort, alloc: Global) -> Result<(), Fail> {
+    let mut writer = StoredWriter::new(alloc)?;
+    writer.begin(0)?;
+    let files = writer.finish();
+    let Ok(view) = StoredView::check(files.fdx.as_slice(), files.fdt.as_slice(), 0, 1) else {
+        panic!(rt; "the files have a fault");
+    };
+    assert!(rt; view.documents() == 1);
+    assert!(rt; view.doc(0).next() == None);
     Ok(())
 }
 
@@ -145,6 +165,7 @@ fn reads(rt: &impl Abort, alloc: Global) -> Result<(), Fail> {
     else {
         panic!(rt; "the files have a fault");
     };
+    let view = view.again();
     assert!(rt; view.documents() == 2);
     let mut document = view.doc(0);
     let first = StoredRef {
@@ -169,5 +190,6 @@ fn writes_checks_and_reads(rt: HostRuntime) -> Result<(), Fail> {
     checks_changed(&rt, alloc)?;
     checks_cut(&rt);
     checks_windows(&rt, alloc)?;
+    reads_empty(&rt, alloc)?;
     reads(&rt, alloc)
 }

@@ -1,7 +1,9 @@
 //! The stored documents of a segment: checked once, and then lent (format page, "Stored documents").
 ghost use Rattle.std.specs.Prelude.{◌≡◌, ◌+◌, ◌^◌, ◌<◌, [], length, get_or, IfOk, MatchResult, All};
+ghost use Rattle.std.specs.Prelude.{Some};
+ghost use Rattle.lu_types.specs.FilePlans.{StandFor, IsFaultAmong};
 ghost use Rattle.stored_fields.specs.Values.{HasFields};
-ghost use Rattle.stored_fields.specs.Stores.{total_of, IsStore, IsFirstFault};
+ghost use Rattle.stored_fields.specs.Stores.{total_of, store_files, own_files, shared_files};
 
 use crate::document::StoredDoc;
 use crate::documents::{check_documents, place_at};
@@ -39,13 +41,13 @@ pub struct StoredView<'a> {
 impl<'a> Model for StoredView<'a> {
     ghost use Rattle.std.specs.Prelude.{◌≡◌, ◌+◌, ◌^◌, ◌<◌, List};
     ghost use Rattle.stored_fields.specs.Values.{Document};
-    ghost use Rattle.stored_fields.specs.Stores.{documents_in, windowed, IsSound};
+    ghost use Rattle.stored_fields.specs.Stores.{documents_in, windowed, HaveNoFault};
 
     ghost Value = { List Document };
 
     ghost view = { λ v. windowed v.window (documents_in v.fields v.total v.window v.fdx.now v.fdt.now) };
 
-    ghost invariant = { λ v. IsSound v.fields v.total v.window v.fdx.now v.fdt.now };
+    ghost invariant = { λ v. HaveNoFault v.fields v.total v.window v.fdx.now v.fdt.now };
 }
 
 impl<'a> StoredView<'a> {
@@ -59,8 +61,8 @@ impl<'a> StoredView<'a> {
         documents: u32,
     ) -> Result<StoredView<'a>, Spot>
         ensures files { MatchResult result
-            (λ view. IsStore fdx.now fdt.now fields documents (record { offset = 0; count = documents }) view)
-            (λ fault. IsFirstFault fdx.now fdt.now fields documents (record { offset = 0; count = documents }) fault) }
+            (λ view. StandFor (own_files documents fields (Some fdx.now) (Some fdt.now)) view)
+            (λ fault. IsFaultAmong (own_files documents fields (Some fdx.now) (Some fdt.now)) fault) }
         ensures count { IfOk result (λ view. length view ≡ documents) }
         ensures named { IfOk result (λ view. All (HasFields fields) view) }
     {
@@ -81,15 +83,27 @@ impl<'a> StoredView<'a> {
         fields: u32,
         window: Window,
     ) -> Result<StoredView<'a>, Spot>
-        requires size { length fdx.now < 2 ^ 31 }
-        requires room { window.offset + window.count < 2 ^ 32 }
+        requires { length fdx.now < 2 ^ 31 }
         ensures files { MatchResult result
-            (λ view. IsStore fdx.now fdt.now fields (total_of fdx.now) window view)
-            (λ fault. IsFirstFault fdx.now fdt.now fields (total_of fdx.now) window fault) }
+            (λ view. StandFor (shared_files window fields (Some fdx.now) (Some fdt.now)) view)
+            (λ fault. IsFaultAmong (shared_files window fields (Some fdx.now) (Some fdt.now)) fault) }
         ensures count { IfOk result (λ view. length view ≡ window.count) }
         ensures named { IfOk result (λ view. All (HasFields fields) view) }
     {
         check_store(fdx, fdt, fields, stored_total(fdx), window)
+    }
+
+    /// The same view once more.
+    pub fn again(&self) -> StoredView<'a>
+        ensures { result ≡ self.now }
+    {
+        StoredView {
+            fdx: self.fdx,
+            fdt: self.fdt,
+            fields: self.fields,
+            total: self.total,
+            window: self.window,
+        }
     }
 
     /// How many documents the segment has.
@@ -121,10 +135,9 @@ fn check_store<'a>(
     total: u32,
     window: Window,
 ) -> Result<StoredView<'a>, Spot>
-    requires { window.offset + window.count < 2 ^ 32 }
     ensures files { MatchResult result
-        (λ view. IsStore fdx.now fdt.now fields total window view)
-        (λ fault. IsFirstFault fdx.now fdt.now fields total window fault) }
+        (λ view. StandFor (store_files (λ _. total) (λ _. window) fields (Some fdx.now) (Some fdt.now)) view)
+        (λ fault. IsFaultAmong (store_files (λ _. total) (λ _. window) fields (Some fdx.now) (Some fdt.now)) fault) }
     ensures count { IfOk result (λ view. length view ≡ window.count) }
     ensures named { IfOk result (λ view. All (HasFields fields) view) }
 {

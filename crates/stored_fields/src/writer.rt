@@ -1,11 +1,11 @@
 //! The writer of both files (format page, "Stored documents").
-ghost use Rattle.std.specs.Prelude.{◌≡◌, ◌+◌, ◌-◌, ◌^◌, ◌<◌, ◌++◌, [], ◌∷◌, length, take, true, false, IfOk, OnOk, OnErr, vec_len};
+ghost use Rattle.std.specs.Prelude.{◌≡◌, ◌+◌, ◌-◌, ◌^◌, ◌<◌, ◌++◌, [], ◌∷◌, length, take, None, IsSome, IfOk, OnOk, OnErr, vec_len};
 ghost use Rattle.lu_types.specs.declared.stored.Stored.TheVariants as owned;
 ghost use Rattle.stored_fields.specs.Values.{StoredField};
-ghost use Rattle.stored_fields.specs.Entries.{value_of, stored_field};
-ghost use Rattle.stored_fields.specs.Writing.{IsStorable, bits_of, content_bytes, value_bytes, fdx_bytes, fdt_bytes, begun, with_stored, AreStorable};
+ghost use Rattle.stored_fields.specs.Entries.{value_of, lent_field};
+ghost use Rattle.stored_fields.specs.Writing.{IsStorable, value_bits, content_bytes, value_bytes, fdx_bytes, fdt_bytes, with_begun, with_stored, AreStorable};
 
-use crate::layout::FORMAT;
+use crate::layout::STORE_FORMAT;
 use crate::value::{BINARY, StoredRef, TOKENIZED, ValueRef};
 use lu_prims::{OutOfMemory, put_i32, put_i64, put_text, put_vint};
 use lu_types::Bytes;
@@ -22,7 +22,8 @@ pub struct StoredFiles {
 }
 
 /// Writes stored documents (format page, "Stored documents"), one after another, and of each its values in order. Contracts see
-/// the documents so far, and how many values the last of them lacks. A call that finds no memory leaves the writer as it was.
+/// the finished documents and the one that is open, if there is one: it is until it has as many values as were announced.
+/// A call that finds no memory leaves the writer as it was.
 #[derive(Drop)]
 pub struct StoredWriter {
     /// `.fdx` so far.
@@ -34,33 +35,34 @@ pub struct StoredWriter {
 }
 
 impl Model for StoredWriter {
-    ghost use Rattle.stored_fields.specs.Writing.{Written, written_in, IsWriting};
+    ghost use Rattle.stored_fields.specs.Writing.{HeldDocuments};
+    ghost use Rattle.stored_fields.specs.InnerWriting.{held_in, AreHeld};
 
-    ghost Value = { Written };
+    ghost Value = { HeldDocuments };
 
-    ghost view = { λ w. written_in w.fdx.items w.fdt.items w.lacks };
+    ghost view = { λ w. held_in w.fdx.items w.fdt.items w.lacks };
 
-    ghost invariant = { λ w. IsWriting w.fdx.items w.fdt.items w.lacks };
+    ghost invariant = { λ w. AreHeld w.fdx.items w.fdt.items w.lacks (held_in w.fdx.items w.fdt.items w.lacks) };
 }
 
 impl StoredWriter {
     /// A writer of no documents yet.
     pub fn new(alloc: Global) -> Result<StoredWriter, OutOfMemory>
-        ensures { IfOk result (λ writer. writer ≡ record { documents = []; lacks = 0 }) }
+        ensures { IfOk result (λ writer. writer ≡ record { finished = []; opened = None }) }
     {
         let mut fdx = Vec::new(alloc);
-        put_i32(&mut fdx, FORMAT)?;
+        put_i32(&mut fdx, STORE_FORMAT)?;
         let mut fdt = Vec::new(alloc);
-        put_i32(&mut fdt, FORMAT)?;
+        put_i32(&mut fdt, STORE_FORMAT)?;
         Ok(StoredWriter { fdx, fdt, lacks: 0 })
     }
 
-    /// Starts a document of so many values, below 2^31. The document before it has all of its values.
+    /// Opens a document of so many values, below 2^31, where none is open; one of no values is finished at once.
     /// An `Err` leaves the writer as it was.
     pub fn begin(&mut self, count: u32) -> Result<(), OutOfMemory>
-        requires complete { self.old.lacks ≡ 0 }
+        requires complete { self.old.opened ≡ None }
         requires few { count < 2 ^ 31 }
-        ensures ok { OnOk result (self.new ≡ begun count self.old) }
+        ensures ok { OnOk result (self.new ≡ with_begun count self.old) }
         ensures err { OnErr result (self.new ≡ self.old) }
     {
         let place = self.fdt.as_slice().len() as i64;
@@ -78,9 +80,9 @@ impl StoredWriter {
         }
     }
 
-    /// Adds a text of fewer than 2^31 bytes to the last document, which lacks a value. An `Err` leaves the writer as it was.
+    /// Adds a text of fewer than 2^31 bytes to the open document, which is finished with its last value. An `Err` leaves the writer as it was.
     pub fn put_text(&mut self, field: u32, tokenized: bool, text: &str) -> Result<(), OutOfMemory>
-        requires lacking { 0 < self.old.lacks }
+        requires lacking { IsSome self.old.opened }
         requires field { field < 2 ^ 31 }
         requires short { length text.now < 2 ^ 31 }
         ensures ok { OnOk result (self.new ≡ with_stored (record { field = field; tokenized = tokenized; value = owned.Text text.now }) self.old) }
@@ -93,14 +95,14 @@ impl StoredWriter {
         })
     }
 
-    /// Adds fewer than 2^31 bytes to the last document, which lacks a value. An `Err` leaves the writer as it was.
+    /// Adds fewer than 2^31 bytes to the open document, which is finished with its last value. An `Err` leaves the writer as it was.
     pub fn put_binary(
         &mut self,
         field: u32,
         tokenized: bool,
         bytes: &[u8],
     ) -> Result<(), OutOfMemory>
-        requires lacking { 0 < self.old.lacks }
+        requires lacking { IsSome self.old.opened }
         requires field { field < 2 ^ 31 }
         requires short { length bytes.now < 2 ^ 31 }
         ensures ok { OnOk result (self.new ≡ with_stored (record { field = field; tokenized = tokenized; value = owned.Binary bytes.now }) self.old) }
@@ -113,12 +115,12 @@ impl StoredWriter {
         })
     }
 
-    /// The two files, whose last document has all of its values. Takes no memory.
+    /// The two files of the documents, none of which is open. Takes no memory.
     pub fn finish(self) -> StoredFiles
-        requires { self.lacks ≡ 0 }
-        ensures fdx { result.fdx ≡ fdx_bytes self.documents }
-        ensures fdt { result.fdt ≡ fdt_bytes 0 self.documents }
-        ensures storable { AreStorable 0 self.documents }
+        requires { self.opened ≡ None }
+        ensures fdx { result.fdx ≡ fdx_bytes self.finished }
+        ensures fdt { result.fdt ≡ fdt_bytes self.finished }
+        ensures storable { AreStorable self.finished }
     {
         let StoredWriter { fdx, fdt, lacks: _ } = self;
         StoredFiles {
@@ -127,11 +129,11 @@ impl StoredWriter {
         }
     }
 
-    /// Adds a value to the last document.
+    /// Adds a value to the open document.
     fn put(&mut self, value: StoredRef<'_>) -> Result<(), OutOfMemory>
-        requires lacking { 0 < self.old.lacks }
-        requires storable { IsStorable (stored_field value) }
-        ensures ok { OnOk result (self.new ≡ with_stored (stored_field value.entry) self.old) }
+        requires lacking { IsSome self.old.opened }
+        requires storable { IsStorable (lent_field value) }
+        ensures ok { OnOk result (self.new ≡ with_stored (lent_field value.entry) self.old) }
         ensures err { OnErr result (self.new ≡ self.old) }
     {
         let start = self.fdt.len();
@@ -149,8 +151,8 @@ impl StoredWriter {
 }
 
 /// The bits of a value.
-fn bits_of(tokenized: bool, value: ValueRef<'_>) -> u8
-    ensures { result ≡ bits_of tokenized (value_of value.entry) }
+fn value_bits(tokenized: bool, value: ValueRef<'_>) -> u8
+    ensures { result ≡ value_bits tokenized (value_of value.entry) }
 {
     let tokenized = if tokenized { TOKENIZED } else { 0 };
     match value {
@@ -172,12 +174,12 @@ fn push_binary(out: &mut Vec<u8>, bytes: &[u8]) -> Result<(), OutOfMemory>
 
 /// Appends a value. After an `Err` some of it may stand after what was there.
 fn push_value(out: &mut Vec<u8>, value: StoredRef<'_>) -> Result<(), OutOfMemory>
-    requires { IsStorable (stored_field value) }
-    ensures ok { OnOk result (out.new.items ≡ out.old.items ++ value_bytes (stored_field value.entry)) }
+    requires { IsStorable (lent_field value) }
+    ensures ok { OnOk result (out.new.items ≡ out.old.items ++ value_bytes (lent_field value.entry)) }
     ensures err { OnErr result (take (vec_len out.old) out.new.items ≡ out.old.items) }
 {
     put_vint(out, value.field)?;
-    out.push(bits_of(value.tokenized, value.value))?;
+    out.push(value_bits(value.tokenized, value.value))?;
     match value.value {
         ValueRef::Text(text) => put_text(out, text)?,
         ValueRef::Binary(bytes) => push_binary(out, bytes)?,

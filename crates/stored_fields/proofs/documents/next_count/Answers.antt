@@ -1,7 +1,7 @@
 use Rattle.std.proofs.Common.{◌≡◌, ◌∙◌, sym, ap, ℕ, rules, to_z, of_z, w64}
 use Rattle.lu_grammar.specs.Parts.{num}
 use Rattle.stored_fields.specs.Documents.{count, is_elsewhere, start_conditions}
-use Rattle.stored_fields.proofs.StepLemmas.{alone_unread}
+use Rattle.lu_grammar.proofs.Codecs.{alone_unread}
 use Rattle.stored_fields.proofs.DocumentLemmas.{count_given, count_broken}
 use Rattle.stored_fields.proofs.documents.next_count.Goals as goal
 

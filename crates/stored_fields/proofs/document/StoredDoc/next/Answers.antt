@@ -1,8 +1,8 @@
 use Rattle.std.proofs.Common.{◌≡◌, ◌<◌, [], ◌∷◌, sym, ap, ◌∙◌, arith, Bool, ◌-◌, ℕ}
+use Rattle.lu_grammar.specs.Reading.{value_or}
 use Rattle.stored_fields.specs.declared.value.ValueRef.{ValueRef}
 use Rattle.stored_fields.specs.Values.{Document}
-use Rattle.stored_fields.specs.Entries.{entry_of, value_of}
-use Rattle.stored_fields.specs.Stores.{value_or}
+use Rattle.stored_fields.specs.Entries.{lent_entry, value_of}
 use Rattle.stored_fields.specs.Remaining.{values_at}
 use Rattle.stored_fields.proofs.ValueLemmas.{values_none, one_read, one_not_bad}
 use Rattle.stored_fields.proofs.document.StoredDoc.next.Goals as goal
@@ -20,14 +20,14 @@ unreachable-requires c =
 pub invariant_of-self : goal.invariant_of-self
 invariant_of-self c =
     let some : 0 < c.self.inside.left = omega arith in
-    (one_read c.self.inside.left c.self.inside.here (entry_of c.in-Ok.entry) c.next_entry.new.here some c.self.invariant c.in-Ok.ensures).0
+    (one_read c.self.inside.left c.self.inside.here (lent_entry c.in-Ok.entry) c.next_entry.new.here some c.self.invariant c.in-Ok.ensures).0
 
 pub returns : goal.returns
 returns c =
     let some : 0 < c.self.inside.left = omega arith in
     let rest : Document = value_or [] (values_at (c.self.inside.left - 1) c.next_entry.new.here) in
     let with_bit = λ (b : Bool). value_with c.in-Ok.entry.field b c.in-Ok.entry.value rest in
-    sym c.self.view_is ∙ (one_read c.self.inside.left c.self.inside.here (entry_of c.in-Ok.entry) c.next_entry.new.here some c.self.invariant c.in-Ok.ensures).1 ∙ ap with_bit (sym c.has_bit.ensures)
+    sym c.self.view_is ∙ (one_read c.self.inside.left c.self.inside.here (lent_entry c.in-Ok.entry) c.next_entry.new.here some c.self.invariant c.in-Ok.ensures).1 ∙ ap with_bit (sym c.has_bit.ensures)
   where
     value_with : ℕ → Bool → ValueRef → Document → Document
     value_with field tokenized value rest = record { field = field; tokenized = tokenized; value = value_of value } ∷ rest

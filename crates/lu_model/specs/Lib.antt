@@ -1,0 +1,4 @@
+pub mod Index
+pub mod Contents
+pub mod Merging
+pub mod Valid

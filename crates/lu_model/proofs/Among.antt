@@ -1,6 +1,6 @@
 -- Items of lists that are made of others.
-use Rattle.std.proofs.Common.{◌≡◌, ◌⊎◌, Bool, true, false, cond, List, [], ◌∷◌, ◌++◌, map, refl, sym, ap, ◌∙◌, subst, inl, inr}
-use Rattle.std.specs.Prelude.{filter, flat_map}
+use Rattle.std.proofs.Common.{◌≡◌, ◌⊎◌, ℕ, zero, suc, ◌<◌, Bool, true, false, cond, List, [], ◌∷◌, ◌++◌, length, map, refl, sym, ap, ◌∙◌, subst, inl, inr, arith}
+use Rattle.std.specs.Prelude.{filter, flat_map, Contains, slice_index_or}
 use Rattle.lu_model.proofs.Words.{IsIn}
 
 module _ {X : Type 0} where
@@ -56,3 +56,19 @@ module _ {X Y : Type 0} (f : X → List Y) where
         | inl k ↦ (z, inl refl, k)
         | inr k ↦ let r = from_flat_map y xs k in (r.0, inr r.1, r.2)
       ]
+
+-- ---- items by place
+
+module _ {X : Type 0} where
+  at_place : (x : X) (xs : List X) (k : ℕ) → k < length xs → slice_index_or xs k x ≡ x → IsIn x xs
+  at_place x [] k h e = absurd (omega arith)
+  at_place x (y ∷ xs) zero h e = inl (sym e)
+  at_place x (y ∷ xs) (suc k) h e = inr (at_place x xs k (omega arith) e)
+
+  pub in-from_contains : (x : X) (xs : List X) → Contains xs x → IsIn x xs
+  in-from_contains x xs c = at_place x xs c.0 c.1 c.2
+
+  pub contains-from_in : (x : X) (xs : List X) → IsIn x xs → Contains xs x
+  contains-from_in x [] h = absurd h
+  contains-from_in x (y ∷ xs) (inl e) = (0, omega arith, sym e)
+  contains-from_in x (y ∷ xs) (inr h) = let r = contains-from_in x xs h in let low = r.1 in (suc r.0, omega arith, r.2)

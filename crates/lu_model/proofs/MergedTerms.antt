@@ -12,9 +12,9 @@ use Rattle.lu_types.specs.Tables.{TableField}
 use Rattle.lu_types.specs.Joins.{join_all}
 use Rattle.lu_model.specs.Index.{Term, term_cmp, in_order, Occurrences, Entry, IndexedTerm, Index}
 use Rattle.lu_model.specs.Contents.{bits_of, field_number, field_at, Content, entry_of, indexed_term, kept, index_of}
-use Rattle.lu_model.specs.Merging.{term_of, occurrences_at, content_at, live_contents, merged_term, merge_of, without_term}
+use Rattle.lu_model.specs.Merging.{term_of, occurrences_at, content_at, live_contents, joined_table, merged_term, merge_of, without_term, live}
 use Rattle.lu_model.specs.Valid.{IsIndexedTerm, IsKept, IsValid}
-use Rattle.lu_model.proofs.Words.{IsIn, Each, same_term, entries_if_any, stands_at, live}
+use Rattle.lu_model.proofs.Words.{IsIn, Each, same_term, entries_if_any, stands_at}
 use Rattle.lu_model.proofs.Among.{from_flat_map, from_map, in_map, in_filter, in_flat_map}
 use Rattle.lu_model.proofs.Each.{each_in, each_at, each_filter}
 use Rattle.lu_model.proofs.Tables.{find_in}
@@ -35,17 +35,20 @@ has_entries term index ok = at (find (λ t. same_term term (term_of index.fields
         let right = each_at (λ (t : IndexedTerm). IsIndexedTerm index.size (field_at t.field index.fields).bits t) it index.terms ok.terms inside in
         (right.rise, each_in (λ (entry : Entry). entry.document < index.size) it.entries (λ e k. (each_at (λ (entry : Entry). (entry.document < index.size) × IsKept (field_at it.field index.fields).bits entry.occurrences) e it.entries right.entries k).0))
 
+-- the entries of a term in a merge of valid indexes are the renumbered entries of the sources
+pub same_entries : (indexes : List Index) → Each IsValid indexes → (t : Term) → (indexed_term (joined_table indexes) (flat_map live_contents indexes) t).entries ≡ (merged_term indexes t).entries
+same_entries indexes ok t = entries-merged (joined_table indexes) t 0 indexes (each_in (HasEntries t) indexes (λ index h. has_entries t index (each_at IsValid index indexes ok h)))
+
 -- the terms of a merge of valid indexes are those of its live documents, each with the renumbered entries of the sources
 pub merged_terms : (indexes : List Index) → Each IsValid indexes → (merge_of indexes).terms ≡ map (merged_term indexes) (in_order term_cmp (flat_map (λ content. content.terms) (flat_map live_contents indexes)))
 unfolding index_of
 merged_terms indexes ok = each (in_order term_cmp (flat_map (λ content. content.terms) (flat_map live_contents indexes)))
   where
-    each : (terms : List Term) → map (indexed_term (join_all (map (λ (index : Index). index.fields) indexes)) (flat_map live_contents indexes)) terms ≡ map (merged_term indexes) terms
+    each : (terms : List Term) → map (indexed_term (joined_table indexes) (flat_map live_contents indexes)) terms ≡ map (merged_term indexes) terms
     each [] = refl
     each (t ∷ terms) =
-        let table = join_all (map (λ (index : Index). index.fields) indexes) in
-        let entries = entries-merged table t 0 indexes (each_in (HasEntries t) indexes (λ index h. has_entries t index (each_at IsValid index indexes ok h))) in
-        λ i. record { field = field_number t.field table; text = t.text; entries = entries i } ∷ each terms i
+        let entries = same_entries indexes ok t in
+        λ i. record { field = field_number t.field (joined_table indexes); text = t.text; entries = entries i } ∷ each terms i
 
 is_some-known : {X : Type 0} (o : Option X) → is_some o ≡ true → (x : X) × (o ≡ Some x)
 is_some-known None e = absurd (true≢false (sym e))
@@ -63,7 +66,7 @@ knows index n t e = at (find (λ u. same_term t (term_of index.fields u)) index.
         let stands : stands_at n it ≡ true = any-found (λ (entry : Entry). eqb n entry.document) (λ (entry : Entry). entry.occurrences) it.entries ∙ e in
         subst (λ w. IsIn w (content_at index n).terms) (sym is) (in_map (term_of index.fields) it (filter (stands_at n) index.terms) (in_filter (stands_at n) it index.terms r.0 stands))
 
-some_source : (table : List TableField) (t : Term) (m : ℕ) (contents : List Content) → 0 < length (filter_map (entry_of table t) (enumerate_from m contents)) → (c : Content) × IsIn c contents × (is_some (c.occurrences t) ≡ true)
+pub some_source : (table : List TableField) (t : Term) (m : ℕ) (contents : List Content) → 0 < length (filter_map (entry_of table t) (enumerate_from m contents)) → (c : Content) × IsIn c contents × (is_some (c.occurrences t) ≡ true)
 some_source table t m [] h = absurd (omega arith)
 some_source table t m (c ∷ contents) h =
     elim (c.occurrences t) as (λ o. c.occurrences t ≡ o → 0 < length (cons_option (option_map (λ (occurrences : Occurrences). let e : Entry = record { document = m; occurrences = kept (bits_of t.field table) occurrences } in e) o) (filter_map (entry_of table t) (enumerate_from (m + 1) contents))) → (d : Content) × IsIn d (c ∷ contents) × (is_some (d.occurrences t) ≡ true)) [
@@ -74,49 +77,9 @@ some_source table t m (c ∷ contents) h =
 -- a term that has an entry in the merge stands in a live document
 pub merged_in : (indexes : List Index) → Each IsValid indexes → (t : Term) → 0 < length (merged_term indexes t).entries → IsIn t (flat_map (λ content. content.terms) (flat_map live_contents indexes))
 merged_in indexes ok t h =
-    let table = join_all (map (λ (index : Index). index.fields) indexes) in
     let contents = flat_map live_contents indexes in
-    let entries = entries-merged table t 0 indexes (each_in (HasEntries t) indexes (λ index h. has_entries t index (each_at IsValid index indexes ok h))) in
-    let c = some_source table t 0 contents (subst (λ es. 0 < length es) (sym entries) h) in
+    let c = some_source (joined_table indexes) t 0 contents (subst (λ es. 0 < length es) (sym (same_entries indexes ok t)) h) in
     let i = from_flat_map live_contents c.0 indexes c.1 in
     let n = from_map (content_at i.0) c.0 (live i.0) i.2 in
     in_flat_map (λ (content : Content). content.terms) c.0 t contents c.1
     (subst (λ (w : Content). IsIn t w.terms) (sym n.2) (knows i.0 n.0 t (ap (λ (w : Content). is_some (w.occurrences t)) (sym n.2) ∙ c.2)))
-
--- ---- deletions
-
-above_range : (m a n : ℕ) → m < a → AllByRecursion (λ k. nat_cmp m k ≡ Less) (range_with_len a n)
-above_range m a zero h = tt
-above_range m a (suc n) h = (nat_less m a h, above_range m (a + 1) n (omega arith))
-
-range_rises : (a n : ℕ) → IsStrictlySortedBy nat_cmp (range_with_len a n)
-unfolding IsStrictlySortedBy
-range_rises a zero = tt
-range_rises a (suc n) = (above_range a (a + 1) n (omega arith), range_rises (a + 1) n)
-
-range_below : (size a n : ℕ) → a + n ≤ size → Each (λ d. d < size) (range_with_len a n)
-range_below size a zero h = tt
-range_below size a (suc n) h = (omega arith, range_below size (a + 1) n (omega arith))
-
--- an index stays valid when the documents of a term are deleted
-pub deleted_is_valid : (term : Term) (index : Index) → IsValid index → IsValid (without_term term index)
-deleted_is_valid term index ok =
-    let size : 0 + index.size ≤ index.size = omega arith in
-    record {
-      small = ok.small;
-      fields = ok.fields;
-      names = ok.names;
-      stored = ok.stored;
-      few_values = ok.few_values;
-      values = ok.values;
-      few_terms = ok.few_terms;
-      rise = ok.rise;
-      terms = ok.terms;
-      norms = ok.norms;
-      vectors = ok.vectors;
-      few_vectors = ok.few_vectors;
-      apart = ok.apart;
-      vector_fields = ok.vector_fields;
-      deleted = IsStrictlySortedBy-filter nat_cmp _ (range_with_len 0 index.size) (range_rises 0 index.size);
-      deleted_below = each_filter (λ d. d < index.size) _ (range_with_len 0 index.size) (range_below index.size 0 index.size size);
-    }

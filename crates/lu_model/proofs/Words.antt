@@ -113,10 +113,6 @@ entries_if_any found = unwrap_or (option_map (λ term. term.entries) found) []
 abbrev pub byte_of : ℕ → Option (List ℕ) → Option ℕ
 byte_of document norms = option_map (λ bytes. slice_index bytes document) norms
 
--- the numbers of the documents that are not deleted
-abbrev pub live : Index → List ℕ
-live index = live_from index.deleted 0 index.size
-
 -- how many documents that are not deleted stand from one number up to another
 abbrev pub live_between : List ℕ → ℕ → ℕ → ℕ
 live_between deleted from to = length (live_from deleted from (to - from))

@@ -1,7 +1,8 @@
 -- What documents hold, by names, and the index of documents that hold this under a table (format page, "Indexes").
-use Rattle.std.specs.Prelude.{ℕ, ◌+◌, ◌-◌, ◌*◌, ◌/◌, Bool, not, ◌&&◌, cond, List, [], length, map, filter, flat_map, filter_map, take, drop,
-  slice_index_or, Option, Some, None, option_map, unwrap_or}
+use Rattle.std.specs.Prelude.{◌↔◌, ℕ, ◌+◌, ◌-◌, ◌*◌, ◌/◌, ◌<◌, Bool, not, ◌&&◌, cond, List, [], length, map, filter, flat_map, filter_map, take, drop,
+  slice_index_or, Contains, Option, Some, None, option_map, unwrap_or}
 use Rattle.std.specs.List.{enumerate_from, find, position_or_len, range_with_len}
+use Rattle.std.specs.List.Sorted.{IsStrictlySortedBy}
 use Rattle.std.specs.Option.{option_and_then}
 use Rattle.std.specs.Str.{bytes_eq}
 use Rattle.lu_prims.specs.Order.{text_cmp}
@@ -77,6 +78,11 @@ indexed_term table contents term = record {
   text = term.text;
   entries = filter_map (entry_of table term) (enumerate_from 0 contents);
 }
+
+-- these are the terms of contents: they rise, and are exactly those with an entry
+pub record AreTerms (table : List TableField) (contents : List Content) (terms : List Term) : Type 0 where
+  pub rise : IsStrictlySortedBy term_cmp terms
+  pub entries : (term : Term) → Contains terms term ↔ (0 < length (indexed_term table contents term).entries)
 
 -- the norms of a field, one for each document, if the field has norms
 abbrev pub norms_in : List Content → TableField → Option (List ℕ)

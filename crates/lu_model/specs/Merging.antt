@@ -61,9 +61,13 @@ is_deleted deleted document = list_any (λ d. document == d) deleted
 abbrev pub live_from : List ℕ → ℕ → ℕ → List ℕ
 live_from deleted from count = filter (λ document. not (is_deleted deleted document)) (range_with_len from count)
 
--- what the documents of an index hold that are not deleted, in order
+-- the documents of an index that are not deleted, in order
+abbrev pub live : Index → List ℕ
+live index = live_from index.deleted 0 index.size
+
+-- what they hold
 abbrev pub live_contents : Index → List Content
-live_contents index = map (content_at index) (live_from index.deleted 0 index.size)
+live_contents index = map (content_at index) (live index)
 
 -- the joined tables of indexes
 abbrev pub joined_table : List Index → List TableField
@@ -100,8 +104,7 @@ renumbered bits base deleted entries =
 abbrev pub merged_entries : ℕ → Term → ℕ → List Index → List Entry
 merged_entries bits term base [] = []
 merged_entries bits term base (index ∷ indexes) =
-    renumbered bits base index.deleted (entries_in index term)
-    ++ merged_entries bits term (base + length (live_from index.deleted 0 index.size)) indexes
+    renumbered bits base index.deleted (entries_in index term) ++ merged_entries bits term (base + length (live index)) indexes
 
 -- a term of a merge, its entries by sources
 abbrev pub merged_term : List Index → Term → IndexedTerm

@@ -1,10 +1,117 @@
-//! The laws of indexes: each stands on a function that does nothing.
-ghost use Rattle.std.specs.Prelude.{◌≡◌};
+//! The laws of indexes: each stands on a function that does nothing (format page, "Indexes").
+ghost use Rattle.std.specs.List.Sorted.{IsStrictlySortedBy};
+ghost use Rattle.std.specs.List.{AllByRecursion as Each};
+ghost use Rattle.std.specs.Prelude.{
+    ◌≡◌, ℕ, ◌+◌, ◌<◌, ◌≤◌, ◌↔◌, not, cond, List, [], length, map, filter, flat_map, slice_index_or, unwrap_or, All, Contains, Some, None,
+};
+ghost use Rattle.std.specs.Str.{IsUtf8};
+ghost use Rattle.lu_types.specs.DocFaults.{doc_fault, IsSound};
+ghost use Rattle.lu_types.specs.Documents.{IsDocument};
+ghost use Rattle.lu_types.specs.Joins.{Covers, fields_of, is_empty, join_all, table_of};
+ghost use Rattle.lu_types.specs.Tables.{TableField, IsTable};
 ghost use Rattle.lu_types.specs.declared.document.Document.{Document};
-ghost use Rattle.lu_types.specs.Joins.{Covers, table_of};
-ghost use Rattle.std.specs.Prelude.{List};
+ghost use Rattle.lu_types.specs.declared.document.Limits.{Limits};
+ghost use Rattle.lu_model.specs.Contents.{
+    AreTerms, Content, MISSING_NORM, content_of, has_norms, index_of_documents, runs, stored_in, under, vectors_in,
+};
+ghost use Rattle.lu_model.specs.Index.{Entry, Index, Term, in_order, term_cmp};
+ghost use Rattle.lu_model.specs.Merging.{
+    joined_table, left_of, live, live_contents, merge_of, merged_term, norm_at, stored_by_name, term_of, vector_by_name, without_term,
+};
+ghost use Rattle.lu_model.specs.Valid.{IsShort, IsSmall, IsText, IsValid};
+
+/// Terms in order rise and are exactly the given terms; and no other list does and is.
+pub fn terms_in_order()
+    ensures rises { (terms : List Term) → IsStrictlySortedBy term_cmp (in_order term_cmp terms) }
+    ensures same { (terms : List Term) (t : Term) → All (λ u. IsUtf8 u.field × IsUtf8 u.text) terms
+        → Contains (in_order term_cmp terms) t ↔ Contains terms t }
+    ensures only { (terms rising : List Term) → All (λ u. IsUtf8 u.field × IsUtf8 u.text) terms → IsStrictlySortedBy term_cmp rising
+        → ((t : Term) → Contains rising t ↔ Contains terms t) → rising ≡ in_order term_cmp terms }
+{}
+
+/// The terms of an index of documents rise and are exactly those that have an entry, and so are those of a merge; and no other
+/// list is so.
+pub fn terms_have_entries()
+    ensures documents { (table : List TableField) (docs : List Document) → Covers table docs → All IsDocument docs
+        → AreTerms table (map content_of docs) (map (term_of table) (under table docs).terms) }
+    ensures merges { (indexes : List Index) → All IsValid indexes
+        → AreTerms (joined_table indexes) (flat_map live_contents indexes) (map (term_of (joined_table indexes)) (merge_of indexes).terms) }
+    ensures only { (table : List TableField) (contents : List Content) (terms others : List Term)
+        → AreTerms table contents terms → AreTerms table contents others → terms ≡ others }
+{}
 
 /// The table of documents covers them.
 pub fn table_covers()
     ensures { (docs : List Document) → Covers (table_of docs) docs }
+{}
+
+/// A merge of indexes of documents, each under a table that covers them and with some deleted, is the index of the documents that
+/// are left, under the joined tables, which cover them.
+pub fn merged_documents()
+    ensures merged { (sources : List (List TableField × List Document × List ℕ))
+        → All (λ s. All (λ field. field.bits < 128) s.0 × Covers s.0 s.1 × All IsDocument s.1) sources
+        → merge_of (map (λ s. record (under s.0 s.1) { deleted = s.2 }) sources)
+        ≡ under (join_all (map (λ s. s.0) sources)) (flat_map (λ s. left_of s.2 s.1) sources) }
+    ensures covers { (sources : List (List TableField × List Document × List ℕ))
+        → All (λ s. All (λ field. field.bits < 128) s.0 × Covers s.0 s.1 × All IsDocument s.1) sources
+        → Covers (join_all (map (λ s. s.0) sources)) (flat_map (λ s. left_of s.2 s.1) sources) }
+{}
+
+/// A merge by its sources: the documents of each that are not deleted, in turn, with their stored values, vectors and norms; and
+/// the terms of all, in order, that have an entry, each with the entries of the sources in turn, numbered on.
+pub fn merged_by_source()
+    ensures size { (indexes : List Index) → (merge_of indexes).size ≡ length (flat_map live indexes) }
+    ensures stored { (indexes : List Index) → (merge_of indexes).stored ≡ flat_map (λ index. map (λ document.
+        stored_in (joined_table indexes) (map (stored_by_name index.fields) (slice_index_or index.stored document []))) (live index)) indexes }
+    ensures vectors { (indexes : List Index) → (merge_of indexes).vectors ≡ flat_map (λ index. map (λ document.
+        vectors_in (joined_table indexes) (map (vector_by_name index.fields) (slice_index_or index.vectors document []))) (live index)) indexes }
+    ensures norms { (indexes : List Index) → (merge_of indexes).norms ≡ map (λ field. cond (has_norms field.bits)
+        (Some (flat_map (λ index. map (λ document. unwrap_or (norm_at index document field.name) MISSING_NORM) (live index)) indexes)) None)
+        (joined_table indexes) }
+    ensures terms { (indexes : List Index) → All IsValid indexes → (merge_of indexes).terms
+        ≡ filter (λ term. not (is_empty term.entries)) (map (merged_term indexes)
+        (in_order term_cmp (flat_map (λ index. map (term_of index.fields) index.terms) indexes))) }
+{}
+
+/// A document has no fault exactly where it breaks no limit.
+pub fn sound_documents()
+    ensures { (doc : Document) (limits : Limits) → (doc_fault doc limits ≡ None) ↔ IsSound doc limits }
+{}
+
+/// The index of documents without a fault is one that files can stand for, where they, their fields and their terms are few.
+pub fn written_documents()
+    ensures index { (docs : List Document) (limits : Limits) → IsSmall limits.tokens → All IsDocument docs → All IsShort docs
+        → All (λ doc. doc_fault doc limits ≡ None) docs → IsSmall (length docs) → IsSmall (length (table_of docs))
+        → IsSmall (length (index_of_documents docs).terms) → IsValid (index_of_documents docs) }
+    ensures under { (table : List TableField) (docs : List Document) (limits : Limits) → IsTable table → Each (λ field. IsText field.name) table
+        → Covers table docs → IsSmall limits.tokens → All IsDocument docs → All IsShort docs → All (λ doc. doc_fault doc limits ≡ None) docs
+        → IsSmall (length docs) → IsSmall (length (under table docs).terms) → IsValid (under table docs) }
+{}
+
+/// A merge of valid indexes is valid where its documents, fields and terms are few, and so is a valid index of which the documents
+/// of a term are deleted.
+pub fn valid_again()
+    ensures merged { (indexes : List Index) → All IsValid indexes → IsSmall (merge_of indexes).size
+        → IsSmall (length (joined_table indexes)) → IsSmall (length (merge_of indexes).terms) → IsValid (merge_of indexes) }
+    ensures deleted { (term : Term) (index : Index) → IsValid index → IsValid (without_term term index) }
+{}
+
+/// There are no more terms than tokens, no more fields than stored values and indexed fields, no more vectors than indexed fields;
+/// and a merge has no more terms and fields than its sources.
+pub fn counts_are_bounded()
+    ensures terms { (table : List TableField) (docs : List Document)
+        → length (under table docs).terms ≤ length (flat_map (λ field. field.tokens) (flat_map (λ doc. doc.indexed) docs)) }
+    ensures fields { (docs : List Document) → length (table_of docs) ≤ length (flat_map fields_of docs) }
+    ensures vectors { (table : List TableField) (doc : Document) → length (vectors_in table (content_of doc).vectors) ≤ length doc.indexed }
+    ensures merged_terms { (indexes : List Index) → All IsValid indexes
+        → length (merge_of indexes).terms ≤ length (flat_map (λ index. index.terms) indexes) }
+    ensures merged_fields { (indexes : List Index) → length (joined_table indexes) ≤ length (flat_map (λ index. index.fields) indexes) }
+{}
+
+/// The runs of a list are together the list, none is empty, and all but the last have the full length.
+pub fn runs_of_list<X>()
+    ensures together { (every : ℕ) (items : List X) → 0 < every → flat_map (λ run. run) (runs every items) ≡ items }
+    ensures some { (every : ℕ) (items : List X) → 0 < every → All (λ run. (0 < length run) × (length run ≤ every)) (runs every items) }
+    ensures full { (every n : ℕ) (items : List X) → 0 < every → n + 1 < length (runs every items)
+        → length (slice_index_or (runs every items) n []) ≡ every }
 {}

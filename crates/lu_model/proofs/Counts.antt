@@ -1,0 +1,1 @@
+-- What bounds the counts of an index.

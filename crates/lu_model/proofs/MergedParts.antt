@@ -1,0 +1,251 @@
+-- What a merge of valid indexes has of its sources: stored values and terms.
+use Rattle.std.proofs.Common.{◌≡◌, ◌≢◌, ℕ, zero, suc, ◌+◌, ◌<◌, ◌≤◌, Bool, true, false, not, cond, List, [], ◌∷◌, Option, Some, None, length, map, get_or, refl, sym, ap, ◌∙◌, subst, inl, inr, arith, lit<, eqb}
+use Rattle.std.specs.Prelude.{filter, flat_map, is_some, option_map, unwrap_or, AllPairs}
+use Rattle.std.specs.List.{AllZip, find, range_with_len}
+use Rattle.std.specs.List.Sorted.{IsStrictlySortedBy}
+use Rattle.std.proofs.lemmas.Bool.{cases_lt}
+use Rattle.std.proofs.lemmas.List.{length-map}
+use mathlib.Core.Bool.{true≢false}
+use Rattle.lu_types.specs.Bits.{has_bit}
+use Rattle.lu_types.specs.Tables.{TableField}
+use Rattle.lu_types.specs.declared.bits.TheConstants.{INDEXED, VECTORS, PAYLOADS, OMIT_TF}
+use Rattle.lu_types.specs.Joins.{join_all}
+use Rattle.lu_grammar.specs.Bytes.{IsBytes}
+use Rattle.lu_model.specs.Index.{Term, term_cmp, in_order, Occurrences, given, omitted, Entry, IndexedTerm, FieldVector, Index}
+use Rattle.lu_model.specs.Contents.{field_number, field_at, bits_of, has_norms, NamedVector, Content, MISSING_NORM, kept, indexed_term, norms_in, index_of}
+use Rattle.lu_model.specs.Merging.{name_of, stored_by_name, vector_by_name, term_of, occurrences_at, content_at, is_deleted, live_contents, merge_of, live}
+use Rattle.lu_model.specs.Valid.{IsSmall, IsKept, IsIndexedTerm, IsVector, AreNorms, IsValid, IsText, IsStorable}
+use Rattle.lu_model.proofs.Words.{IsIn, Each, EachPair, same_term, no_field, value_in, vector_in, has_vectors, stands_at, entries_if_any, byte_of, IsValue, CanBeMerged, Apart, IsTerm}
+use Rattle.lu_model.proofs.Among.{from_flat_map, from_map, in_map, from_filter}
+use Rattle.lu_model.proofs.Ordered.{rises-in_order, from_in_order, not_below_itself, least}
+use Rattle.lu_model.proofs.Bits.{Says}
+use Rattle.lu_model.proofs.Tables.{Has, Has-joins, Says-Has, name_at-Has, find_in}
+use Rattle.lu_model.proofs.Alike.{term_order}
+use Rattle.lu_model.proofs.Covering.{clear-joins}
+use Rattle.lu_model.proofs.Held.{same_term-true, same_term-itself}
+use Rattle.lu_model.proofs.Entries.{term_of-indexed, HasName, any-found}
+use Rattle.lu_model.proofs.Each.{each_in, each_at, each_map, pair_filter, pair_map, pair_weaker, length_filter-le, all-from_each, each-from_all, pairs-from_each, each-from_pairs, are_bytes}
+use Rattle.lu_model.proofs.ValidTerms.{entries_within, entries_rise, some_entry}
+use Rattle.lu_model.proofs.ValidIndex.{number-lt, terms_again}
+use Rattle.lu_model.proofs.JoinedTables.{names-joins, apart-joins}
+
+-- the item at a place within the list
+pub get_in : {X : Type 0} (xs : List X) (n : ℕ) (d : X) → n < length xs → IsIn (get_or xs n d) xs
+get_in [] n d h = absurd (omega arith)
+get_in (x ∷ xs) zero d h = inl refl
+get_in (x ∷ xs) (suc n) d h = inr (get_in xs n d (omega arith))
+
+-- a field with a bit is in the table
+pub bit_within : (bit : ℕ) (table : List TableField) (n : ℕ) → has_bit bit 0 ≡ false → has_bit bit (field_at n table).bits ≡ true → n < length table
+bit_within bit [] n none e = absurd (true≢false (sym e ∙ none))
+bit_within bit (f ∷ table) zero none e = omega arith
+bit_within bit (f ∷ table) (suc n) none e = let rest = bit_within bit table n none e in omega arith
+
+pub from_range : (n a k : ℕ) → IsIn n (range_with_len a k) → n < a + k
+from_range n a zero h = absurd h
+from_range n a (suc k) (inl e) = omega arith
+from_range n a (suc k) (inr h) = let rest = from_range n (a + 1) k h in omega arith
+
+-- the bytes of norms that are valid
+pub norm_bytes : (size : ℕ) (fields : List TableField) (norms : List (Option (List ℕ))) (n : ℕ) (bytes : List ℕ) → AllZip (AreNorms size) fields norms → get_or norms n None ≡ Some bytes → IsBytes bytes
+norm_bytes size [] [] n bytes h e = cc
+norm_bytes size [] (x ∷ norms) n bytes h e = absurd h
+norm_bytes size (f ∷ fields) [] n bytes h e = cc
+norm_bytes size (f ∷ fields) (x ∷ norms) zero bytes h e = let k : AreNorms size f (Some bytes) = subst (AreNorms size f) e h.0 in k.2
+norm_bytes size (f ∷ fields) (x ∷ norms) (suc n) bytes h e = norm_bytes size fields norms n bytes h.1 e
+
+turned_false : (a b : Bool) → (b ≡ true → a ≡ true) → a ≡ false → b ≡ false
+turned_false a true h e = sym (h refl) ∙ e
+turned_false a false h e = refl
+
+-- what one table keeps, as another wants it that says as much
+kept_above : (below above : ℕ) (o : Occurrences) → Says above below → IsKept below o → IsKept above (kept above o)
+kept_above below above o says h =
+    elim (has_bit OMIT_TF above) as (λ b. has_bit OMIT_TF above ≡ b → IsKept above (cond b omitted o)) [
+      | true ↦ λ t. t
+      | false ↦ λ t. given_case o h t
+    ] refl
+  where
+    given_case : (o : Occurrences) → IsKept below o → has_bit OMIT_TF above ≡ false → IsKept above o
+    given_case (given occurrences) h t = (
+      t,
+      record {
+        some = h.1.some;
+        few = h.1.few;
+        rise = h.1.rise;
+        small = h.1.small;
+        payloads = λ e. h.1.payloads (turned_false (has_bit PAYLOADS above) (has_bit PAYLOADS below) says.payloads e);
+      },
+    )
+    given_case omitted h t = absurd (true≢false (sym (says.omit_tf h) ∙ t))
+
+-- the one term of rising terms that has the name
+pub one_found : (fields : List TableField) (terms : List IndexedTerm) (it : IndexedTerm) (t : Term) → IsStrictlySortedBy term_cmp (map (term_of fields) terms) → IsIn it terms → t ≡ term_of fields it → find (λ u. same_term t (term_of fields u)) terms ≡ Some it
+unfolding IsStrictlySortedBy
+one_found fields [] it t rise h e = absurd h
+one_found fields (u ∷ terms) it t rise (inl q) e =
+    let same : same_term t (term_of fields u) ≡ true = ap (λ w. same_term w (term_of fields u)) (e ∙ ap (term_of fields) q) ∙ same_term-itself (term_of fields u) in
+    ap (λ b. cond b (Some u) (find (λ u. same_term t (term_of fields u)) terms)) same ∙ ap Some (sym q)
+one_found fields (u ∷ terms) it t rise (inr k) e =
+    elim (same_term t (term_of fields u)) as (λ b. same_term t (term_of fields u) ≡ b → cond b (Some u) (find (λ u. same_term t (term_of fields u)) terms) ≡ Some it) [
+      | true ↦ λ q.
+          let level : term_of fields u ≡ term_of fields it = sym (same_term-true t (term_of fields u) q) ∙ e in
+          let up = least term_cmp term_order (term_of fields u) (term_of fields it) (map (term_of fields) terms) rise.0 (in_map (term_of fields) it terms k) in
+          absurd (not_below_itself term_cmp term_order (term_of fields u) (ap (term_cmp (term_of fields u)) level ∙ up))
+      | false ↦ λ q. one_found fields terms it t rise.1 k e
+    ] refl
+
+-- the entry that tells of a document
+pub found_entry : (n : ℕ) (entries : List Entry) (o : Occurrences) → occurrences_at n entries ≡ Some o → (e : Entry) × IsIn e entries × (e.occurrences ≡ o)
+found_entry n [] o e = cc
+found_entry n (f ∷ entries) o e =
+    elim (eqb n f.document) as (λ b. option_map (λ (g : Entry). g.occurrences) (cond b (Some f) (find (λ (g : Entry). eqb n g.document) entries)) ≡ Some o → (e : Entry) × IsIn e (f ∷ entries) × (e.occurrences ≡ o)) [
+      | true ↦ λ e. let same : f.occurrences ≡ o = cc in (f, inl refl, same)
+      | false ↦ λ e. let r = found_entry n entries o e in (r.0, inr r.1, r.2)
+    ] e
+
+module _ (indexes : List Index) (ok : Each IsValid indexes) where
+  abbrev pub tables : List (List TableField)
+  tables = map (λ (index : Index). index.fields) indexes
+
+  abbrev pub table : List TableField
+  table = join_all tables
+
+  abbrev pub contents : List Content
+  contents = flat_map live_contents indexes
+
+  abbrev pub keys : List Term
+  keys = in_order term_cmp (flat_map (λ content. content.terms) contents)
+
+  pub valid : (index : Index) → IsIn index indexes → IsValid index
+  valid index h = each_at IsValid index indexes ok h
+
+  pub has : (index : Index) → IsIn index indexes → (f : TableField) → IsIn f index.fields → Has table f
+  has index h f k = Has-joins [] tables index.fields f (in_map (λ (index : Index). index.fields) index indexes h) k
+
+  pub has_at : (index : Index) → IsIn index indexes → (n : ℕ) → n < length index.fields → Has table (field_at n index.fields)
+  has_at index h n l = has index h (field_at n index.fields) (get_in index.fields n no_field l)
+
+  -- a document of the merge is one of a source
+  pub of_source : (c : Content) → IsIn c contents → (index : Index) × IsIn index indexes × ((n : ℕ) × (n < index.size) × (c ≡ content_at index n))
+  of_source c h =
+      let i = from_flat_map live_contents c indexes h in
+      let n = from_map (content_at i.0) c (live i.0) i.2 in
+      let k = from_filter (λ document. not (is_deleted i.0.deleted document)) n.0 (range_with_len 0 i.0.size) n.1 in
+      let low : n.0 < 0 + i.0.size = from_range n.0 0 i.0.size k.0 in
+      (i.0, i.1, (n.0, omega arith, n.2))
+
+  pub each_content : (P : Content → Type 0) → ((index : Index) → IsIn index indexes → (n : ℕ) → n < index.size → P (content_at index n)) → Each P contents
+  each_content P h = each_in P contents (λ c k. let s = of_source c k in subst P (sym s.2.2) (h s.0 s.1 s.2.0 s.2.1))
+
+  pub stored_is : (index : Index) → IsIn index indexes → (n : ℕ) → n < index.size → IsSmall (length (map (value_in table) (content_at index n).stored)) × Each (IsValue (length table)) (map (value_in table) (content_at index n).stored)
+  stored_is index h n l =
+      let right = valid index h in
+      let values = get_or index.stored n [] in
+      let within : n < length index.stored = omega (arith, right.stored, l) in
+      let few = each_at (λ values. IsSmall (length values)) values index.stored right.few_values (get_in index.stored n [] within) in
+      let each = each_at (Each (IsValue (length index.fields))) values index.stored right.values (get_in index.stored n [] within) in
+      let a = length-map values (stored_by_name index.fields) in
+      let b = length-map (map (stored_by_name index.fields) values) (value_in table) in (
+        omega (arith, few, a, b),
+        each_map (IsValue (length table)) (value_in table) (map (stored_by_name index.fields) values) (each_map (λ v. IsValue (length table) (value_in table v)) (stored_by_name index.fields) values (each_in (λ v. IsValue (length table) (value_in table (stored_by_name index.fields v))) values (λ v k.
+            let field = each_at (IsValue (length index.fields)) v values each k in
+            let there = has_at index h v.field field.0 in
+            (number-lt (name_of index.fields v.field) table there.field there.found, field.1)))),
+      )
+
+  -- the term of the source that a term of the merge is
+  pub record From (t : Term) : Type 0 where
+    index : Index
+    inside : IsIn index indexes
+    n : ℕ
+    low : n < index.size
+    it : IndexedTerm
+    in_terms : IsIn it index.terms
+    stands : stands_at n it ≡ true
+    is : t ≡ term_of index.fields it
+    content : IsIn (content_at index n) contents
+
+  pub of_term : (t : Term) → IsIn t keys → From t
+  of_term t h =
+      let flat = from_in_order term_cmp term_order t (flat_map (λ content. content.terms) contents) h in
+      let c = from_flat_map (λ (content : Content). content.terms) t contents flat in
+      let s = of_source c.0 c.1 in
+      let inside : IsIn t (content_at s.0 s.2.0).terms = subst (λ (w : Content). IsIn t w.terms) s.2.2 c.2 in
+      let it = from_map (term_of s.0.fields) t (filter (stands_at s.2.0) s.0.terms) inside in
+      let stands = from_filter (stands_at s.2.0) it.0 s.0.terms it.1 in
+      record { index = s.0; inside = s.1; n = s.2.0; low = s.2.1; it = it.0; in_terms = stands.0; stands = stands.1; is = it.2; content = subst (λ w. IsIn w contents) s.2.2 c.1 }
+
+  term_right : (index : Index) → IsIn index indexes → (it : IndexedTerm) → IsIn it index.terms → IsIndexedTerm index.size (field_at it.field index.fields).bits it
+  term_right index h it k = each_at (λ (term : IndexedTerm). IsIndexedTerm index.size (field_at term.field index.fields).bits term) it index.terms (valid index h).terms k
+
+  term_has : (index : Index) → IsIn index indexes → (it : IndexedTerm) → IsIn it index.terms → Has table (field_at it.field index.fields)
+  term_has index h it k = has_at index h it.field (bit_within INDEXED index.fields it.field refl (term_right index h it k).indexed)
+
+  term_says : (index : Index) → IsIn index indexes → (it : IndexedTerm) → IsIn it index.terms → Says (bits_of (name_of index.fields it.field) table) (field_at it.field index.fields).bits
+  term_says index h it k = Says-Has table (field_at it.field index.fields) (term_has index h it k) (term_right index h it k).indexed
+
+  pub has_name : (t : Term) → IsIn t keys → HasName table t
+  has_name t h =
+      let s = of_term t h in
+      subst (HasName table) (sym s.is) (name_at-Has table (field_at s.it.field s.index.fields) (term_has s.index s.inside s.it s.in_terms))
+
+  pub known : (t : Term) (index : Index) → IsIn index indexes → (n : ℕ) (o : Occurrences) → (found : Option IndexedTerm) → find (λ u. same_term t (term_of index.fields u)) index.terms ≡ found → occurrences_at n (entries_if_any found) ≡ Some o → IsKept (bits_of t.field table) (kept (bits_of t.field table) o)
+  known t index h n o None q e = cc
+  known t index h n o (Some it) q e =
+      let r = find_in (λ (u : IndexedTerm). same_term t (term_of index.fields u)) it index.terms q in
+      let is : t ≡ term_of index.fields it = same_term-true t (term_of index.fields it) r.1 in
+      let right = term_right index h it r.0 in
+      let entry = found_entry n it.entries o e in
+      let one = each_at (λ (entry : Entry). (entry.document < index.size) × IsKept (field_at it.field index.fields).bits entry.occurrences) entry.0 it.entries right.entries entry.1 in
+      let says = subst (λ (w : Term). Says (bits_of w.field table) (field_at it.field index.fields).bits) (sym is) (term_says index h it r.0) in
+      kept_above (field_at it.field index.fields).bits (bits_of t.field table) o says (subst (IsKept (field_at it.field index.fields).bits) entry.2 one.1)
+
+  pub term_kept : (t : Term) (c : Content) (o : Occurrences) → IsIn c contents → c.occurrences t ≡ Some o → IsKept (bits_of t.field table) (kept (bits_of t.field table) o)
+  term_kept t c o h e =
+      let s = of_source c h in
+      known t s.0 s.1 s.2.0 o (find (λ u. same_term t (term_of s.0.fields u)) s.0.terms) refl (ap (λ (w : Content). w.occurrences t) (sym s.2.2) ∙ e)
+
+  pub term_is : (t : Term) → IsIn t keys → IsIndexedTerm (length contents) (bits_of t.field table) (indexed_term table contents t)
+  term_is t h =
+      let s = of_term t h in
+      let right = term_right s.index s.inside s.it s.in_terms in
+      let says = subst (λ (w : Term). Says (bits_of w.field table) (field_at s.it.field s.index.fields).bits) (sym s.is) (term_says s.index s.inside s.it s.in_terms) in
+      let found = one_found s.index.fields s.index.terms s.it t (valid s.index s.inside).rise s.in_terms s.is in
+      let there : is_some ((content_at s.index s.n).occurrences t) ≡ true =
+      ap (λ f. is_some (occurrences_at s.n (entries_if_any f))) found ∙ sym (any-found (λ (entry : Entry). eqb s.n entry.document) (λ (entry : Entry). entry.occurrences) s.it.entries) ∙ s.stands in
+      let entries = (indexed_term table contents t).entries in
+      let room : 0 + length contents ≤ length contents = omega arith in
+      let within = entries_within table t (length contents) 0 contents room (λ c o k e. term_kept t c o k e) in
+      record {
+        indexed = says.indexed;
+        text = subst (λ (w : Term). IsText w.text) (sym s.is) right.text;
+        some = some_entry table t 0 (content_at s.index s.n) contents s.content there;
+        rise = entries_rise table t 0 contents;
+        entries = each_in (λ (entry : Entry). (entry.document < length contents) × IsKept (bits_of t.field table) entry.occurrences) entries (λ entry k.
+            let one = each_at (λ (entry : Entry). (0 ≤ entry.document) × (entry.document < length contents) × IsKept (bits_of t.field table) entry.occurrences) entry entries within k in
+            (one.1, one.2));
+      }
+
+  -- names and texts of the terms of a source are texts
+  pub source_terms_are_texts : (index : Index) → IsIn index indexes → (it : IndexedTerm) → IsIn it index.terms → IsTerm (term_of index.fields it)
+  source_terms_are_texts index h it k =
+      let right = term_right index h it k in
+      let low = bit_within INDEXED index.fields it.field refl right.indexed in
+      let name = each_at (λ (field : TableField). IsText field.name) (field_at it.field index.fields) index.fields (valid index h).names (get_in index.fields it.field no_field low) in
+      record { field = name.0; text = right.text.0 }
+
+  pub terms_are_texts : (t : Term) → IsIn t (flat_map (λ content. content.terms) contents) → IsTerm t
+  terms_are_texts t h =
+      let c = from_flat_map (λ (content : Content). content.terms) t contents h in
+      let s = of_source c.0 c.1 in
+      let it = from_map (term_of s.0.fields) t (filter (stands_at s.2.0) s.0.terms) (subst (λ (w : Content). IsIn t w.terms) s.2.2 c.2) in
+      subst IsTerm (sym it.2) (source_terms_are_texts s.0 s.1 it.0 (from_filter (stands_at s.2.0) it.0 s.0.terms it.1).0)
+
+  -- something is known of each term of a document
+  pub knows_term : (index : Index) → IsIn index indexes → (n : ℕ) (t : Term) → IsIn t (content_at index n).terms → is_some ((content_at index n).occurrences t) ≡ true
+  knows_term index h n t k =
+      let from = from_map (term_of index.fields) t (filter (stands_at n) index.terms) k in
+      let it = from_filter (stands_at n) from.0 index.terms from.1 in
+      let found = one_found index.fields index.terms from.0 t (valid index h).rise it.0 from.2 in
+      ap (λ f. is_some (occurrences_at n (entries_if_any f))) found ∙ sym (any-found (λ (entry : Entry). eqb n entry.document) (λ (entry : Entry). entry.occurrences) from.0.entries) ∙ it.1

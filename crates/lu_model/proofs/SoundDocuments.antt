@@ -1,0 +1,1 @@
+-- A document that breaks no limit has no fault.

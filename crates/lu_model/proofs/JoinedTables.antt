@@ -23,7 +23,7 @@ module _ (P : List ℕ → Type 0) where
         | false ↦ (h.0, names-join_field table new h.1 p)
       ]
 
-  names-join : (table fields : List TableField) → Each (λ f. P f.name) table → Each (λ f. P f.name) fields → Each (λ f. P f.name) (join table fields)
+  pub names-join : (table fields : List TableField) → Each (λ f. P f.name) table → Each (λ f. P f.name) fields → Each (λ f. P f.name) (join table fields)
   names-join table [] h k = h
   names-join table (f ∷ fields) h k = names-join (join_field table f) fields (names-join_field table f h k.0) k.1
 
@@ -47,7 +47,7 @@ apart-join_field (old ∷ table) new h =
       )
     ] refl
 
-apart-join : (table fields : List TableField) → Apart table → Apart (join table fields)
+pub apart-join : (table fields : List TableField) → Apart table → Apart (join table fields)
 apart-join table [] h = h
 apart-join table (f ∷ fields) h = apart-join (join_field table f) fields (apart-join_field table f h)
 

@@ -26,3 +26,4 @@ pub mod Counts
 pub mod BySource
 pub mod Runs
 pub mod SoundDocuments
+pub mod WrittenTables

@@ -29,7 +29,7 @@ pub do_not_fall : (before : ℕ) (tokens : List Token) → AreSoundTokens before
 do_not_fall before [] h = tt
 do_not_fall before (t ∷ tokens) h = (not_before t.position tokens h.2, do_not_fall t.position tokens h.2)
 
-differs : (a b : List ℕ) → a ≢ b → bytes_eq a b ≡ false
+pub differs : (a b : List ℕ) → a ≢ b → bytes_eq a b ≡ false
 differs a b h = elim (bytes_eq a b) as (λ v. bytes_eq a b ≡ v → v ≡ false) [ true ↦ λ e. absurd (h ((bytes_decides a b).0 e)) | false ↦ λ e. refl ] refl
 
 no_token : (term : Term) (fields : List IndexedField) → Each (λ name. term.field ≢ name) (map (λ (field : IndexedField). field.field) fields) → flat_map (tokens_for term) fields ≡ []

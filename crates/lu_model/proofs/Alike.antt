@@ -11,8 +11,8 @@ use Rattle.lu_prims.specs.Order.{text_cmp}
 use Rattle.lu_prims.proofs.Units.{level_same, text_order}
 use Rattle.lu_types.specs.Tables.{TableField}
 use Rattle.lu_model.specs.Index.{Term, term_cmp, in_order, Occurrences, Entry}
-use Rattle.lu_model.specs.Contents.{bits_of, has_norms, Content, MISSING_NORM, kept, entry_of, indexed_term, norms_in, index_of}
-use Rattle.lu_model.proofs.Words.{IsIn, HaveSame, IsTerm, value_in, vector_in, has_vectors}
+use Rattle.lu_model.specs.Contents.{Content, MISSING_NORM, bits_of, has_norms, index_of, indexed_term, kept}
+use Rattle.lu_model.proofs.Words.{IsIn, HaveSame, IsTerm, value_in, vector_in, has_vectors, entry_of, norms_in}
 use Rattle.lu_model.proofs.Ordered.{same-in_order}
 use Rattle.lu_model.proofs.Among.{in_left, in_right, in_either}
 

@@ -9,10 +9,9 @@ use mathlib.Core.Bool.{true≢false}
 use Rattle.lu_types.specs.Joins.{is_empty}
 use Rattle.lu_types.specs.Tables.{TableField}
 use Rattle.lu_model.specs.Index.{Entry, Index, IndexedTerm, Term, in_order, term_cmp}
-use Rattle.lu_model.specs.Contents.{Content, MISSING_NORM, has_norms, index_of, norms_in, stored_in, vectors_in}
-use Rattle.lu_model.specs.Merging.{content_at, joined_table, live, live_contents, merge_of, merged_term, norm_at, stored_by_name, term_of, vector_by_name}
+use Rattle.lu_model.specs.Contents.{Content, MISSING_NORM, content_at, has_norms, index_of, joined_table, live, live_contents, merge_of, merged_term, stored_in, term_of, vectors_in}
 use Rattle.lu_model.specs.Valid.{IsValid}
-use Rattle.lu_model.proofs.Words.{Each, IsIn, IsTerm, stands_at}
+use Rattle.lu_model.proofs.Words.{Each, IsIn, IsTerm, stands_at, norms_in, stored_by_name, vector_by_name}
 use Rattle.lu_model.proofs.Among.{from_filter, from_flat_map, from_map, in_filter, in_flat_map, in_map}
 use Rattle.lu_model.proofs.Alike.{term_order, terms_level}
 use Rattle.lu_model.proofs.Each.{each_at, each_in}
@@ -45,7 +44,7 @@ size-merge (index ∷ indexes) =
     ∙ (λ i. length-map (live index) (content_at index) i + size-merge indexes i) ∙ sym (length-append (live index) (flat_map live indexes))
 
 pub norms-merge : (indexes : List Index) (table : List TableField) → map (norms_in (flat_map live_contents indexes)) table ≡ map (λ field. cond (has_norms field.bits)
-    (Some (flat_map (λ index. map (λ document. unwrap_or (norm_at index document field.name) MISSING_NORM) (live index)) indexes)) None) table
+    (Some (flat_map (λ index. map (λ document. unwrap_or ((content_at index document).norm field.name) MISSING_NORM) (live index)) indexes)) None) table
 norms-merge indexes table = map-same _ _ (λ field. ap (λ norms. cond (has_norms field.bits) (Some norms) None) (over_live (λ content. unwrap_or (content.norm field.name) MISSING_NORM) indexes)) table
 
 -- ---- terms that have an entry

@@ -11,8 +11,7 @@ use Rattle.lu_types.specs.declared.document.Document.{Document}
 use Rattle.lu_types.specs.declared.document.IndexedField.{IndexedField}
 use Rattle.lu_types.specs.declared.document.Token.{Token}
 use Rattle.lu_model.specs.Index.{Index, IndexedTerm, Term, in_order, term_cmp}
-use Rattle.lu_model.specs.Contents.{Content, content_of, index_of, indexed_term, under, vector_of, vectors_in}
-use Rattle.lu_model.specs.Merging.{joined_table, merge_of, merged_term, term_of}
+use Rattle.lu_model.specs.Contents.{Content, content_of, index_of, indexed_term, joined_table, merge_of, merged_term, term_of, under, vector_of, vectors_in}
 use Rattle.lu_model.specs.Valid.{IsValid}
 use Rattle.lu_model.proofs.Words.{Each, has_vector_of, has_vectors, terms_of, vector_in}
 use Rattle.lu_model.proofs.BySource.{all_names, has_entry, terms-merge}

@@ -11,17 +11,15 @@ use mathlib.Core.Bool.{true≢false}
 use Rattle.lu_types.specs.Tables.{TableField}
 use Rattle.lu_types.specs.Joins.{join_all}
 use Rattle.lu_model.specs.Index.{Term, term_cmp, in_order, Occurrences, Entry, IndexedTerm, Index}
-use Rattle.lu_model.specs.Contents.{bits_of, field_number, field_at, Content, entry_of, indexed_term, kept, index_of}
-use Rattle.lu_model.specs.Merging.{term_of, occurrences_at, content_at, live_contents, joined_table, merged_term, merge_of, without_term, live}
+use Rattle.lu_model.specs.Contents.{Content, bits_of, content_at, field_at, field_number, index_of, indexed_term, joined_table, kept, live, live_contents, merge_of, merged_term, occurrences_at, term_of, without_term}
 use Rattle.lu_model.specs.Valid.{IsIndexedTerm, IsKept, IsValid}
-use Rattle.lu_model.proofs.Words.{IsIn, Each, same_term, entries_if_any, stands_at}
+use Rattle.lu_model.proofs.Words.{IsIn, Each, same_term, entries_if_any, stands_at, entry_of}
 use Rattle.lu_model.proofs.Among.{from_flat_map, from_map, in_map, in_filter, in_flat_map}
 use Rattle.lu_model.proofs.Each.{each_in, each_at, each_filter}
 use Rattle.lu_model.proofs.Tables.{find_in}
 use Rattle.lu_model.proofs.Held.{same_term-true}
 use Rattle.lu_model.proofs.Entries.{any-found}
 use Rattle.lu_model.proofs.Renumbered.{HasEntries, entries-merged}
-use Rattle.lu_model.specs.Merging.{without_term}
 
 above_range : (m a n : ℕ) → m < a → AllByRecursion (λ k. nat_cmp m k ≡ Less) (range_with_len a n)
 above_range m a zero h = tt

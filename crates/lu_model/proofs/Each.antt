@@ -74,6 +74,7 @@ non_decreasing ns h i j d low high = elim (cases_lt i j) [
   | inl l ↦ pairs-from_each (λ m n. m ≤ n) ns h i j d l high
   | inr l ↦ let same : i ≡ j = omega (arith, low, l) in subst (λ k. get_or ns i d ≤ get_or ns k d) same (omega arith)
 ]
+
 -- a list whose items are bytes
 pub are_bytes : (bytes : List ℕ) → Each (λ byte. byte < 256) bytes → IsBytes bytes
 are_bytes [] h i = lit< tt

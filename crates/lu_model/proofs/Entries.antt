@@ -6,9 +6,8 @@ use borrow.Author.Tests.{eqb-true}
 use mathlib.Core.Bool.{true≢false}
 use Rattle.lu_types.specs.Tables.{TableField}
 use Rattle.lu_model.specs.Index.{Term, Occurrences, Entry}
-use Rattle.lu_model.specs.Contents.{field_number, bits_of, Content, kept, entry_of, indexed_term}
-use Rattle.lu_model.specs.Merging.{name_of, term_of, occurrences_at}
-use Rattle.lu_model.proofs.Words.{IsIn, same_term}
+use Rattle.lu_model.specs.Contents.{Content, bits_of, field_number, indexed_term, kept, name_of, occurrences_at, term_of}
+use Rattle.lu_model.proofs.Words.{IsIn, same_term, entry_of}
 use Rattle.lu_model.proofs.Held.{same_term-true, same_term-itself}
 
 -- the item at a place of a list that is made of another

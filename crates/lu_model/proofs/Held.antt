@@ -13,7 +13,7 @@ use Rattle.lu_types.specs.declared.document.IndexedField.{IndexedField}
 use Rattle.lu_types.specs.declared.document.Token.{Token}
 use Rattle.lu_types.specs.declared.stored.StoredValue.{StoredValue}
 use Rattle.lu_model.specs.Index.{Term}
-use Rattle.lu_model.specs.Contents.{bits_of, has_norms, tokens_with, tokens_for, given_if_any, content_of}
+use Rattle.lu_model.specs.Contents.{bits_of, content_of, given_if_any, has_norms, tokens_for, tokens_with}
 use Rattle.lu_model.proofs.Words.{IsIn, same_term, terms_of, norm_if_any}
 use Rattle.lu_types.specs.Joins.{is_empty, has_payloads, stored_field, indexed_field, fields_of, asked_bits}
 use Rattle.lu_model.proofs.Among.{in_left, in_right, in_map, from_map, in_filter, from_filter, in_flat_map, from_flat_map}

@@ -7,8 +7,7 @@ use Rattle.lu_types.specs.Joins.{Covers}
 use Rattle.lu_types.specs.Tables.{TableField}
 use Rattle.lu_types.specs.declared.document.Document.{Document}
 use Rattle.lu_model.specs.Index.{Term, term_cmp, in_order, Index}
-use Rattle.lu_model.specs.Contents.{AreTerms, Content, content_of, index_of, indexed_term, under}
-use Rattle.lu_model.specs.Merging.{joined_table, live_contents, merge_of, term_of}
+use Rattle.lu_model.specs.Contents.{AreTerms, Content, content_of, index_of, indexed_term, joined_table, live_contents, merge_of, term_of, under}
 use Rattle.lu_model.specs.Valid.{IsValid}
 use Rattle.lu_model.proofs.Words.{IsIn, Each, IsTerm}
 use Rattle.lu_model.proofs.Among.{contains-from_in, from_flat_map, from_map, in-from_contains, in_flat_map}

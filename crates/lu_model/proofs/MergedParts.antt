@@ -12,10 +12,9 @@ use Rattle.lu_types.specs.declared.bits.TheConstants.{INDEXED, VECTORS, PAYLOADS
 use Rattle.lu_types.specs.Joins.{join_all}
 use Rattle.lu_grammar.specs.Bytes.{IsBytes}
 use Rattle.lu_model.specs.Index.{Term, term_cmp, in_order, Occurrences, given, omitted, Entry, IndexedTerm, FieldVector, Index}
-use Rattle.lu_model.specs.Contents.{field_number, field_at, bits_of, has_norms, NamedVector, Content, MISSING_NORM, kept, indexed_term, norms_in, index_of}
-use Rattle.lu_model.specs.Merging.{name_of, stored_by_name, vector_by_name, term_of, occurrences_at, content_at, is_deleted, live_contents, merge_of, live}
-use Rattle.lu_model.specs.Valid.{IsSmall, IsKept, IsIndexedTerm, IsVector, AreNorms, IsValid, IsText, IsStorable}
-use Rattle.lu_model.proofs.Words.{IsIn, Each, EachPair, same_term, no_field, value_in, vector_in, has_vectors, stands_at, entries_if_any, byte_of, IsValue, CanBeMerged, Apart, IsTerm}
+use Rattle.lu_model.specs.Contents.{Content, MISSING_NORM, bits_of, content_at, field_at, field_number, has_norms, index_of, indexed_term, is_deleted, kept, live, live_contents, merge_of, name_of, occurrences_at, term_of}
+use Rattle.lu_model.specs.Valid.{IsSmall, IsKept, IsIndexedTerm, IsVector, AreNorms, IsValid, IsStorable}
+use Rattle.lu_model.proofs.Words.{IsIn, Each, EachPair, same_term, no_field, value_in, vector_in, has_vectors, stands_at, entries_if_any, byte_of, IsValue, CanBeMerged, Apart, IsTerm, norms_in, stored_by_name, vector_by_name, IsText}
 use Rattle.lu_model.proofs.Among.{from_flat_map, from_map, in_map, from_filter}
 use Rattle.lu_model.proofs.Ordered.{rises-in_order, from_in_order, not_below_itself, least}
 use Rattle.lu_model.proofs.Bits.{Says}

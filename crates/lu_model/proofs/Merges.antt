@@ -8,8 +8,7 @@ use Rattle.lu_types.specs.Tables.{TableField}
 use Rattle.lu_types.specs.declared.bits.TheConstants.{OMIT_TF}
 use Rattle.lu_types.specs.declared.document.Document.{Document}
 use Rattle.lu_model.specs.Index.{Term, Occurrences, omitted, Index}
-use Rattle.lu_model.specs.Contents.{bits_of, Content, kept, index_of, content_of, under}
-use Rattle.lu_model.specs.Merging.{content_at, is_deleted, live_contents, merge_of}
+use Rattle.lu_model.specs.Contents.{Content, bits_of, content_at, content_of, index_of, is_deleted, kept, live_contents, merge_of, under}
 use Rattle.lu_model.proofs.Words.{Source, IsSource, source_index, left_docs, IsIn, IsTerm, IsClear}
 use Rattle.lu_types.specs.Joins.{join, join_all, indexed_field, fields_of, has_payloads, asked_bits}
 use Rattle.lu_model.proofs.Among.{in_flat_map, from_flat_map, from_map, from_filter, in_map}

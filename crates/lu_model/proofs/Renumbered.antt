@@ -12,9 +12,8 @@ use borrow.Author.Tests.{eqb-true}
 use mathlib.Core.Bool.{true≢false}
 use Rattle.lu_types.specs.Tables.{TableField}
 use Rattle.lu_model.specs.Index.{Term, Occurrences, Entry, Index}
-use Rattle.lu_model.specs.Contents.{bits_of, kept, entry_of}
-use Rattle.lu_model.specs.Merging.{occurrences_at, entries_in, content_at, is_deleted, live_contents, renumbered, merged_entries, live_from, live}
-use Rattle.lu_model.proofs.Words.{Each, EachPair, live_between}
+use Rattle.lu_model.specs.Contents.{bits_of, content_at, entries_in, is_deleted, kept, live, live_contents, live_from, merged_entries, occurrences_at, renumbered}
+use Rattle.lu_model.proofs.Words.{Each, EachPair, live_between, entry_of}
 use Rattle.lu_model.proofs.Each.{each_in, each_at}
 
 apart : (m n : ℕ) → n < m → eqb m n ≡ false

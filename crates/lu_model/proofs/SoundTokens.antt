@@ -10,7 +10,7 @@ use Rattle.lu_types.specs.declared.document.Token.{Token}
 use Rattle.lu_types.specs.DocFaults.{IsSoundToken, AreSoundTokens, AreApart}
 use Rattle.lu_types.specs.Joins.{is_empty}
 use Rattle.lu_model.specs.Index.{Term}
-use Rattle.lu_model.specs.Contents.{tokens_with, tokens_for}
+use Rattle.lu_model.specs.Contents.{tokens_for, tokens_with}
 use Rattle.lu_model.proofs.Words.{IsIn, Each, EachPair}
 use Rattle.lu_model.proofs.Among.{in_map}
 use Rattle.lu_model.proofs.Each.{each_in, each_at, each_by_recursion}

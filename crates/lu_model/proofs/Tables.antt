@@ -8,7 +8,7 @@ use Rattle.std.proofs.Math.Numerals.{one-add}
 use Rattle.lu_types.specs.Bits.{has_bit}
 use Rattle.lu_types.specs.Tables.{TableField}
 use Rattle.lu_types.specs.declared.bits.TheConstants.{INDEXED}
-use Rattle.lu_model.specs.Contents.{field_number, field_at, bits_of}
+use Rattle.lu_model.specs.Contents.{bits_of, field_at, field_number}
 use Rattle.lu_model.proofs.Words.{IsIn, no_field}
 use Rattle.lu_types.specs.Joins.{join_bits, join_field, join}
 use Rattle.lu_model.proofs.Bits.{Says, Says-join_old, Says-join_new, Says-trans}

@@ -11,10 +11,9 @@ use Rattle.lu_types.specs.Tables.{TableField}
 use Rattle.lu_types.specs.declared.bits.TheConstants.{VECTORS}
 use Rattle.lu_types.specs.declared.document.Document.{Document}
 use Rattle.lu_types.specs.declared.stored.StoredValue.{StoredValue}
-use Rattle.lu_model.specs.Index.{Term, term_cmp, in_order, Occurrences, Index}
-use Rattle.lu_model.specs.Contents.{field_number, bits_of, has_norms, NamedVector, Content, MISSING_NORM, kept, indexed_term, norms_in, index_of, vector_of, content_of, under}
-use Rattle.lu_model.specs.Merging.{name_of, stored_by_name, vector_by_name, term_of, occurrences_at, content_at}
-use Rattle.lu_model.proofs.Words.{IsIn, HaveSame, same_term, no_field, value_in, vector_in, has_vectors, has_vector_of, stands_at, entries_if_any, byte_of, IsTerm}
+use Rattle.lu_model.specs.Index.{Term, term_cmp, in_order, Occurrences, Index, FieldVector}
+use Rattle.lu_model.specs.Contents.{Content, MISSING_NORM, bits_of, content_at, content_of, field_number, has_norms, index_of, indexed_term, kept, name_of, occurrences_at, term_of, under, vector_of}
+use Rattle.lu_model.proofs.Words.{IsIn, HaveSame, same_term, no_field, value_in, vector_in, has_vectors, has_vector_of, stands_at, entries_if_any, byte_of, IsTerm, norms_in, stored_by_name, vector_by_name}
 use Rattle.lu_types.specs.Joins.{stored_field, indexed_field, has_vector, has_payloads, is_empty}
 use Rattle.lu_model.proofs.Ordered.{in_in_order, from_in_order}
 use Rattle.lu_model.proofs.Among.{in_map, from_map, in_filter, from_filter, in_flat_map, from_flat_map}
@@ -33,7 +32,7 @@ stored_again table (v ∷ values) h =
     λ i. record v { field = name i } ∷ rest i
 
 -- vectors by number and again by name
-vectors_again : (table : List TableField) (vectors : List NamedVector) → ((v : NamedVector) → IsIn v vectors → (name_of table (field_number v.field table) ≡ v.field) × (has_vectors table v ≡ true)) → map (vector_by_name table) (map (vector_in table) (filter (has_vectors table) vectors)) ≡ vectors
+vectors_again : (table : List TableField) (vectors : List (FieldVector (List ℕ))) → ((v : (FieldVector (List ℕ))) → IsIn v vectors → (name_of table (field_number v.field table) ≡ v.field) × (has_vectors table v ≡ true)) → map (vector_by_name table) (map (vector_in table) (filter (has_vectors table) vectors)) ≡ vectors
 vectors_again table [] h = refl
 vectors_again table (v ∷ vectors) h =
     let name = (h v (inl refl)).0 in
@@ -148,7 +147,7 @@ module _ (table : List TableField) (docs : List Document) (fields : (doc : Docum
       let inside = from_filter has_vector_of from.0 doc.indexed from.1 in
       let has = HasFields-indexed table doc (fields doc (in_at docs n doc e)) from.0 inside.0 in
       let says = Says-indexed table from.0 has in
-      let name : v.field ≡ from.0.field = ap (λ (w : NamedVector). w.field) from.2 in
+      let name : v.field ≡ from.0.field = ap (λ (w : (FieldVector (List ℕ))). w.field) from.2 in
       let vectors : has_bit VECTORS (bits_of from.0.field table) ≡ true =
       says.vectors (vectors-asked from.0.vector (is_some from.0.norm) from.0.omit_tf (has_payloads from.0) ∙ (both_true (has_vector from.0.vector) (not (is_empty from.0.tokens)) inside.1).0) in (
         subst (λ w. name_of table (field_number w table) ≡ w) (sym name) (name_at-Has table (indexed_field from.0) has),

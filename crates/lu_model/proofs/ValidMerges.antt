@@ -12,10 +12,9 @@ use Rattle.lu_types.specs.declared.bits.TheConstants.{INDEXED, VECTORS, PAYLOADS
 use Rattle.lu_types.specs.Joins.{join_all}
 use Rattle.lu_grammar.specs.Bytes.{IsBytes}
 use Rattle.lu_model.specs.Index.{Term, term_cmp, in_order, Occurrences, given, omitted, Entry, IndexedTerm, FieldVector, Index}
-use Rattle.lu_model.specs.Contents.{field_number, field_at, bits_of, has_norms, NamedVector, Content, MISSING_NORM, kept, indexed_term, norms_in, index_of}
-use Rattle.lu_model.specs.Merging.{name_of, stored_by_name, vector_by_name, term_of, occurrences_at, content_at, is_deleted, live_contents, merge_of, live}
-use Rattle.lu_model.specs.Valid.{IsSmall, IsKept, IsIndexedTerm, IsVector, AreNorms, IsValid, IsText, IsStorable}
-use Rattle.lu_model.proofs.Words.{IsIn, Each, EachPair, same_term, no_field, value_in, vector_in, has_vectors, stands_at, entries_if_any, byte_of, IsValue, CanBeMerged, Apart}
+use Rattle.lu_model.specs.Contents.{Content, MISSING_NORM, bits_of, content_at, field_at, field_number, has_norms, index_of, indexed_term, is_deleted, kept, live, live_contents, merge_of, name_of, occurrences_at, term_of}
+use Rattle.lu_model.specs.Valid.{IsSmall, IsKept, IsIndexedTerm, IsVector, AreNorms, IsValid, IsStorable}
+use Rattle.lu_model.proofs.Words.{IsIn, Each, EachPair, same_term, no_field, value_in, vector_in, has_vectors, stands_at, entries_if_any, byte_of, IsValue, CanBeMerged, Apart, norms_in, stored_by_name, vector_by_name, IsText}
 use Rattle.lu_model.proofs.Among.{from_flat_map, from_map, in_map, from_filter}
 use Rattle.lu_model.proofs.Ordered.{rises-in_order, from_in_order, not_below_itself, least}
 use Rattle.lu_model.proofs.Bits.{Says}
@@ -28,7 +27,6 @@ use Rattle.lu_model.proofs.Each.{each_in, each_at, each_map, pair_filter, pair_m
 use Rattle.lu_model.proofs.ValidTerms.{entries_within, entries_rise, some_entry}
 use Rattle.lu_model.proofs.ValidIndex.{number-lt, terms_again}
 use Rattle.lu_model.proofs.JoinedTables.{names-joins, apart-joins}
-
 use Rattle.lu_model.proofs.MergedParts.{get_in, bit_within, norm_bytes, valid, has_at, each_content, stored_is, has_name, term_is}
 
 module _ (indexes : List Index) (ok : CanBeMerged indexes) where
@@ -60,7 +58,7 @@ module _ (indexes : List Index) (ok : CanBeMerged indexes) where
       (one, norms_are more)
 
   -- the vectors of a document of a source
-  abbrev vectors_at : Index → ℕ → List FieldVector
+  abbrev vectors_at : Index → ℕ → List (FieldVector ℕ)
   vectors_at index n = get_or index.vectors n []
 
   vectors_of : (index : Index) → IsIn index indexes → (n : ℕ) → n < index.size → IsIn (vectors_at index n) index.vectors
@@ -74,7 +72,7 @@ module _ (indexes : List Index) (ok : CanBeMerged indexes) where
       let c = length-map (filter (has_vectors table) (map (vector_by_name index.fields) (vectors_at index n))) (vector_in table) in
       omega (arith, few, a, b, c)
 
-  vector_right : (index : Index) → IsIn index indexes → (n : ℕ) → n < index.size → (v : FieldVector) → IsIn v (vectors_at index n) → IsVector index.fields v
+  vector_right : (index : Index) → IsIn index indexes → (n : ℕ) → n < index.size → (v : (FieldVector ℕ)) → IsIn v (vectors_at index n) → IsVector index.fields v
   vector_right index h n l v k = each_at (IsVector index.fields) v (vectors_at index n) (each_at (λ vs. Each (IsVector index.fields) vs) (vectors_at index n) index.vectors (valid indexes ok.valid index h).vector_fields (vectors_of index h n l)) k
 
   vectors_are : (index : Index) → IsIn index indexes → (n : ℕ) → n < index.size → Each (IsVector table) (map (vector_in table) (filter (has_vectors table) (content_at index n).vectors))
@@ -103,12 +101,12 @@ module _ (indexes : List Index) (ok : CanBeMerged indexes) where
       above : (a b : ℕ) → b ≤ a → a ≢ b → b < a
       above a b l d = omega arith
 
-  vectors_apart : (index : Index) → IsIn index indexes → (n : ℕ) → n < index.size → EachPair (λ (v w : FieldVector). v.field ≢ w.field) (map (vector_in table) (filter (has_vectors table) (content_at index n).vectors))
+  vectors_apart : (index : Index) → IsIn index indexes → (n : ℕ) → n < index.size → EachPair (λ (v w : (FieldVector ℕ)). v.field ≢ w.field) (map (vector_in table) (filter (has_vectors table) (content_at index n).vectors))
   vectors_apart index h n l =
-      pair_map (λ (v w : FieldVector). v.field ≢ w.field) (vector_in table) (filter (has_vectors table) (map (vector_by_name index.fields) (vectors_at index n)))
-      (pair_filter (λ (v w : NamedVector). field_number v.field table ≢ field_number w.field table) (has_vectors table) (map (vector_by_name index.fields) (vectors_at index n))
-      (pair_map (λ (v w : NamedVector). field_number v.field table ≢ field_number w.field table) (vector_by_name index.fields) (vectors_at index n)
-      (pair_weaker (λ (v w : FieldVector). field_number (name_of index.fields v.field) table ≢ field_number (name_of index.fields w.field) table) (λ (v w : FieldVector). v.field ≢ w.field) (vectors_at index n)
+      pair_map (λ (v w : (FieldVector ℕ)). v.field ≢ w.field) (vector_in table) (filter (has_vectors table) (map (vector_by_name index.fields) (vectors_at index n)))
+      (pair_filter (λ (v w : (FieldVector (List ℕ))). field_number v.field table ≢ field_number w.field table) (has_vectors table) (map (vector_by_name index.fields) (vectors_at index n))
+      (pair_map (λ (v w : (FieldVector (List ℕ))). field_number v.field table ≢ field_number w.field table) (vector_by_name index.fields) (vectors_at index n)
+      (pair_weaker (λ (v w : (FieldVector ℕ)). field_number (name_of index.fields v.field) table ≢ field_number (name_of index.fields w.field) table) (λ (v w : (FieldVector ℕ)). v.field ≢ w.field) (vectors_at index n)
       (λ v w p q differ same.
       let low = bit_within VECTORS index.fields v.field refl (vector_right index h n l v p).field in
       let high = bit_within VECTORS index.fields w.field refl (vector_right index h n l w q).field in

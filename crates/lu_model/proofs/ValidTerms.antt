@@ -20,10 +20,11 @@ use Rattle.lu_types.specs.declared.validation.TheConstants.{MOST_BYTES, MOST_PLA
 use Rattle.lu_types.specs.Documents.{IsDocument, IsIndexedField, IsToken}
 use Rattle.lu_types.specs.DocFaults.{IsSoundToken, IsSoundField, IsSound}
 use Rattle.lu_types.specs.Joins.{has_payloads, asked_bits}
+use Rattle.lu_types.specs.declared.stored.Stored.TheVariants.{Binary}
 use Rattle.lu_model.specs.Index.{Term, Occurrence, Occurrences, given, omitted, Entry}
-use Rattle.lu_model.specs.Contents.{bits_of, Content, kept, entry_of, tokens_with, tokens_for, given_if_any, content_of}
-use Rattle.lu_model.specs.Valid.{IsSmall, AreBytes, IsKept}
-use Rattle.lu_model.proofs.Words.{IsIn, Each}
+use Rattle.lu_model.specs.Contents.{Content, bits_of, content_of, given_if_any, kept, tokens_for, tokens_with}
+use Rattle.lu_model.specs.Valid.{IsSmall, IsStorable, IsKept}
+use Rattle.lu_model.proofs.Words.{IsIn, Each, entry_of}
 use Rattle.lu_model.proofs.Asked.{payloads-asked, omit_tf-asked}
 use Rattle.lu_model.proofs.Bits.{Says}
 use Rattle.lu_model.proofs.Held.{HasFields, HasFields-indexed, Says-indexed, stands_in, occurrences-in_terms}
@@ -143,7 +144,7 @@ module _ (table : List TableField) (doc : Document) (limits : Limits) (small : I
                 some = omega (arith, is.1, count);
                 few = omega (arith, fewer, few, count, small);
                 rise = non_decreasing (map (λ (o : Occurrence). o.position) (map occurrence tokens)) (pair_map (λ m n. m ≤ n) (λ (o : Occurrence). o.position) (map occurrence tokens) (pair_map (λ (a b : Occurrence). a.position ≤ b.position) occurrence tokens (pair_filter (λ (a b : Token). a.position ≤ b.position) (λ (token : Token). bytes_eq term.text token.text) f.tokens (do_not_fall 0 f.tokens right.tokens))));
-                small = each_map (λ (o : Occurrence). IsSmall o.position × AreBytes o.payload) occurrence tokens (each_in (λ (token : Token). IsSmall token.position × AreBytes token.payload) tokens (λ token k.
+                small = each_map (λ (o : Occurrence). IsSmall o.position × IsStorable (Binary o.payload)) occurrence tokens (each_in (λ (token : Token). IsSmall token.position × IsStorable (Binary token.payload)) tokens (λ token k.
                     let one = each_at IsSoundToken token tokens (each_filter IsSoundToken (λ (token : Token). bytes_eq term.text token.text) f.tokens (each_sound 0 f.tokens right.tokens)) k in
                     let of = each_at IsToken token f.tokens (each-from_all IsToken f.tokens (made_field f s.inside).tokens) (from_filter (λ (token : Token). bytes_eq term.text token.text) token f.tokens k).0 in
                     (small_place token.position one.position, (of.payload, small_bytes (length token.payload) one.payload))));

@@ -18,10 +18,9 @@ use Rattle.lu_types.specs.Documents.{IsDocument, IsIndexedField, IsToken}
 use Rattle.lu_types.specs.DocFaults.{IsSoundToken, IsSoundField, AreApart, IsSound}
 use Rattle.lu_types.specs.Joins.{keeps_positions, keeps_offsets, bit_if, indexed_field}
 use Rattle.lu_model.specs.Index.{in_order, Span, VectorTerm, FieldVector}
-use Rattle.lu_model.specs.Contents.{field_number, NamedVector, tokens_with, vector_of}
-use Rattle.lu_model.specs.Merging.{name_of}
-use Rattle.lu_model.specs.Valid.{IsSmall, IsText, AreAsMany, IsVectorTerm, IsVector}
-use Rattle.lu_model.proofs.Words.{IsIn, Each, EachPair, vector_in, has_vectors, term_with, has_vector_of}
+use Rattle.lu_model.specs.Contents.{field_number, name_of, tokens_with, vector_of}
+use Rattle.lu_model.specs.Valid.{IsSmall, AreAsMany, IsVectorTerm, IsVector}
+use Rattle.lu_model.proofs.Words.{IsIn, Each, EachPair, vector_in, has_vectors, term_with, has_vector_of, IsText}
 use Rattle.lu_model.proofs.Among.{from_map, in_filter, from_filter}
 use Rattle.lu_model.proofs.Ordered.{rises-in_order, from_in_order}
 use Rattle.lu_model.proofs.Tables.{name_at-Has}
@@ -130,7 +129,7 @@ apart_pairs (f ∷ fields) h = (apart_from f.field fields (each_by_recursion (λ
 
 -- the vectors of a sound document
 module _ (table : List TableField) (doc : Document) (limits : Limits) (small : IsSmall limits.tokens) (fields : HasFields table doc) (sound : IsSound doc limits) (made : IsDocument doc) where
-  abbrev named : List NamedVector
+  abbrev named : List (FieldVector (List ℕ))
   named = map vector_of (filter has_vector_of doc.indexed)
 
   pub vectors_few : IsSmall (length doc.indexed) → IsSmall (length (map (vector_in table) (filter (has_vectors table) named)))
@@ -150,11 +149,11 @@ module _ (table : List TableField) (doc : Document) (limits : Limits) (small : I
       let of = made_field table doc limits small fields sound made from.0 inside.0 in
       subst (λ w. IsVector table (vector_in table w)) (sym from.2) (is_vector limits small from.0 right of table (ap (has_vectors table) (sym from.2) ∙ kept.1))))
 
-  pub vectors_apart : EachPair (λ (v w : FieldVector). v.field ≢ w.field) (map (vector_in table) (filter (has_vectors table) named))
+  pub vectors_apart : EachPair (λ (v w : (FieldVector ℕ)). v.field ≢ w.field) (map (vector_in table) (filter (has_vectors table) named))
   vectors_apart =
-      pair_map (λ (v w : FieldVector). v.field ≢ w.field) (vector_in table) (filter (has_vectors table) named)
-      (pair_filter (λ (v w : NamedVector). field_number v.field table ≢ field_number w.field table) (has_vectors table) named
-      (pair_map (λ (v w : NamedVector). field_number v.field table ≢ field_number w.field table) vector_of (filter has_vector_of doc.indexed)
+      pair_map (λ (v w : (FieldVector ℕ)). v.field ≢ w.field) (vector_in table) (filter (has_vectors table) named)
+      (pair_filter (λ (v w : (FieldVector (List ℕ))). field_number v.field table ≢ field_number w.field table) (has_vectors table) named
+      (pair_map (λ (v w : (FieldVector (List ℕ))). field_number v.field table ≢ field_number w.field table) vector_of (filter has_vector_of doc.indexed)
       (pair_filter (λ (f g : IndexedField). field_number f.field table ≢ field_number g.field table) has_vector_of doc.indexed
       (pair_weaker (λ (f g : IndexedField). field_number f.field table ≢ field_number g.field table) (λ (f g : IndexedField). f.field ≢ g.field) doc.indexed
       (λ f g p q differ same. differ (sym (name_at-Has table (indexed_field f) (HasFields-indexed table doc fields f p)) ∙ ap (name_of table) same ∙ name_at-Has table (indexed_field g) (HasFields-indexed table doc fields g q)))

@@ -14,11 +14,11 @@ use Rattle.lu_types.specs.declared.document.Document.{Document}
 use Rattle.lu_types.specs.declared.document.IndexedField.{IndexedField}
 use Rattle.lu_types.specs.declared.document.Limits.{Limits}
 use Rattle.lu_types.specs.declared.document.Token.{Token}
+use Rattle.lu_types.specs.declared.stored.Stored.TheVariants.{Text}
 use Rattle.lu_types.specs.declared.stored.StoredValue.{StoredValue}
 use Rattle.lu_model.specs.Index.{Term, Occurrences, Entry, IndexedTerm, VectorTerm, FieldVector, Index}
-use Rattle.lu_model.specs.Contents.{field_number, bits_of, tokens_with, NamedVector, under}
-use Rattle.lu_model.specs.Merging.{live_from, merge_of, left_of}
-use Rattle.lu_model.specs.Valid.{IsSmall, IsStorable, IsText, IsShort, IsValid}
+use Rattle.lu_model.specs.Contents.{Content, MISSING_NORM, bits_of, field_number, has_norms, kept, left_of, live_from, merge_of, name_of, tokens_with, under}
+use Rattle.lu_model.specs.Valid.{IsSmall, IsStorable, IsValid}
 
 -- ---- items of lists
 
@@ -64,19 +64,40 @@ IsClear table = (field : TableField) → IsIn field table → field.bits < 128
 abbrev pub value_in : List TableField → StoredValue → StoredField
 value_in table value = record { field = field_number value.field table; tokenized = value.tokenized; value = value.value }
 
-abbrev pub vector_in : List TableField → NamedVector → FieldVector
+abbrev pub vector_in : List TableField → (FieldVector (List ℕ)) → (FieldVector ℕ)
 vector_in table vector = record { field = field_number vector.field table; bits = vector.bits; terms = vector.terms }
+
+-- the entry of a numbered document under a term, if the term stands in it
+abbrev pub entry_of : List TableField → Term → ℕ × Content → Option Entry
+entry_of table term numbered =
+    option_map (λ o. record { document = numbered.0; occurrences = kept (bits_of term.field table) o }) (numbered.1.occurrences term)
+
+-- the norms of a field, one for each document, if the field has norms
+abbrev pub norms_in : List Content → TableField → Option (List ℕ)
+norms_in contents field =
+    cond (has_norms field.bits) (Some (map (λ content. unwrap_or (content.norm field.name) MISSING_NORM) contents)) None
 
 -- a stored value of a table with so many fields
 abbrev pub IsValue : ℕ → StoredField → Type 0
 IsValue fields value = (value.field < fields) × IsStorable value.value
 
+-- a stored value and a vector, the field by name
+abbrev pub stored_by_name : List TableField → StoredField → StoredValue
+stored_by_name table value = record { field = name_of table value.field; tokenized = value.tokenized; value = value.value }
+
+abbrev pub vector_by_name : List TableField → FieldVector ℕ → FieldVector (List ℕ)
+vector_by_name table vector = record { field = name_of table vector.field; bits = vector.bits; terms = vector.terms }
+
+-- a text of a small length
+abbrev pub IsText : List ℕ → Type 0
+IsText text = IsStorable (Text text)
+
 -- the field of the vector has vectors
-abbrev pub has_vectors : List TableField → NamedVector → Bool
+abbrev pub has_vectors : List TableField → (FieldVector (List ℕ)) → Bool
 has_vectors table vector = has_bit VECTORS (bits_of vector.field table)
 
 -- vectors of two fields
-abbrev pub Apart : FieldVector → FieldVector → Type 0
+abbrev pub Apart : (FieldVector ℕ) → (FieldVector ℕ) → Type 0
 Apart v w = v.field ≢ w.field
 
 -- the terms of a field
@@ -134,6 +155,12 @@ source_index source = record (under source.0 source.1) { deleted = source.2 }
 -- the documents that are not deleted
 abbrev pub left_docs : Source → List Document
 left_docs source = left_of source.2 source.1
+
+-- a document with few stored values and fields, and short values
+pub record IsShort (doc : Document) : Type 0 where
+  pub stored : IsSmall (length doc.stored)
+  pub fields : IsSmall (length doc.indexed)
+  pub values : Each (λ value. IsStorable value.value) doc.stored
 
 -- documents that can be written under the table: it covers them, none has a fault, and they, their terms and what they hold are few
 pub record CanBeWritten (table : List TableField) (docs : List Document) (limits : Limits) : Type 0 where

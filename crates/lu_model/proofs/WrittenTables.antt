@@ -10,8 +10,8 @@ use Rattle.lu_types.specs.declared.document.Document.{Document}
 use Rattle.lu_types.specs.declared.document.Limits.{Limits}
 use Rattle.lu_types.specs.declared.stored.StoredValue.{StoredValue}
 use Rattle.lu_types.specs.declared.validation.TheConstants.{MOST_BYTES}
-use Rattle.lu_model.specs.Valid.{IsSmall, IsText}
-use Rattle.lu_model.proofs.Words.{Each, IsIn}
+use Rattle.lu_model.specs.Valid.{IsSmall}
+use Rattle.lu_model.proofs.Words.{Each, IsIn, IsText}
 use Rattle.lu_model.proofs.Among.{from_flat_map, from_map, in_either}
 use Rattle.lu_model.proofs.Covering.{clear-fields_of, clear-join}
 use Rattle.lu_model.proofs.Each.{all-from_each, each-from_all, each_at, each_in, pairs-from_each}

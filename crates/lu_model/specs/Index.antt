@@ -59,9 +59,10 @@ pub record VectorTerm : Type 0 where
   pub positions : List ℕ
   pub spans : List Span
 
--- the vector of a document for a field: the field's number, whether positions (01) and offsets (02) are kept, and its terms
-pub record FieldVector : Type 0 where
-  pub field : ℕ
+-- the vector of a document for a field, given by its number or by its name: whether positions (01) and offsets (02) are kept, and
+-- its terms
+pub record FieldVector (F : Type 0) : Type 0 where
+  pub field : F
   pub bits : ℕ
   pub terms : List VectorTerm
 
@@ -73,5 +74,5 @@ pub record Index : Type 0 where
   pub stored : List (List StoredField)
   pub terms : List IndexedTerm
   pub norms : List (Option (List ℕ))
-  pub vectors : List (List FieldVector)
+  pub vectors : List (List (FieldVector ℕ))
   pub deleted : List ℕ

@@ -1,4 +1,3 @@
 pub mod Index
 pub mod Contents
-pub mod Merging
 pub mod Valid

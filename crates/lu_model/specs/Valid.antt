@@ -7,38 +7,28 @@ use Rattle.std.specs.Str.{IsUtf8}
 use Rattle.lu_grammar.specs.Bytes.{IsBytes}
 use Rattle.lu_prims.specs.Order.{text_cmp}
 use Rattle.lu_types.specs.Bits.{has_bit}
-use Rattle.lu_types.specs.StoredFields.{StoredField}
 use Rattle.lu_types.specs.Tables.{TableField, IsTable}
 use Rattle.lu_types.specs.declared.bits.TheConstants.{INDEXED, VECTORS, PAYLOADS, OMIT_TF}
-use Rattle.lu_types.specs.declared.document.Document.{Document}
 use Rattle.lu_types.specs.declared.stored.Stored.{Stored}
 use Rattle.lu_types.specs.declared.stored.Stored.TheVariants.{Text, Binary}
 use Rattle.lu_model.specs.Index.{term_cmp, Occurrence, Occurrences, given, omitted, IndexedTerm, VectorTerm, FieldVector, Index}
-use Rattle.lu_model.specs.Contents.{field_at, has_norms}
-use Rattle.lu_model.specs.Merging.{term_of}
+use Rattle.lu_model.specs.Contents.{field_at, has_norms, term_of}
 
 -- below 2^31: a count, a length, a position or an offset
 abbrev pub IsSmall : ℕ → Type 0
 IsSmall n = n < 2 ^ 31
 
--- a text, and bytes, of a small length
-abbrev pub IsText : List ℕ → Type 0
-IsText text = IsUtf8 text × IsSmall (length text)
-
-abbrev pub AreBytes : List ℕ → Type 0
-AreBytes bytes = IsBytes bytes × IsSmall (length bytes)
-
--- a value that can be stored
+-- a text or bytes of a length that files can hold
 abbrev pub IsStorable : Stored → Type 0
-IsStorable (Text text) = IsText text
-IsStorable (Binary bytes) = AreBytes bytes
+IsStorable (Text text) = IsUtf8 text × IsSmall (length text)
+IsStorable (Binary bytes) = IsBytes bytes × IsSmall (length bytes)
 
 -- occurrences in a field with these bits: at least one, positions do not fall, and payloads only where the field has them
 pub record AreOccurrences (bits : ℕ) (occurrences : List Occurrence) : Type 0 where
   pub some : 0 < length occurrences
   pub few : IsSmall (length occurrences)
   pub rise : IsNonDecreasing (map (λ o. o.position) occurrences)
-  pub small : Each (λ o. IsSmall o.position × AreBytes o.payload) occurrences
+  pub small : Each (λ o. IsSmall o.position × IsStorable (Binary o.payload)) occurrences
   pub payloads : has_bit PAYLOADS bits ≡ false → Each (λ o. o.payload ≡ []) occurrences
 
 -- what a field with these bits keeps of a term in a document: occurrences are omitted exactly where the field omits them
@@ -49,7 +39,7 @@ IsKept bits omitted = has_bit OMIT_TF bits ≡ true
 -- a term of an index with so many documents, in a field with these bits: it has an entry, and its documents rise
 pub record IsIndexedTerm (size bits : ℕ) (term : IndexedTerm) : Type 0 where
   pub indexed : has_bit INDEXED bits ≡ true
-  pub text : IsText term.text
+  pub text : IsStorable (Text term.text)
   pub some : 0 < length term.entries
   pub rise : IsStrictlySortedBy nat_cmp (map (λ entry. entry.document) term.entries)
   pub entries : Each (λ entry. (entry.document < size) × IsKept bits entry.occurrences) term.entries
@@ -60,7 +50,7 @@ AreAsMany bit bits count values = (has_bit bit bits ≡ true → length values �
 
 -- a term of a vector with these bits
 pub record IsVectorTerm (bits : ℕ) (term : VectorTerm) : Type 0 where
-  pub text : IsText term.text
+  pub text : IsStorable (Text term.text)
   pub some : 0 < term.frequency
   pub few : IsSmall term.frequency
   pub positions : AreAsMany 1 bits term.frequency term.positions
@@ -70,7 +60,7 @@ pub record IsVectorTerm (bits : ℕ) (term : VectorTerm) : Type 0 where
   pub within : Each (λ span. (span.start ≤ span.end) × IsSmall span.end) term.spans
 
 -- a vector of a document
-pub record IsVector (fields : List TableField) (vector : FieldVector) : Type 0 where
+pub record IsVector (fields : List TableField) (vector : FieldVector ℕ) : Type 0 where
   pub field : has_bit VECTORS (field_at vector.field fields).bits ≡ true
   pub bits : vector.bits < 4
   pub few : IsSmall (length vector.terms)
@@ -86,7 +76,7 @@ AreNorms size field (Some norms) = (has_norms field.bits ≡ true) × (length no
 pub record IsValid (index : Index) : Type 0 where
   pub small : IsSmall index.size
   pub fields : IsTable index.fields
-  pub names : Each (λ field. IsText field.name) index.fields
+  pub names : Each (λ field. IsStorable (Text field.name)) index.fields
   pub stored : length index.stored ≡ index.size
   pub few_values : Each (λ values. IsSmall (length values)) index.stored
   pub values : Each (Each (λ value. (value.field < length index.fields) × IsStorable value.value)) index.stored
@@ -100,9 +90,3 @@ pub record IsValid (index : Index) : Type 0 where
   pub vector_fields : Each (Each (IsVector index.fields)) index.vectors
   pub deleted : IsStrictlySortedBy nat_cmp index.deleted
   pub deleted_below : Each (λ document. document < index.size) index.deleted
-
--- a document with few stored values and fields, and short values
-pub record IsShort (doc : Document) : Type 0 where
-  pub stored : IsSmall (length doc.stored)
-  pub fields : IsSmall (length doc.indexed)
-  pub values : Each (λ value. IsStorable value.value) doc.stored

@@ -1,9 +1,7 @@
 //! The laws of indexes: each stands on a function that does nothing (format page, "Indexes").
 ghost use Rattle.std.specs.List.Sorted.{IsStrictlySortedBy};
-ghost use Rattle.std.specs.List.{AllByRecursion as Each};
-ghost use Rattle.std.specs.Prelude.{
-    ◌≡◌, ℕ, ◌+◌, ◌<◌, ◌≤◌, ◌↔◌, not, cond, List, [], length, map, filter, flat_map, slice_index_or, unwrap_or, All, Contains, Some, None,
-};
+ghost use Rattle.std.specs.List.{AllByRecursion as Each, enumerate_from};
+ghost use Rattle.std.specs.Prelude.{◌≡◌, ℕ, ◌+◌, ◌<◌, ◌≤◌, ◌↔◌, not, cond, List, [], length, map, filter, flat_map, slice_index_or, unwrap_or, All, Contains, Some, None};
 ghost use Rattle.std.specs.Str.{IsUtf8};
 ghost use Rattle.lu_types.specs.DocFaults.{doc_fault, IsSound};
 ghost use Rattle.lu_types.specs.Documents.{IsDocument};
@@ -11,14 +9,10 @@ ghost use Rattle.lu_types.specs.Joins.{Covers, fields_of, is_empty, join_all, ta
 ghost use Rattle.lu_types.specs.Tables.{TableField, IsTable};
 ghost use Rattle.lu_types.specs.declared.document.Document.{Document};
 ghost use Rattle.lu_types.specs.declared.document.Limits.{Limits};
-ghost use Rattle.lu_model.specs.Contents.{
-    AreTerms, Content, MISSING_NORM, content_of, has_norms, index_of_documents, runs, stored_in, under, vectors_in,
-};
-ghost use Rattle.lu_model.specs.Index.{Entry, Index, Term, in_order, term_cmp};
-ghost use Rattle.lu_model.specs.Merging.{
-    joined_table, left_of, live, live_contents, merge_of, merged_term, norm_at, stored_by_name, term_of, vector_by_name, without_term,
-};
-ghost use Rattle.lu_model.specs.Valid.{IsShort, IsSmall, IsText, IsValid};
+ghost use Rattle.lu_types.specs.declared.stored.Stored.TheVariants.{Text};
+ghost use Rattle.lu_model.specs.Contents.{AreTerms, Content, MISSING_NORM, content_at, content_of, has_norms, index_of_documents, joined_table, left_of, live, live_contents, merge_of, merged_term, runs, stored_in, term_of, under, vectors_in, without_term};
+ghost use Rattle.lu_model.specs.Index.{Index, Term, in_order, term_cmp};
+ghost use Rattle.lu_model.specs.Valid.{IsSmall, IsStorable, IsValid};
 
 /// Terms in order rise and are exactly the given terms; and no other list does and is.
 pub fn terms_in_order()
@@ -61,12 +55,12 @@ pub fn merged_documents()
 /// the terms of all, in order, that have an entry, each with the entries of the sources in turn, numbered on.
 pub fn merged_by_source()
     ensures size { (indexes : List Index) → (merge_of indexes).size ≡ length (flat_map live indexes) }
-    ensures stored { (indexes : List Index) → (merge_of indexes).stored ≡ flat_map (λ index. map (λ document.
-        stored_in (joined_table indexes) (map (stored_by_name index.fields) (slice_index_or index.stored document []))) (live index)) indexes }
-    ensures vectors { (indexes : List Index) → (merge_of indexes).vectors ≡ flat_map (λ index. map (λ document.
-        vectors_in (joined_table indexes) (map (vector_by_name index.fields) (slice_index_or index.vectors document []))) (live index)) indexes }
-    ensures norms { (indexes : List Index) → (merge_of indexes).norms ≡ map (λ field. cond (has_norms field.bits)
-        (Some (flat_map (λ index. map (λ document. unwrap_or (norm_at index document field.name) MISSING_NORM) (live index)) indexes)) None)
+    ensures stored { (indexes : List Index) → (merge_of indexes).stored
+        ≡ flat_map (λ index. map (λ document. stored_in (joined_table indexes) (content_at index document).stored) (live index)) indexes }
+    ensures vectors { (indexes : List Index) → (merge_of indexes).vectors
+        ≡ flat_map (λ index. map (λ document. vectors_in (joined_table indexes) (content_at index document).vectors) (live index)) indexes }
+    ensures norms { (indexes : List Index) → (merge_of indexes).norms ≡ map (λ field. cond (has_norms field.bits) (Some
+        (flat_map (λ index. map (λ document. unwrap_or ((content_at index document).norm field.name) MISSING_NORM) (live index)) indexes)) None)
         (joined_table indexes) }
     ensures terms { (indexes : List Index) → All IsValid indexes → (merge_of indexes).terms
         ≡ filter (λ term. not (is_empty term.entries)) (map (merged_term indexes)
@@ -78,14 +72,19 @@ pub fn sound_documents()
     ensures { (doc : Document) (limits : Limits) → (doc_fault doc limits ≡ None) ↔ IsSound doc limits }
 {}
 
-/// The index of documents without a fault is one that files can stand for, where they, their fields and their terms are few.
+/// The index of documents without a fault is one that files can stand for, where they, what they hold, their fields and their terms
+/// are few; and so is their index under any table that covers them.
 pub fn written_documents()
-    ensures index { (docs : List Document) (limits : Limits) → IsSmall limits.tokens → All IsDocument docs → All IsShort docs
-        → All (λ doc. doc_fault doc limits ≡ None) docs → IsSmall (length docs) → IsSmall (length (table_of docs))
-        → IsSmall (length (index_of_documents docs).terms) → IsValid (index_of_documents docs) }
-    ensures under { (table : List TableField) (docs : List Document) (limits : Limits) → IsTable table → Each (λ field. IsText field.name) table
-        → Covers table docs → IsSmall limits.tokens → All IsDocument docs → All IsShort docs → All (λ doc. doc_fault doc limits ≡ None) docs
-        → IsSmall (length docs) → IsSmall (length (under table docs).terms) → IsValid (under table docs) }
+    ensures index { (docs : List Document) (limits : Limits) → IsSmall limits.tokens → All IsDocument docs
+        → All (λ doc. doc_fault doc limits ≡ None) docs
+        → All (λ doc. IsSmall (length doc.stored) × IsSmall (length doc.indexed) × Each (λ value. IsStorable value.value) doc.stored) docs
+        → IsSmall (length docs) → IsSmall (length (table_of docs)) → IsSmall (length (index_of_documents docs).terms)
+        → IsValid (index_of_documents docs) }
+    ensures under { (table : List TableField) (docs : List Document) (limits : Limits) → IsSmall limits.tokens → All IsDocument docs
+        → All (λ doc. doc_fault doc limits ≡ None) docs
+        → All (λ doc. IsSmall (length doc.stored) × IsSmall (length doc.indexed) × Each (λ value. IsStorable value.value) doc.stored) docs
+        → IsSmall (length docs) → IsTable table → Each (λ field. IsStorable (Text field.name)) table → Covers table docs
+        → IsSmall (length (under table docs).terms) → IsValid (under table docs) }
 {}
 
 /// A merge of valid indexes is valid where its documents, fields and terms are few, and so is a valid index of which the documents

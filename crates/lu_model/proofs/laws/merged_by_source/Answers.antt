@@ -1,5 +1,4 @@
-use Rattle.lu_model.specs.Contents.{index_of, stored_in, vectors_in}
-use Rattle.lu_model.specs.Merging.{joined_table}
+use Rattle.lu_model.specs.Contents.{index_of, joined_table, stored_in, vectors_in}
 use Rattle.lu_model.specs.Valid.{IsValid}
 use Rattle.lu_model.proofs.Each.{each-from_all}
 use Rattle.lu_model.proofs.BySource.{norms-merge, over_live, size-merge, terms-merge}

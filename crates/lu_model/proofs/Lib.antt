@@ -27,3 +27,7 @@ pub mod BySource
 pub mod Runs
 pub mod SoundDocuments
 pub mod WrittenTables
+pub mod RowWords
+pub mod RowsBuilt
+pub mod RowsMerged
+pub mod RowsJudged

@@ -59,6 +59,11 @@ deleted_again : without_term (named f x) (without_term (named f x) second) ≡ w
 unfolding second index_of in_order join_field chars
 deleted_again = refl
 
+-- what was deleted stays deleted
+deleted_before : (without_term (named f x) (record second { deleted = 1 ∷ [] })).deleted ≡ 0 ∷ 1 ∷ []
+unfolding second index_of in_order join_field chars
+deleted_before = refl
+
 -- the merge: the document with `z` is left, and the fields stand as they come; `show` prints segment 0 1 0, field 0 01 "f",
 -- field 1 01 "g", doc 0 live, term 0 "z" 1, in 0 1 @0, norms 0 7c, norms 1 7c
 merged : Index

@@ -1,5 +1,5 @@
 -- Worked rows: runs, and the first faults of documents.
-use Rattle.std.proofs.Common.{◌≡◌, ℕ, ◌+◌, [], ◌∷◌, List, length, map, Some, None, true, false, refl, ap, sym, ◌∙◌}
+use Rattle.std.proofs.Common.{◌≡◌, ℕ, ◌+◌, [], ◌∷◌, List, length, map, Some, None, true, false, refl, ap, arith}
 use Rattle.std.specs.Prelude.{◌||◌, cond, nat_lt, Bool, Option}
 use Rattle.lu_types.specs.DocFaults.{doc_fault, fault_if, first_fault, field_fault, token_fault, tokens_fault}
 use Rattle.lu_types.specs.declared.document.DocFault.{DocFault}
@@ -22,7 +22,7 @@ runs_of_none = refl
 -- ---- faults
 
 abbrev limits : Limits
-limits = record { documents = 5; tokens = 2; file_bytes = 100 }
+limits = record { documents = 5; tokens = 2; file_bytes = 100; few_documents = omega arith; few_tokens = omega arith; few_bytes = omega arith }
 
 no_fault : doc_fault hello_world limits ≡ None
 no_fault = refl

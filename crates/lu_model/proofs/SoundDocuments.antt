@@ -14,7 +14,7 @@ use Rattle.lu_types.specs.declared.document.IndexedField.{IndexedField}
 use Rattle.lu_types.specs.declared.document.Limits.{Limits}
 use Rattle.lu_types.specs.declared.document.Token.{Token}
 use Rattle.lu_types.specs.declared.stored.StoredValue.{StoredValue}
-use Rattle.lu_types.specs.declared.validation.TheConstants.{MOST_BYTES, MOST_PLACE}
+use Rattle.lu_types.specs.Bounds.{most_bytes, most_place}
 use Rattle.lu_model.proofs.SoundTokens.{differs}
 
 -- where the first is none, and the first of the rest
@@ -33,10 +33,10 @@ neither a b p q = ap (λ v. v || b) p ∙ q
 
 token_none : (before : ℕ) (token : Token) → before ≤ token.position → IsSoundToken token → token_fault before token ≡ None
 token_none before token h s =
-    none_then _ _ (not_broken _ TextLong (not_above MOST_BYTES (length token.text) s.text))
-    (none_then _ _ (not_broken _ PositionOrder (neither _ _ (not_above MOST_PLACE token.position s.position) (not_above token.position before h)))
-    (none_then _ _ (not_broken _ OffsetOrder (neither _ _ (not_above token.end token.start s.start) (not_above MOST_PLACE token.end s.end)))
-    (none_then _ _ (not_broken _ PayloadLong (not_above MOST_BYTES (length token.payload) s.payload)) refl)))
+    none_then _ _ (not_broken _ TextLong (not_above most_bytes (length token.text) s.text))
+    (none_then _ _ (not_broken _ PositionOrder (neither _ _ (not_above most_place token.position s.position) (not_above token.position before h)))
+    (none_then _ _ (not_broken _ OffsetOrder (neither _ _ (not_above token.end token.start s.start) (not_above most_place token.end s.end)))
+    (none_then _ _ (not_broken _ PayloadLong (not_above most_bytes (length token.payload) s.payload)) refl)))
 
 tokens_none : (before : ℕ) (tokens : List Token) → AreSoundTokens before tokens → tokens_fault before tokens ≡ None
 tokens_none before [] h = refl
@@ -48,7 +48,7 @@ is_taken name fields = list_any (λ field. bytes_eq name field.field) fields
 
 field_none : (limits : Limits) (earlier : List IndexedField) (field : IndexedField) → IsSoundField limits field → is_taken field.field earlier ≡ false → field_fault limits earlier field ≡ None
 field_none limits earlier field s new =
-    none_then _ _ (not_broken _ NameLong (not_above MOST_BYTES (length field.field) s.name))
+    none_then _ _ (not_broken _ NameLong (not_above most_bytes (length field.field) s.name))
     (none_then _ _ (not_broken _ FieldTwice new)
     (none_then _ _ (not_broken _ TokensMany (not_above limits.tokens (length field.tokens) s.few))
     (none_then _ _ (tokens_none 0 field.tokens s.tokens) refl)))
@@ -75,9 +75,9 @@ fields_none limits earlier (f ∷ fields) s apart new =
     none_then _ _ (field_none limits earlier f s.0 new.0)
     (none_then _ _ (fields_none limits (earlier ++ f ∷ []) fields s.1 apart.1 (still_new earlier f fields new.1 apart.0)) refl)
 
-values_none : (values : List StoredValue) → AllByRecursion (λ (value : StoredValue). length value.field ≤ MOST_BYTES) values → values_fault values ≡ None
+values_none : (values : List StoredValue) → AllByRecursion (λ (value : StoredValue). length value.field ≤ most_bytes) values → values_fault values ≡ None
 values_none [] h = refl
-values_none (v ∷ values) h = none_then _ _ (not_broken _ NameLong (not_above MOST_BYTES (length v.field) h.0)) (values_none values h.1)
+values_none (v ∷ values) h = none_then _ _ (not_broken _ NameLong (not_above most_bytes (length v.field) h.0)) (values_none values h.1)
 
 all_new : (fields : List IndexedField) → AreNew [] fields
 all_new [] = tt

@@ -54,6 +54,9 @@ norm_byte (f ∷ fields) name h =
     ]
 
 module _ (table : List TableField) (docs : List Document) (limits : Limits) (ok : CanBeWritten table docs limits) where
+  tokens : IsSmall limits.tokens
+  tokens = let few = limits.few_tokens in omega (arith, few)
+
   fields : (doc : Document) → IsIn doc docs → HasFields table doc
   fields = covered table docs ok.covers
 
@@ -95,14 +98,14 @@ module _ (table : List TableField) (docs : List Document) (limits : Limits) (ok 
       let d = of_document table docs fields texts t h in
       let s = stands_in d.0 t d.2 in
       let says = subst (λ name. Says (bits_of name table) (asked_bits s.field.vector (is_some s.field.norm) s.field.omit_tf (has_payloads s.field))) (sym s.name) (Says-indexed table s.field (HasFields-indexed table d.0 (fields d.0 d.1) s.field s.inside)) in
-      let right = sound_field table d.0 limits ok.tokens (fields d.0 d.1) (sound d.0 d.1) (ok.documents d.0 d.1) s.field s.inside in
-      let made = made_field table d.0 limits ok.tokens (fields d.0 d.1) (sound d.0 d.1) (ok.documents d.0 d.1) s.field s.inside in
+      let right = sound_field table d.0 limits tokens (fields d.0 d.1) (sound d.0 d.1) (ok.documents d.0 d.1) s.field s.inside in
+      let made = made_field table d.0 limits tokens (fields d.0 d.1) (sound d.0 d.1) (ok.documents d.0 d.1) s.field s.inside in
       let token = each_at IsSoundToken s.token s.field.tokens (each_sound 0 s.field.tokens right.tokens) s.in_tokens in
       let entries = (indexed_term table contents t).entries in
       let room : 0 + length contents ≤ length contents = omega arith in
       let within = entries_within table t (length contents) 0 contents room (λ c o k e.
       let d = from_map content_of c docs k in
-      is_kept table d.0 limits ok.tokens (fields d.0 d.1) (sound d.0 d.1) (ok.documents d.0 d.1) t o (ap (λ (w : Content). w.occurrences t) (sym d.2) ∙ e)) in
+      is_kept table d.0 limits tokens (fields d.0 d.1) (sound d.0 d.1) (ok.documents d.0 d.1) t o (ap (λ (w : Content). w.occurrences t) (sym d.2) ∙ e)) in
       record {
         indexed = says.indexed;
         text = subst IsText (sym s.text) ((each_at IsToken s.token s.field.tokens (each-from_all IsToken s.field.tokens made.tokens) s.in_tokens).text, small_bytes (length s.token.text) token.text);
@@ -147,9 +150,9 @@ module _ (table : List TableField) (docs : List Document) (limits : Limits) (ok 
         terms = each_map (λ (term : IndexedTerm). IsIndexedTerm (length contents) (field_at term.field table).bits term) (indexed_term table contents) keys (each_in (λ t. IsIndexedTerm (length contents) (bits_of t.field table) (indexed_term table contents t)) keys term_is);
         norms = norms_are table;
         vectors = length-map contents vectors;
-        few_vectors = each_map (λ vs. IsSmall (length vs)) vectors contents (each_content (λ c. IsSmall (length (vectors c))) (λ doc h. vectors_few table doc limits ok.tokens (fields doc h) (sound doc h) (ok.documents doc h) (ok.short doc h).fields));
-        apart = each_map (AllPairs Apart) vectors contents (each_content (λ c. AllPairs Apart (vectors c)) (λ doc h. pairs-from_each Apart (vectors (content_of doc)) (vectors_apart table doc limits ok.tokens (fields doc h) (sound doc h) (ok.documents doc h))));
-        vector_fields = each_map (λ vs. Each (IsVector table) vs) vectors contents (each_content (λ c. Each (IsVector table) (vectors c)) (λ doc h. vectors_are table doc limits ok.tokens (fields doc h) (sound doc h) (ok.documents doc h)));
+        few_vectors = each_map (λ vs. IsSmall (length vs)) vectors contents (each_content (λ c. IsSmall (length (vectors c))) (λ doc h. vectors_few table doc limits tokens (fields doc h) (sound doc h) (ok.documents doc h) (ok.short doc h).fields));
+        apart = each_map (AllPairs Apart) vectors contents (each_content (λ c. AllPairs Apart (vectors c)) (λ doc h. pairs-from_each Apart (vectors (content_of doc)) (vectors_apart table doc limits tokens (fields doc h) (sound doc h) (ok.documents doc h))));
+        vector_fields = each_map (λ vs. Each (IsVector table) vs) vectors contents (each_content (λ c. Each (IsVector table) (vectors c)) (λ doc h. vectors_are table doc limits tokens (fields doc h) (sound doc h) (ok.documents doc h)));
         deleted = tt;
         deleted_below = tt;
       }

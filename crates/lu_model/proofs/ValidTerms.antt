@@ -16,7 +16,7 @@ use Rattle.lu_types.specs.declared.document.Document.{Document}
 use Rattle.lu_types.specs.declared.document.IndexedField.{IndexedField}
 use Rattle.lu_types.specs.declared.document.Token.{Token}
 use Rattle.lu_types.specs.declared.document.Limits.{Limits}
-use Rattle.lu_types.specs.declared.validation.TheConstants.{MOST_BYTES, MOST_PLACE}
+use Rattle.lu_types.specs.Bounds.{most_bytes, most_place}
 use Rattle.lu_types.specs.Documents.{IsDocument, IsIndexedField, IsToken}
 use Rattle.lu_types.specs.DocFaults.{IsSoundToken, IsSoundField, IsSound}
 use Rattle.lu_types.specs.Joins.{has_payloads, asked_bits}
@@ -33,10 +33,10 @@ use Rattle.lu_model.proofs.Among.{from_filter}
 use Rattle.lu_model.proofs.SoundTokens.{each_sound, do_not_fall, one_field, no_payload}
 
 -- below 2^31
-pub small_bytes : (n : ℕ) → n ≤ MOST_BYTES → IsSmall n
+pub small_bytes : (n : ℕ) → n ≤ most_bytes → IsSmall n
 small_bytes n h = omega arith
 
-pub small_place : (n : ℕ) → n ≤ MOST_PLACE → IsSmall n
+pub small_place : (n : ℕ) → n ≤ most_place → IsSmall n
 small_place n h = omega arith
 
 turned_false : (a b : Bool) → (b ≡ true → a ≡ true) → a ≡ false → b ≡ false

@@ -164,7 +164,6 @@ pub record IsShort (doc : Document) : Type 0 where
 
 -- documents that can be written under the table: it covers them, none has a fault, and they, their terms and what they hold are few
 pub record CanBeWritten (table : List TableField) (docs : List Document) (limits : Limits) : Type 0 where
-  pub tokens : IsSmall limits.tokens
   pub fields : IsTable table
   pub names : Each (λ field. IsText field.name) table
   pub covers : Covers table docs

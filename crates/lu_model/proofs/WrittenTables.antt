@@ -9,7 +9,7 @@ use Rattle.lu_types.specs.Tables.{IsTable, TableField}
 use Rattle.lu_types.specs.declared.document.Document.{Document}
 use Rattle.lu_types.specs.declared.document.Limits.{Limits}
 use Rattle.lu_types.specs.declared.stored.StoredValue.{StoredValue}
-use Rattle.lu_types.specs.declared.validation.TheConstants.{MOST_BYTES}
+use Rattle.lu_types.specs.Bounds.{most_bytes}
 use Rattle.lu_model.specs.Valid.{IsSmall}
 use Rattle.lu_model.proofs.Words.{Each, IsIn, IsText}
 use Rattle.lu_model.proofs.Among.{from_flat_map, from_map, in_either}
@@ -38,7 +38,7 @@ table_of-names docs limits made faultless = names-join IsText [] (flat_map field
           let v = from_map stored_field f d.0.stored k in
           subst (λ (g : TableField). IsText g.name) (sym v.2) (
             (each_at IsStoredValue v.0 d.0.stored (each-from_all IsStoredValue d.0.stored whole.stored) v.1).name,
-            small_bytes (length v.0.field) (each_at (λ (value : StoredValue). length value.field ≤ MOST_BYTES) v.0 d.0.stored sound.stored v.1),
+            small_bytes (length v.0.field) (each_at (λ (value : StoredValue). length value.field ≤ most_bytes) v.0 d.0.stored sound.stored v.1),
           )
       | inr k ↦
           let v = from_map indexed_field f d.0.indexed k in

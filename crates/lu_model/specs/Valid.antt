@@ -3,10 +3,10 @@ use Rattle.std.specs.Prelude.{◌≡◌, ◌≢◌, ◌<◌, ◌≤◌, ◌^◌,
 use Rattle.std.specs.List.{AllByRecursion as Each, AllZip}
 use Rattle.std.specs.List.Sorted.{IsStrictlySortedBy, IsNonDecreasing}
 use Rattle.std.specs.Ordering.{nat_cmp}
-use Rattle.std.specs.Str.{IsUtf8}
 use Rattle.lu_grammar.specs.Bytes.{IsBytes}
 use Rattle.lu_prims.specs.Order.{text_cmp}
 use Rattle.lu_types.specs.Bits.{has_bit}
+use Rattle.lu_types.specs.Documents.{IsStored, content_of}
 use Rattle.lu_types.specs.Tables.{TableField, IsTable}
 use Rattle.lu_types.specs.declared.bits.TheConstants.{INDEXED, VECTORS, PAYLOADS, OMIT_TF}
 use Rattle.lu_types.specs.declared.stored.Stored.{Stored}
@@ -20,8 +20,7 @@ IsSmall n = n < 2 ^ 31
 
 -- a text or bytes of a length that files can hold
 abbrev pub IsStorable : Stored → Type 0
-IsStorable (Text text) = IsUtf8 text × IsSmall (length text)
-IsStorable (Binary bytes) = IsBytes bytes × IsSmall (length bytes)
+IsStorable value = IsStored value × IsSmall (length (content_of value))
 
 -- occurrences in a field with these bits: at least one, positions do not fall, and payloads only where the field has them
 pub record AreOccurrences (bits : ℕ) (occurrences : List Occurrence) : Type 0 where

@@ -75,12 +75,12 @@ pub fn sound_documents()
 /// The index of documents without a fault is one that files can stand for, where they, what they hold, their fields and their terms
 /// are few; and so is their index under any table that covers them.
 pub fn written_documents()
-    ensures index { (docs : List Document) (limits : Limits) → IsSmall limits.tokens → All IsDocument docs
+    ensures index { (docs : List Document) (limits : Limits) → All IsDocument docs
         → All (λ doc. doc_fault doc limits ≡ None) docs
         → All (λ doc. IsSmall (length doc.stored) × IsSmall (length doc.indexed) × Each (λ value. IsStorable value.value) doc.stored) docs
         → IsSmall (length docs) → IsSmall (length (table_of docs)) → IsSmall (length (index_of_documents docs).terms)
         → IsValid (index_of_documents docs) }
-    ensures under { (table : List TableField) (docs : List Document) (limits : Limits) → IsSmall limits.tokens → All IsDocument docs
+    ensures under { (table : List TableField) (docs : List Document) (limits : Limits) → All IsDocument docs
         → All (λ doc. doc_fault doc limits ≡ None) docs
         → All (λ doc. IsSmall (length doc.stored) × IsSmall (length doc.indexed) × Each (λ value. IsStorable value.value) doc.stored) docs
         → IsSmall (length docs) → IsTable table → Each (λ field. IsStorable (Text field.name)) table → Covers table docs

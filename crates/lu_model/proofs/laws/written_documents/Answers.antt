@@ -24,8 +24,7 @@ is_short : (docs : List Document) → All HasFew docs → (doc : Document) → I
 is_short docs h doc k = let few = of_each HasFew docs h doc k in record { stored = few.0; fields = few.1; values = few.2 }
 
 pub returns-clause-index : goal.returns-clause-index
-returns-clause-index c = λ docs limits tokens made faultless short few few_fields few_terms. is_valid (table_of docs) docs limits (record {
-  tokens = tokens;
+returns-clause-index c = λ docs limits made faultless short few few_fields few_terms. is_valid (table_of docs) docs limits (record {
   fields = table_of-is_table docs few_fields;
   names = table_of-names docs limits (of_each IsDocument docs made) (of_each (λ doc. doc_fault doc limits ≡ None) docs faultless);
   covers = table_of-covers docs;
@@ -37,8 +36,7 @@ returns-clause-index c = λ docs limits tokens made faultless short few few_fiel
 })
 
 pub returns-clause-under : goal.returns-clause-under
-returns-clause-under c = λ table docs limits tokens made faultless short few fields names covers few_terms. is_valid table docs limits (record {
-  tokens = tokens;
+returns-clause-under c = λ table docs limits made faultless short few fields names covers few_terms. is_valid table docs limits (record {
   fields = fields;
   names = names;
   covers = covers;

@@ -37,7 +37,7 @@ is_some-given : (tokens : List Token) → is_some (given_if_any tokens) ≡ not 
 is_some-given [] = refl
 is_some-given (t ∷ tokens) = refl
 
-both_true : (a b : Bool) → (a && b) ≡ true → (a ≡ true) × (b ≡ true)
+pub both_true : (a b : Bool) → (a && b) ≡ true → (a ≡ true) × (b ≡ true)
 both_true true b e = (refl, e)
 both_true false b e = absurd (true≢false (sym e))
 

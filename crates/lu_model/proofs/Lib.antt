@@ -17,11 +17,13 @@ pub mod ValidVectors
 pub mod ValidIndex
 pub mod Renumbered
 pub mod JoinedTables
+pub mod Found
 pub mod MergedParts
 pub mod ValidMerges
 pub mod MergedTerms
 pub mod Deletions
 pub mod IndexTerms
+pub mod Numbers
 pub mod Counts
 pub mod BySource
 pub mod Runs

@@ -20,7 +20,7 @@ use Rattle.lu_model.proofs.Among.{in_map, from_map, in_filter, from_filter, in_f
 use Rattle.lu_model.proofs.Asked.{vectors-asked}
 use Rattle.lu_model.proofs.Tables.{Has, name_at-Has}
 use Rattle.lu_model.proofs.Alike.{term_order, terms_level}
-use Rattle.lu_model.proofs.Held.{HasFields, HasFields-stored, HasFields-indexed, Says-indexed, stands_in, some-occurrences, occurrences-in_terms, no_norm}
+use Rattle.lu_model.proofs.Held.{both_true, HasFields, HasFields-stored, HasFields-indexed, Says-indexed, stands_in, some-occurrences, occurrences-in_terms, no_norm}
 use Rattle.lu_model.proofs.Entries.{get-map, slice_get-map, in_at, any-found, occurrences-entries, HasName, term_of-indexed, found-term, any-in}
 
 -- stored values by number and again by name
@@ -48,10 +48,6 @@ norms_at_number contents name (field ∷ table) =
       | true ↦ λ e. ap (λ m. cond (has_norms field.bits) (Some (map (λ content. unwrap_or (content.norm m) MISSING_NORM) contents)) None) (sym ((bytes_decides name field.name).0 e))
       | false ↦ λ e. ap (λ n. get_or (map (norms_in contents) (field ∷ table)) n None) (one-add (field_number name table)) ∙ norms_at_number contents name table ∙ ap (λ n. cond (has_norms (get_or (field ∷ table) n no_field).bits) (Some (map (λ content. unwrap_or (content.norm name) MISSING_NORM) contents)) None) (sym (one-add (field_number name table)))
     ] refl
-
-both_true : (a b : Bool) → (a && b) ≡ true → (a ≡ true) × (b ≡ true)
-both_true true b e = (refl, e)
-both_true false b e = absurd (true≢false (sym e))
 
 is_some-map : {X Y : Type 0} (f : X → Y) (o : Option X) → is_some (option_map f o) ≡ is_some o
 is_some-map f None = refl

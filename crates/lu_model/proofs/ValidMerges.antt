@@ -27,7 +27,8 @@ use Rattle.lu_model.proofs.Each.{each_in, each_at, each_map, pair_filter, pair_m
 use Rattle.lu_model.proofs.ValidTerms.{entries_within, entries_rise, some_entry}
 use Rattle.lu_model.proofs.ValidIndex.{number-lt, terms_again}
 use Rattle.lu_model.proofs.JoinedTables.{names-joins, apart-joins}
-use Rattle.lu_model.proofs.MergedParts.{get_in, bit_within, norm_bytes, valid, has_at, each_content, stored_is, has_name, term_is}
+use Rattle.lu_model.proofs.Found.{bit_within, get_in, norm_bytes}
+use Rattle.lu_model.proofs.MergedParts.{valid, has_at, each_content, stored_is, has_name, term_is}
 
 module _ (indexes : List Index) (ok : CanBeMerged indexes) where
   abbrev tables : List (List TableField)

@@ -26,7 +26,7 @@ use Rattle.lu_model.specs.Contents.{Content, bits_of, content_of, given_if_any, 
 use Rattle.lu_model.specs.Valid.{IsSmall, IsStorable, IsKept}
 use Rattle.lu_model.proofs.Words.{IsIn, Each, entry_of}
 use Rattle.lu_model.proofs.Asked.{payloads-asked, omit_tf-asked}
-use Rattle.lu_model.proofs.Bits.{Says}
+use Rattle.lu_model.proofs.Bits.{Says, turned_false}
 use Rattle.lu_model.proofs.Held.{HasFields, HasFields-indexed, Says-indexed, stands_in, occurrences-in_terms}
 use Rattle.lu_model.proofs.Each.{each_in, each_at, each_by_recursion, each_filter, each_map, pair_filter, pair_map, length_filter-le, each-from_all, non_decreasing}
 use Rattle.lu_model.proofs.Among.{from_filter}
@@ -38,10 +38,6 @@ small_bytes n h = omega arith
 
 pub small_place : (n : ℕ) → n ≤ most_place → IsSmall n
 small_place n h = omega arith
-
-turned_false : (a b : Bool) → (b ≡ true → a ≡ true) → a ≡ false → b ≡ false
-turned_false a true h e = sym (h refl) ∙ e
-turned_false a false h e = refl
 
 -- the occurrence of a token
 abbrev occurrence : Token → Occurrence

@@ -5,12 +5,12 @@ ghost use Rattle.std.specs.Prelude.{◌≡◌, ℕ, ◌+◌, ◌<◌, ◌≤◌,
 ghost use Rattle.std.specs.Str.{IsUtf8};
 ghost use Rattle.lu_types.specs.DocFaults.{doc_fault, IsSound};
 ghost use Rattle.lu_types.specs.Documents.{IsDocument};
-ghost use Rattle.lu_types.specs.Joins.{Covers, fields_of, is_empty, join_all, table_of};
-ghost use Rattle.lu_types.specs.Tables.{TableField, IsTable};
+ghost use Rattle.lu_types.specs.Joins.{Covers, fields_of, is_empty, join, join_all, table_of};
+ghost use Rattle.lu_types.specs.Tables.{TableField, IsTable, number_of};
 ghost use Rattle.lu_types.specs.declared.document.Document.{Document};
 ghost use Rattle.lu_types.specs.declared.document.Limits.{Limits};
 ghost use Rattle.lu_types.specs.declared.stored.Stored.TheVariants.{Text};
-ghost use Rattle.lu_model.specs.Contents.{AreTerms, Content, MISSING_NORM, content_at, content_of, has_norms, index_of_documents, joined_table, left_of, live, live_contents, merge_of, merged_term, runs, stored_in, term_of, under, vectors_in, without_term};
+ghost use Rattle.lu_model.specs.Contents.{AreTerms, Content, MISSING_NORM, content_at, content_of, field_number, has_norms, index_of_documents, joined_table, left_of, live, live_contents, merge_of, merged_term, runs, stored_in, term_of, under, vectors_in, without_term};
 ghost use Rattle.lu_model.specs.Index.{Index, Term, in_order, term_cmp};
 ghost use Rattle.lu_model.specs.Valid.{IsSmall, IsStorable, IsValid};
 
@@ -37,6 +37,13 @@ pub fn terms_have_entries()
 /// The table of documents covers them.
 pub fn table_covers()
     ensures { (docs : List Document) → Covers (table_of docs) docs }
+{}
+
+/// The number that a name has in a table is that of its field, and it stays when more fields are joined.
+pub fn numbers_stay()
+    ensures place { (name : List ℕ) (table : List TableField) (n : ℕ) → number_of name table ≡ Some n → field_number name table ≡ n }
+    ensures stays { (name : List ℕ) (table fields : List TableField) (n : ℕ) → number_of name table ≡ Some n
+        → number_of name (join table fields) ≡ Some n }
 {}
 
 /// A merge of indexes of documents, each under a table that covers them and with some deleted, is the index of the documents that

@@ -27,6 +27,7 @@ pub mod Numbers
 pub mod Counts
 pub mod BySource
 pub mod Runs
+pub mod Cursors
 pub mod SoundDocuments
 pub mod WrittenTables
 pub mod RowWords

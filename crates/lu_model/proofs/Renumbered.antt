@@ -29,7 +29,7 @@ below m n e = grind (arith, nat_tests)
 abbrev Rise : List Entry → Type 0
 Rise entries = EachPair (λ e f. e.document < f.document) entries
 
-rises : (entries : List Entry) → IsStrictlySortedBy nat_cmp (map (λ (e : Entry). e.document) entries) → Rise entries
+pub rises : (entries : List Entry) → IsStrictlySortedBy nat_cmp (map (λ (e : Entry). e.document) entries) → Rise entries
 unfolding IsStrictlySortedBy
 rises [] h = tt
 rises (e ∷ entries) h = (first entries h.0, rises entries h.1)

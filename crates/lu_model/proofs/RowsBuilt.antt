@@ -68,17 +68,17 @@ aa_twice = refl
 payloads : index_of_documents (
     found_by (bare f (loaded x 0 (0xAA ∷ 0xBB ∷ 0xCC ∷ []) ∷ []) ∷ [])
     ∷ found_by (bare f (loaded x 0 (0xDD ∷ 0xEE ∷ 0xFF ∷ []) ∷ loaded x 1 [] ∷ []) ∷ []) ∷ []) ≡ record {
-  size = 2;
-  fields = record { name = f; bits = 0x31 } ∷ [];
-  stored = [] ∷ [] ∷ [];
-  terms = term 0 x (
-      record { document = 0; occurrences = given (record { position = 0; payload = 0xAA ∷ 0xBB ∷ 0xCC ∷ [] } ∷ []) }
-      ∷ record { document = 1; occurrences = given (record { position = 0; payload = 0xDD ∷ 0xEE ∷ 0xFF ∷ [] } ∷ at 1 ∷ []) }
-      ∷ []) ∷ [];
-  norms = None ∷ [];
-  vectors = [] ∷ [] ∷ [];
-  deleted = [];
-}
+      size = 2;
+      fields = record { name = f; bits = 0x31 } ∷ [];
+      stored = [] ∷ [] ∷ [];
+      terms = term 0 x (
+          record { document = 0; occurrences = given (record { position = 0; payload = 0xAA ∷ 0xBB ∷ 0xCC ∷ [] } ∷ []) }
+          ∷ record { document = 1; occurrences = given (record { position = 0; payload = 0xDD ∷ 0xEE ∷ 0xFF ∷ [] } ∷ at 1 ∷ []) }
+          ∷ []) ∷ [];
+      norms = None ∷ [];
+      vectors = [] ∷ [] ∷ [];
+      deleted = [];
+    }
 unfolding index_of in_order join_field chars
 payloads = refl
 
@@ -86,14 +86,14 @@ payloads = refl
 omitted_in_all : index_of_documents (
     found_by (field f (x ∷ x ∷ []) ∷ [])
     ∷ found_by (record { field = f; norm = Some 9; omit_tf = true; vector = Off; tokens = token x 3 0 0 ∷ [] } ∷ []) ∷ []) ≡ record {
-  size = 2;
-  fields = record { name = f; bits = 0x41 } ∷ [];
-  stored = [] ∷ [] ∷ [];
-  terms = term 0 x (record { document = 0; occurrences = omitted } ∷ record { document = 1; occurrences = omitted } ∷ []) ∷ [];
-  norms = Some (124 ∷ 9 ∷ []) ∷ [];
-  vectors = [] ∷ [] ∷ [];
-  deleted = [];
-}
+      size = 2;
+      fields = record { name = f; bits = 0x41 } ∷ [];
+      stored = [] ∷ [] ∷ [];
+      terms = term 0 x (record { document = 0; occurrences = omitted } ∷ record { document = 1; occurrences = omitted } ∷ []) ∷ [];
+      norms = Some (124 ∷ 9 ∷ []) ∷ [];
+      vectors = [] ∷ [] ∷ [];
+      deleted = [];
+    }
 unfolding index_of in_order join_field chars
 omitted_in_all = refl
 

@@ -110,14 +110,14 @@ numbered_on = refl
 missing_norms : merge_of (
     index_of_documents (found_by (bare f (token y 0 0 0 ∷ []) ∷ []) ∷ [])
     ∷ index_of_documents (found_by (normed f 5 ∷ normed g 6 ∷ []) ∷ []) ∷ []) ≡ record {
-  size = 2;
-  fields = record { name = f; bits = 0x01 } ∷ record { name = g; bits = 0x01 } ∷ [];
-  stored = [] ∷ [] ∷ [];
-  terms = term 0 y (entry 0 (0 ∷ []) ∷ []) ∷ [];
-  norms = Some (124 ∷ 5 ∷ []) ∷ Some (124 ∷ 6 ∷ []) ∷ [];
-  vectors = [] ∷ [] ∷ [];
-  deleted = [];
-}
+      size = 2;
+      fields = record { name = f; bits = 0x01 } ∷ record { name = g; bits = 0x01 } ∷ [];
+      stored = [] ∷ [] ∷ [];
+      terms = term 0 y (entry 0 (0 ∷ []) ∷ []) ∷ [];
+      norms = Some (124 ∷ 5 ∷ []) ∷ Some (124 ∷ 6 ∷ []) ∷ [];
+      vectors = [] ∷ [] ∷ [];
+      deleted = [];
+    }
 unfolding index_of in_order join_field chars
 missing_norms = refl
 

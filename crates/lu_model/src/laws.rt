@@ -1,7 +1,8 @@
 //! The laws of indexes: each stands on a function that does nothing (format page, "Indexes").
 ghost use Rattle.std.specs.List.Sorted.{IsStrictlySortedBy};
 ghost use Rattle.std.specs.List.{AllByRecursion as Each, enumerate_from};
-ghost use Rattle.std.specs.Prelude.{◌≡◌, ℕ, ◌+◌, ◌<◌, ◌≤◌, ◌↔◌, not, cond, List, [], length, map, filter, flat_map, slice_index_or, unwrap_or, All, Contains, Some, None};
+ghost use Rattle.std.specs.Prelude.{◌≡◌, ℕ, ◌+◌, ◌<◌, ◌≤◌, ◌↔◌, not, ◌&&◌, cond, nat_le, List, [], ◌∷◌, length, map, filter, flat_map, slice_index_or, unwrap_or, All, Contains, Some, None};
+ghost use Rattle.std.specs.Ordering.{nat_cmp};
 ghost use Rattle.std.specs.Str.{IsUtf8};
 ghost use Rattle.lu_types.specs.DocFaults.{doc_fault, IsSound};
 ghost use Rattle.lu_types.specs.Documents.{IsDocument};
@@ -10,8 +11,8 @@ ghost use Rattle.lu_types.specs.Tables.{TableField, IsTable, number_of};
 ghost use Rattle.lu_types.specs.declared.document.Document.{Document};
 ghost use Rattle.lu_types.specs.declared.document.Limits.{Limits};
 ghost use Rattle.lu_types.specs.declared.stored.Stored.TheVariants.{Text};
-ghost use Rattle.lu_model.specs.Contents.{AreTerms, Content, MISSING_NORM, content_at, content_of, field_number, has_norms, index_of_documents, joined_table, left_of, live, live_contents, merge_of, merged_term, runs, stored_in, term_of, under, vectors_in, without_term};
-ghost use Rattle.lu_model.specs.Index.{Index, Term, in_order, term_cmp};
+ghost use Rattle.lu_model.specs.Contents.{AreTerms, Content, MISSING_NORM, after, content_at, content_of, field_number, has_norms, index_of_documents, is_deleted, joined_table, left_of, live, live_contents, merge_of, merged_term, runs, stored_in, term_of, under, vectors_in, without_term};
+ghost use Rattle.lu_model.specs.Index.{Entry, Index, Term, in_order, term_cmp};
 ghost use Rattle.lu_model.specs.Valid.{IsSmall, IsStorable, IsValid};
 
 /// Terms in order rise and are exactly the given terms; and no other list does and is.
@@ -100,6 +101,17 @@ pub fn valid_again()
     ensures merged { (indexes : List Index) → All IsValid indexes → IsSmall (merge_of indexes).size
         → IsSmall (length (joined_table indexes)) → IsSmall (length (merge_of indexes).terms) → IsValid (merge_of indexes) }
     ensures deleted { (term : Term) (index : Index) → IsValid index → IsValid (without_term term index) }
+{}
+
+/// A cursor goes to the first of the entries that are left for it, and those left behind that one are left then; where it goes
+/// nowhere none was left. So a cursor that goes on behind each document goes through all that are not deleted, in order.
+pub fn cursor_goes()
+    ensures some { (entries : List Entry) (deleted : List ℕ) (next target : ℕ) (e : Entry)
+        → IsStrictlySortedBy nat_cmp (map (λ entry. entry.document) entries) → after entries deleted next target ≡ Some e
+        → filter (λ d. nat_le next d.document && nat_le target d.document && not (is_deleted deleted d.document)) entries
+        ≡ e ∷ filter (λ d. nat_le (e.document + 1) d.document && not (is_deleted deleted d.document)) entries }
+    ensures none { (entries : List Entry) (deleted : List ℕ) (next target : ℕ) → after entries deleted next target ≡ None
+        → filter (λ d. nat_le next d.document && nat_le target d.document && not (is_deleted deleted d.document)) entries ≡ [] }
 {}
 
 /// There are no more terms than tokens, no more fields than stored values and indexed fields, no more vectors than indexed fields;

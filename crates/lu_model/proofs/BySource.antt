@@ -1,24 +1,22 @@
 -- What a merge has of its sources: documents in turn, and the terms that have an entry.
-use Rattle.std.proofs.Common.{◌≡◌, ℕ, ◌+◌, ◌<◌, Bool, true, false, not, cond, List, [], ◌∷◌, ◌++◌, Some, None, length, map, refl, sym, ap, ◌∙◌, subst, arith, length-append}
+use Rattle.std.proofs.Common.{◌≡◌, ◌+◌, ◌<◌, Bool, true, false, not, cond, List, [], ◌∷◌, ◌++◌, Some, None, length, map, refl, sym, ap, ◌∙◌, subst, arith, length-append}
 use Rattle.std.specs.Prelude.{filter, flat_map, is_some, unwrap_or}
-use Rattle.std.specs.List.Sorted.{IsStrictlySortedBy}
 use Rattle.std.specs.declared.cmp.Ordering.TheVariants.{Equal}
 use Rattle.std.proofs.lemmas.List.{length-map, map-append}
 use Rattle.std.proofs.lemmas.List.Kept.{IsStrictlySortedBy-filter}
 use mathlib.Core.Bool.{true≢false}
 use Rattle.lu_types.specs.Joins.{is_empty}
 use Rattle.lu_types.specs.Tables.{TableField}
-use Rattle.lu_model.specs.Index.{Entry, Index, IndexedTerm, Term, in_order, term_cmp}
-use Rattle.lu_model.specs.Contents.{Content, MISSING_NORM, content_at, has_norms, index_of, joined_table, live, live_contents, merge_of, merged_term, stored_in, term_of, vectors_in}
+use Rattle.lu_model.specs.Index.{Index, IndexedTerm, Term, in_order, term_cmp}
+use Rattle.lu_model.specs.Contents.{Content, MISSING_NORM, content_at, has_norms, joined_table, live, live_contents, merge_of, merged_term, term_of}
 use Rattle.lu_model.specs.Valid.{IsValid}
-use Rattle.lu_model.proofs.Words.{Each, IsIn, IsTerm, stands_at, norms_in, stored_by_name, vector_by_name}
+use Rattle.lu_model.proofs.Words.{Each, IsIn, IsTerm, stands_at, norms_in}
 use Rattle.lu_model.proofs.Among.{from_filter, from_flat_map, from_map, in_filter, in_flat_map, in_map}
 use Rattle.lu_model.proofs.Alike.{term_order, terms_level}
-use Rattle.lu_model.proofs.Each.{each_at, each_in}
 use Rattle.lu_model.proofs.MergedParts.{knows_term, of_source, source_terms_are_texts}
 use Rattle.lu_model.proofs.MergedTerms.{merged_in, merged_terms, same_entries}
 use Rattle.lu_model.proofs.ValidTerms.{some_entry}
-use Rattle.lu_model.proofs.Ordered.{in_in_order, only_in_order, rises-in_order, from_in_order}
+use Rattle.lu_model.proofs.Ordered.{in_in_order, only_in_order, rises-in_order}
 
 -- ---- documents in turn
 

@@ -1,5 +1,5 @@
 -- What bounds the counts of an index.
-use Rattle.std.proofs.Common.{◌≡◌, suc, ◌+◌, ◌≤◌, true, false, cond, List, [], ◌∷◌, ◌++◌, length, map, refl, sym, ap, ◌∙◌, subst, arith, length-append}
+use Rattle.std.proofs.Common.{◌≡◌, suc, ◌+◌, ◌≤◌, true, false, cond, List, [], ◌∷◌, length, map, refl, sym, ap, ◌∙◌, arith, length-append}
 use Rattle.std.specs.Prelude.{filter, flat_map}
 use Rattle.std.specs.List.{fold}
 use Rattle.std.specs.Str.{bytes_eq}
@@ -10,7 +10,7 @@ use Rattle.lu_types.specs.Tables.{TableField}
 use Rattle.lu_types.specs.declared.document.Document.{Document}
 use Rattle.lu_types.specs.declared.document.IndexedField.{IndexedField}
 use Rattle.lu_types.specs.declared.document.Token.{Token}
-use Rattle.lu_model.specs.Index.{Index, IndexedTerm, Term, in_order, term_cmp}
+use Rattle.lu_model.specs.Index.{Index, Term, in_order, term_cmp}
 use Rattle.lu_model.specs.Contents.{Content, content_of, index_of, indexed_term, joined_table, merge_of, merged_term, term_of, under, vector_of, vectors_in}
 use Rattle.lu_model.specs.Valid.{IsValid}
 use Rattle.lu_model.proofs.Words.{Each, has_vector_of, has_vectors, terms_of, vector_in}

@@ -1,7 +1,6 @@
 -- The terms of an index of contents rise, and are exactly those with an entry.
-use Rattle.std.proofs.Common.{◌≡◌, ℕ, ◌<◌, true, List, length, map, refl, sym, ap, ◌∙◌, subst}
-use Rattle.std.specs.Prelude.{◌↔◌, Contains, flat_map, is_some}
-use Rattle.std.specs.List.Sorted.{IsStrictlySortedBy}
+use Rattle.std.proofs.Common.{◌≡◌, true, List, map, sym, subst}
+use Rattle.std.specs.Prelude.{◌↔◌, flat_map, is_some}
 use Rattle.lu_types.specs.Documents.{IsDocument}
 use Rattle.lu_types.specs.Joins.{Covers}
 use Rattle.lu_types.specs.Tables.{TableField}

@@ -3,7 +3,6 @@ use Rattle.std.proofs.Common.{◌≡◌, ℕ, [], ◌∷◌, List, map, Some, No
 use Rattle.std.specs.Prelude.{codes}
 use Rattle.std.specs.Str.{chars}
 use Rattle.lu_types.specs.Joins.{join_field}
-use Rattle.lu_types.specs.declared.document.Document.{Document}
 use Rattle.lu_types.specs.declared.document.Vector.TheVariants.{Off, Both}
 use Rattle.lu_types.specs.declared.stored.Stored.TheVariants.{Text}
 use Rattle.lu_model.specs.Contents.{index_of, index_of_documents}

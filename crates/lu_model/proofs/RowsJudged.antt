@@ -1,10 +1,8 @@
 -- Worked rows: runs, and the first faults of documents.
-use Rattle.std.proofs.Common.{◌≡◌, ℕ, ◌+◌, [], ◌∷◌, List, length, map, Some, None, true, false, refl, ap, arith}
-use Rattle.std.specs.Prelude.{◌||◌, cond, nat_lt, Bool, Option}
-use Rattle.lu_types.specs.DocFaults.{doc_fault, fault_if, first_fault, field_fault, token_fault, tokens_fault}
-use Rattle.lu_types.specs.declared.document.DocFault.{DocFault}
+use Rattle.std.proofs.Common.{◌≡◌, ℕ, [], ◌∷◌, List, length, Some, None, true, refl, ap, arith}
+use Rattle.std.specs.Prelude.{nat_lt}
+use Rattle.lu_types.specs.DocFaults.{doc_fault, fault_if, first_fault}
 use Rattle.lu_types.specs.declared.document.DocFault.TheVariants.{NameLong, TextLong, PositionOrder, OffsetOrder, PayloadLong, FieldTwice, TokensMany}
-use Rattle.lu_types.specs.declared.document.Document.{Document}
 use Rattle.lu_types.specs.declared.document.Limits.{Limits}
 use Rattle.lu_types.specs.declared.stored.Stored.TheVariants.{Text}
 use Rattle.lu_model.specs.Contents.{runs}

@@ -1,8 +1,7 @@
 -- Worked rows: deletions and merges.
-use Rattle.std.proofs.Common.{◌≡◌, ℕ, [], ◌∷◌, List, Some, None, true, false, refl}
+use Rattle.std.proofs.Common.{◌≡◌, [], ◌∷◌, List, Some, None, true, refl}
 use Rattle.std.specs.Str.{chars}
 use Rattle.lu_types.specs.Joins.{join_field}
-use Rattle.lu_types.specs.declared.document.Document.{Document}
 use Rattle.lu_types.specs.declared.document.Vector.TheVariants.{Off}
 use Rattle.lu_model.specs.Contents.{after, index_of, index_of_documents, merge_of, without_term}
 use Rattle.lu_model.specs.Index.{Entry, Index, in_order, omitted}

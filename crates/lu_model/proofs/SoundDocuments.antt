@@ -3,10 +3,9 @@ use Rattle.std.proofs.Common.{◌≡◌, ◌≢◌, ℕ, ◌≤◌, Bool, true, 
 use Rattle.std.specs.Prelude.{nat_lt, ◌||◌}
 use Rattle.std.specs.List.{list_any, AllByRecursion}
 use Rattle.std.specs.Str.{bytes_eq}
-use Rattle.std.specs.Cmp.Lexicographic.{bytes_decides}
 use Rattle.std.proofs.lemmas.Bool.Decides.{nat_tests}
 use Rattle.std.proofs.Common.{arith}
-use Rattle.lu_types.specs.DocFaults.{AreApart, AreSoundTokens, IsSound, IsSoundField, IsSoundToken, doc_fault, fault_if, field_fault, fields_fault, first_fault, is_long, token_fault, tokens_fault, values_fault}
+use Rattle.lu_types.specs.DocFaults.{AreApart, AreSoundTokens, IsSound, IsSoundField, IsSoundToken, doc_fault, fault_if, field_fault, fields_fault, first_fault, token_fault, tokens_fault, values_fault}
 use Rattle.lu_types.specs.declared.document.Document.{Document}
 use Rattle.lu_types.specs.declared.document.DocFault.{DocFault}
 use Rattle.lu_types.specs.declared.document.DocFault.TheVariants.{NameLong, TextLong, PositionOrder, OffsetOrder, PayloadLong, FieldTwice, TokensMany}

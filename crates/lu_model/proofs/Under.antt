@@ -1,6 +1,6 @@
 -- A document of an index of documents holds there what the document holds.
 use Rattle.std.proofs.Common.{◌≡◌, ℕ, ◌+◌, Bool, true, false, not, cond, List, [], ◌∷◌, Option, Some, None, map, refl, sym, ap, ◌∙◌, subst, inl, inr, get_or, zero-add}
-use Rattle.std.specs.Prelude.{filter, flat_map, is_some, option_map, unwrap_or, slice_get, ◌&&◌}
+use Rattle.std.specs.Prelude.{filter, flat_map, is_some, option_map, unwrap_or, slice_get}
 use Rattle.std.specs.List.{list_any}
 use Rattle.std.specs.Str.{bytes_eq}
 use Rattle.std.specs.Cmp.Lexicographic.{bytes_decides}

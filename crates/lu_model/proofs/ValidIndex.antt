@@ -1,5 +1,5 @@
 -- The index of documents that can be written is valid.
-use Rattle.std.proofs.Common.{◌≡◌, ◌≢◌, ℕ, suc, ◌+◌, ◌<◌, ◌≤◌, true, false, not, cond, List, [], ◌∷◌, Some, None, length, map, refl, sym, ap, ◌∙◌, subst, inl, inr, arith, lit<}
+use Rattle.std.proofs.Common.{◌≡◌, ℕ, suc, ◌+◌, ◌<◌, ◌≤◌, true, false, not, cond, List, [], ◌∷◌, Some, None, length, map, refl, sym, ap, ◌∙◌, subst, inl, inr, arith, lit<}
 use Rattle.std.specs.Prelude.{filter, flat_map, is_some, unwrap_or, AllPairs, IfSome}
 use Rattle.std.specs.List.{AllZip, find}
 use Rattle.std.specs.List.Sorted.{IsStrictlySortedBy}
@@ -14,10 +14,10 @@ use Rattle.lu_types.specs.Documents.{IsIndexedField, IsToken}
 use Rattle.lu_types.specs.DocFaults.{IsSoundToken, IsSound}
 use Rattle.lu_types.specs.Joins.{has_payloads, asked_bits}
 use Rattle.lu_types.proofs.DocFaultLemmas.{IsSound-from_none}
-use Rattle.lu_model.specs.Index.{Term, term_cmp, in_order, Entry, IndexedTerm, FieldVector}
+use Rattle.lu_model.specs.Index.{Term, term_cmp, in_order, Entry, IndexedTerm}
 use Rattle.lu_model.specs.Contents.{Content, MISSING_NORM, bits_of, content_of, field_at, field_number, has_norms, index_of, indexed_term, term_of, under}
 use Rattle.lu_model.specs.Valid.{IsSmall, IsKept, IsIndexedTerm, IsVector, AreNorms, IsValid, IsStorable}
-use Rattle.lu_model.proofs.Words.{IsIn, Each, EachPair, value_in, vector_in, has_vectors, norm_if_any, IsTerm, IsValue, CanBeWritten, Apart, norms_in, IsText}
+use Rattle.lu_model.proofs.Words.{IsIn, Each, value_in, vector_in, has_vectors, norm_if_any, IsTerm, IsValue, CanBeWritten, Apart, norms_in, IsText}
 use Rattle.lu_model.proofs.Among.{from_flat_map, from_map, in_map}
 use Rattle.lu_model.proofs.Ordered.{rises-in_order}
 use Rattle.lu_model.proofs.Bits.{Says}

@@ -1,31 +1,25 @@
 -- A merge of valid indexes is valid.
-use Rattle.std.proofs.Common.{◌≡◌, ◌≢◌, ℕ, zero, suc, ◌+◌, ◌<◌, ◌≤◌, Bool, true, false, not, cond, List, [], ◌∷◌, Option, Some, None, length, map, get_or, refl, sym, ap, ◌∙◌, subst, inl, inr, arith, lit<, eqb}
-use Rattle.std.specs.Prelude.{filter, flat_map, is_some, option_map, unwrap_or, AllPairs}
-use Rattle.std.specs.List.{AllZip, find, range_with_len}
+use Rattle.std.proofs.Common.{◌≡◌, ◌≢◌, ℕ, ◌<◌, ◌≤◌, true, false, cond, List, [], ◌∷◌, Option, Some, None, length, map, get_or, refl, sym, ap, ◌∙◌, subst, inl, inr, arith, lit<}
+use Rattle.std.specs.Prelude.{filter, flat_map, unwrap_or, AllPairs}
+use Rattle.std.specs.List.{AllZip}
 use Rattle.std.specs.List.Sorted.{IsStrictlySortedBy}
 use Rattle.std.proofs.lemmas.Bool.{cases_lt}
 use Rattle.std.proofs.lemmas.List.{length-map}
-use mathlib.Core.Bool.{true≢false}
-use Rattle.lu_types.specs.Bits.{has_bit}
 use Rattle.lu_types.specs.Tables.{TableField}
-use Rattle.lu_types.specs.declared.bits.TheConstants.{INDEXED, VECTORS, PAYLOADS, OMIT_TF}
+use Rattle.lu_types.specs.declared.bits.TheConstants.{VECTORS}
 use Rattle.lu_types.specs.Joins.{join_all}
-use Rattle.lu_grammar.specs.Bytes.{IsBytes}
-use Rattle.lu_model.specs.Index.{Term, term_cmp, in_order, Occurrences, given, omitted, Entry, IndexedTerm, FieldVector, Index}
-use Rattle.lu_model.specs.Contents.{Content, MISSING_NORM, bits_of, content_at, field_at, field_number, has_norms, index_of, indexed_term, is_deleted, kept, live, live_contents, merge_of, name_of, occurrences_at, term_of}
-use Rattle.lu_model.specs.Valid.{IsSmall, IsKept, IsIndexedTerm, IsVector, AreNorms, IsValid, IsStorable}
-use Rattle.lu_model.proofs.Words.{IsIn, Each, EachPair, same_term, no_field, value_in, vector_in, has_vectors, stands_at, entries_if_any, byte_of, IsValue, CanBeMerged, Apart, norms_in, stored_by_name, vector_by_name, IsText}
-use Rattle.lu_model.proofs.Among.{from_flat_map, from_map, in_map, from_filter}
-use Rattle.lu_model.proofs.Ordered.{rises-in_order, from_in_order, not_below_itself, least}
-use Rattle.lu_model.proofs.Bits.{Says}
-use Rattle.lu_model.proofs.Tables.{Has, Has-joins, Says-Has, name_at-Has, find_in}
+use Rattle.lu_model.specs.Index.{Term, term_cmp, in_order, IndexedTerm, FieldVector, Index}
+use Rattle.lu_model.specs.Contents.{Content, MISSING_NORM, bits_of, content_at, field_at, field_number, has_norms, index_of, indexed_term, live_contents, merge_of, name_of}
+use Rattle.lu_model.specs.Valid.{IsSmall, IsIndexedTerm, IsVector, AreNorms, IsValid}
+use Rattle.lu_model.proofs.Words.{IsIn, Each, EachPair, no_field, value_in, vector_in, has_vectors, byte_of, IsValue, CanBeMerged, Apart, norms_in, vector_by_name, IsText}
+use Rattle.lu_model.proofs.Among.{from_map, from_filter}
+use Rattle.lu_model.proofs.Ordered.{rises-in_order}
+use Rattle.lu_model.proofs.Tables.{name_at-Has}
 use Rattle.lu_model.proofs.Alike.{term_order}
 use Rattle.lu_model.proofs.Covering.{clear-joins}
-use Rattle.lu_model.proofs.Held.{same_term-true, same_term-itself}
-use Rattle.lu_model.proofs.Entries.{term_of-indexed, HasName, any-found}
+use Rattle.lu_model.proofs.Entries.{term_of-indexed}
 use Rattle.lu_model.proofs.Each.{each_in, each_at, each_map, pair_filter, pair_map, pair_weaker, length_filter-le, all-from_each, each-from_all, pairs-from_each, each-from_pairs, are_bytes}
-use Rattle.lu_model.proofs.ValidTerms.{entries_within, entries_rise, some_entry}
-use Rattle.lu_model.proofs.ValidIndex.{number-lt, terms_again}
+use Rattle.lu_model.proofs.ValidIndex.{terms_again}
 use Rattle.lu_model.proofs.JoinedTables.{names-joins, apart-joins}
 use Rattle.lu_model.proofs.Found.{bit_within, get_in, norm_bytes}
 use Rattle.lu_model.proofs.MergedParts.{valid, has_at, each_content, stored_is, has_name, term_is}

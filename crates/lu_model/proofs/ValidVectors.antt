@@ -25,7 +25,7 @@ use Rattle.lu_model.proofs.Among.{from_map, in_filter, from_filter}
 use Rattle.lu_model.proofs.Ordered.{rises-in_order, from_in_order}
 use Rattle.lu_model.proofs.Tables.{name_at-Has}
 use Rattle.lu_model.proofs.Held.{HasFields, HasFields-indexed}
-use Rattle.lu_model.proofs.Each.{each_in, each_at, each_by_recursion, each_filter, each_map, pair_filter, pair_map, pair_weaker, length_filter-le, length_in_order-le, each-from_all, pairs-from_each, non_decreasing}
+use Rattle.lu_model.proofs.Each.{each_in, each_at, each_by_recursion, each_filter, each_map, pair_filter, pair_map, pair_weaker, length_filter-le, length_in_order-le, each-from_all, non_decreasing}
 use Rattle.lu_model.proofs.SoundTokens.{each_sound, do_not_fall}
 use Rattle.lu_model.proofs.ValidTerms.{small_bytes, small_place, sound_field, made_field}
 

@@ -1,5 +1,5 @@
 -- Words that only proofs use.
-use Rattle.std.specs.Prelude.{All, ◌≡◌, ◌≢◌, ◌⊎◌, ℕ, ◌+◌, ◌-◌, ◌<◌, ◌==◌, Bool, not, ◌&&◌, cond, List, [], ◌∷◌, length, map, filter, slice_index, Option, None, Some, option_map, unwrap_or}
+use Rattle.std.specs.Prelude.{All, ◌≡◌, ◌≢◌, ◌⊎◌, ℕ, ◌-◌, ◌<◌, ◌==◌, Bool, not, ◌&&◌, cond, List, [], ◌∷◌, length, map, slice_index, Option, None, Some, option_map, unwrap_or}
 use Rattle.std.specs.List.{AllByRecursion, list_any}
 use Rattle.std.specs.Option.{option_and_then}
 use Rattle.std.specs.Str.{IsUtf8, bytes_eq}
@@ -16,7 +16,7 @@ use Rattle.lu_types.specs.declared.document.Limits.{Limits}
 use Rattle.lu_types.specs.declared.document.Token.{Token}
 use Rattle.lu_types.specs.declared.stored.Stored.TheVariants.{Text}
 use Rattle.lu_types.specs.declared.stored.StoredValue.{StoredValue}
-use Rattle.lu_model.specs.Index.{Term, Occurrences, Entry, IndexedTerm, VectorTerm, FieldVector, Index}
+use Rattle.lu_model.specs.Index.{Term, Entry, IndexedTerm, VectorTerm, FieldVector, Index}
 use Rattle.lu_model.specs.Contents.{Content, MISSING_NORM, bits_of, field_number, has_norms, kept, left_of, live_from, merge_of, name_of, tokens_with, under}
 use Rattle.lu_model.specs.Valid.{IsSmall, IsStorable, IsValid}
 

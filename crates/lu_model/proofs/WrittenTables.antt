@@ -1,5 +1,5 @@
 -- The table of documents without a fault is the table of a valid index.
-use Rattle.std.proofs.Common.{◌≡◌, ◌≢◌, ℕ, ◌<◌, ◌^◌, List, [], ◌++◌, ◌≤◌, None, length, map, sym, subst, arith, inl, inr}
+use Rattle.std.proofs.Common.{◌≡◌, ◌≢◌, ◌<◌, List, [], ◌≤◌, None, length, map, sym, subst, inl, inr}
 use Rattle.std.specs.Prelude.{flat_map}
 use Rattle.lu_types.proofs.DocFaultLemmas.{IsSound-from_none}
 use Rattle.lu_types.specs.DocFaults.{IsSound, IsSoundField, doc_fault}

@@ -1,4 +1,3 @@
-use Rattle.lu_types.specs.Joins.{join}
 use Rattle.lu_model.proofs.Numbers.{number_stays, place_of-number}
 use Rattle.lu_model.proofs.laws.numbers_stay.Goals as goal
 

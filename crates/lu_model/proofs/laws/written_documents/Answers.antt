@@ -1,10 +1,9 @@
-use Rattle.std.proofs.Common.{◌≡◌, ◌<◌, ◌^◌, ℕ, List, None, length}
+use Rattle.std.proofs.Common.{◌≡◌, List, None, length}
 use Rattle.std.specs.Prelude.{All}
 use Rattle.lu_types.specs.DocFaults.{doc_fault}
 use Rattle.lu_types.specs.Documents.{IsDocument}
 use Rattle.lu_types.specs.Joins.{table_of}
 use Rattle.lu_types.specs.declared.document.Document.{Document}
-use Rattle.lu_types.specs.declared.document.Limits.{Limits}
 use Rattle.lu_model.specs.Valid.{IsSmall, IsStorable}
 use Rattle.lu_model.proofs.Words.{Each, IsIn, IsShort}
 use Rattle.lu_model.proofs.Covering.{table_of-covers}

@@ -11,7 +11,7 @@ use Rattle.lu_prims.specs.Order.{text_cmp}
 use Rattle.lu_prims.proofs.Units.{level_same, text_order}
 use Rattle.lu_types.specs.Tables.{TableField}
 use Rattle.lu_model.specs.Index.{Term, term_cmp, in_order, Occurrences, Entry}
-use Rattle.lu_model.specs.Contents.{Content, MISSING_NORM, bits_of, has_norms, index_of, indexed_term, kept}
+use Rattle.lu_model.specs.Contents.{Content, missing_norm, bits_of, has_norms, index_of, indexed_term, kept}
 use Rattle.lu_model.proofs.Words.{IsIn, HaveSame, IsTerm, value_in, vector_in, has_vectors, entry_of, norms_in}
 use Rattle.lu_model.proofs.Ordered.{same-in_order}
 use Rattle.lu_model.proofs.Among.{in_left, in_right, in_either}
@@ -37,7 +37,7 @@ pub record AreAlike (table : List TableField) (a b : Content) : Type 0 where
   pub stored : a.stored ≡ b.stored
   pub terms : HaveSame a.terms b.terms
   pub occurrences : (term : Term) → option_map (kept (bits_of term.field table)) (a.occurrences term) ≡ option_map (kept (bits_of term.field table)) (b.occurrences term)
-  pub norm : (field : TableField) → IsIn field table → has_norms field.bits ≡ true → unwrap_or (a.norm field.name) MISSING_NORM ≡ unwrap_or (b.norm field.name) MISSING_NORM
+  pub norm : (field : TableField) → IsIn field table → has_norms field.bits ≡ true → unwrap_or (a.norm field.name) missing_norm ≡ unwrap_or (b.norm field.name) missing_norm
   pub vectors : a.vectors ≡ b.vectors
 
 module _ (table : List TableField) where
@@ -104,8 +104,8 @@ module _ (table : List TableField) where
   same_norms cs ds h [] inside = refl
   same_norms cs ds h (field ∷ fields) inside =
       let one : norms_in cs field ≡ norms_in ds field =
-      elim (has_norms field.bits) as (λ b. has_norms field.bits ≡ b → cond b (Some (map (λ c. unwrap_or (c.norm field.name) MISSING_NORM) cs)) None ≡ cond b (Some (map (λ c. unwrap_or (c.norm field.name) MISSING_NORM) ds)) None) [
-        | true ↦ λ t. ap Some (same_map (λ c. unwrap_or (c.norm field.name) MISSING_NORM) (λ a b k. k.norm field (inside field (inl refl)) t) cs ds h)
+      elim (has_norms field.bits) as (λ b. has_norms field.bits ≡ b → cond b (Some (map (λ c. unwrap_or (c.norm field.name) missing_norm) cs)) None ≡ cond b (Some (map (λ c. unwrap_or (c.norm field.name) missing_norm) ds)) None) [
+        | true ↦ λ t. ap Some (same_map (λ c. unwrap_or (c.norm field.name) missing_norm) (λ a b k. k.norm field (inside field (inl refl)) t) cs ds h)
         | false ↦ λ t. refl
       ] refl in
       λ i. one i ∷ same_norms cs ds h fields (λ f k. inside f (inr k)) i

@@ -8,7 +8,7 @@ use mathlib.Core.Bool.{true≢false}
 use Rattle.lu_types.specs.Joins.{is_empty}
 use Rattle.lu_types.specs.Tables.{TableField}
 use Rattle.lu_model.specs.Index.{Index, IndexedTerm, Term, in_order, term_cmp}
-use Rattle.lu_model.specs.Contents.{Content, MISSING_NORM, content_at, has_norms, joined_table, live, live_contents, merge_of, merged_term, term_of}
+use Rattle.lu_model.specs.Contents.{Content, missing_norm, content_at, has_norms, joined_table, live, live_contents, merge_of, merged_term, term_of}
 use Rattle.lu_model.specs.Valid.{IsValid}
 use Rattle.lu_model.proofs.Words.{Each, IsIn, IsTerm, stands_at, norms_in}
 use Rattle.lu_model.proofs.Among.{from_filter, from_flat_map, from_map, in_filter, in_flat_map, in_map}
@@ -42,8 +42,8 @@ size-merge (index ∷ indexes) =
     ∙ (λ i. length-map (live index) (content_at index) i + size-merge indexes i) ∙ sym (length-append (live index) (flat_map live indexes))
 
 pub norms-merge : (indexes : List Index) (table : List TableField) → map (norms_in (flat_map live_contents indexes)) table ≡ map (λ field. cond (has_norms field.bits)
-    (Some (flat_map (λ index. map (λ document. unwrap_or ((content_at index document).norm field.name) MISSING_NORM) (live index)) indexes)) None) table
-norms-merge indexes table = map-same _ _ (λ field. ap (λ norms. cond (has_norms field.bits) (Some norms) None) (over_live (λ content. unwrap_or (content.norm field.name) MISSING_NORM) indexes)) table
+    (Some (flat_map (λ index. map (λ document. unwrap_or ((content_at index document).norm field.name) missing_norm) (live index)) indexes)) None) table
+norms-merge indexes table = map-same _ _ (λ field. ap (λ norms. cond (has_norms field.bits) (Some norms) None) (over_live (λ content. unwrap_or (content.norm field.name) missing_norm) indexes)) table
 
 -- ---- terms that have an entry
 

@@ -6,7 +6,7 @@ use Rattle.std.specs.List.Sorted.{IsStrictlySortedBy}
 use mathlib.Core.Bool.{true≢false}
 use Rattle.lu_types.specs.Bits.{has_bit}
 use Rattle.lu_types.specs.Tables.{TableField}
-use Rattle.lu_types.specs.declared.bits.TheConstants.{PAYLOADS, OMIT_TF}
+use Rattle.lu_types.specs.Bits as bit
 use Rattle.lu_grammar.specs.Bytes.{IsBytes}
 use Rattle.lu_model.specs.Index.{Term, term_cmp, Occurrences, given, omitted, Entry, IndexedTerm}
 use Rattle.lu_model.specs.Contents.{field_at, kept, occurrences_at, term_of}
@@ -47,12 +47,12 @@ norm_bytes size (f ∷ fields) (x ∷ norms) (suc n) bytes h e = norm_bytes size
 -- what one table keeps, as another wants it that says as much
 pub kept_above : (below above : ℕ) (o : Occurrences) → Says above below → IsKept below o → IsKept above (kept above o)
 kept_above below above o says h =
-    elim (has_bit OMIT_TF above) as (λ b. has_bit OMIT_TF above ≡ b → IsKept above (cond b omitted o)) [
+    elim (has_bit bit.omit_tf above) as (λ b. has_bit bit.omit_tf above ≡ b → IsKept above (cond b omitted o)) [
       | true ↦ λ t. t
       | false ↦ λ t. given_case o h t
     ] refl
   where
-    given_case : (o : Occurrences) → IsKept below o → has_bit OMIT_TF above ≡ false → IsKept above o
+    given_case : (o : Occurrences) → IsKept below o → has_bit bit.omit_tf above ≡ false → IsKept above o
     given_case (given occurrences) h t = (
       t,
       record {
@@ -60,7 +60,7 @@ kept_above below above o says h =
         few = h.1.few;
         rise = h.1.rise;
         small = h.1.small;
-        payloads = λ e. h.1.payloads (turned_false (has_bit PAYLOADS above) (has_bit PAYLOADS below) says.payloads e);
+        payloads = λ e. h.1.payloads (turned_false (has_bit bit.payloads above) (has_bit bit.payloads below) says.payloads e);
       },
     )
     given_case omitted h t = absurd (true≢false (sym (says.omit_tf h) ∙ t))

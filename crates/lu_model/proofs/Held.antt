@@ -7,7 +7,7 @@ use Rattle.std.specs.Cmp.Lexicographic.{bytes_decides}
 use mathlib.Core.Bool.{true≢false}
 use Rattle.lu_types.specs.Bits.{has_bit}
 use Rattle.lu_types.specs.Tables.{TableField}
-use Rattle.lu_types.specs.declared.bits.TheConstants.{INDEXED, OMIT_NORMS}
+use Rattle.lu_types.specs.Bits as bit
 use Rattle.lu_types.specs.declared.document.Document.{Document}
 use Rattle.lu_types.specs.declared.document.IndexedField.{IndexedField}
 use Rattle.lu_types.specs.declared.document.Token.{Token}
@@ -131,10 +131,10 @@ no_norm table doc h name e = at_found (find (λ field. bytes_eq name field.field
     at_norm f None q k n = refl
     at_norm f (Some byte) q k n =
         let says = Says-indexed table f (HasFields-indexed table doc h f k) in
-        let asked : has_bit OMIT_NORMS (asked_bits f.vector (is_some f.norm) f.omit_tf (has_payloads f)) ≡ false = omit_norms-asked f.vector (is_some f.norm) f.omit_tf (has_payloads f) ∙ ap (λ o. not (is_some o)) q in
-        let indexed : has_bit INDEXED (bits_of name table) ≡ true = ap (λ m. has_bit INDEXED (bits_of m table)) n ∙ says.indexed in
-        let with_norms : has_bit OMIT_NORMS (bits_of name table) ≡ false = ap (λ m. has_bit OMIT_NORMS (bits_of m table)) n ∙ says.norms asked in
-        absurd (true≢false (sym (ap (λ b. b && not (has_bit OMIT_NORMS (bits_of name table))) indexed ∙ ap not with_norms) ∙ e))
+        let asked : has_bit bit.omit_norms (asked_bits f.vector (is_some f.norm) f.omit_tf (has_payloads f)) ≡ false = omit_norms-asked f.vector (is_some f.norm) f.omit_tf (has_payloads f) ∙ ap (λ o. not (is_some o)) q in
+        let indexed : has_bit bit.indexed (bits_of name table) ≡ true = ap (λ m. has_bit bit.indexed (bits_of m table)) n ∙ says.indexed in
+        let with_norms : has_bit bit.omit_norms (bits_of name table) ≡ false = ap (λ m. has_bit bit.omit_norms (bits_of m table)) n ∙ says.norms asked in
+        absurd (true≢false (sym (ap (λ b. b && not (has_bit bit.omit_norms (bits_of name table))) indexed ∙ ap not with_norms) ∙ e))
 
     at_found : (found : Option IndexedField) → find (λ field. bytes_eq name field.field) doc.indexed ≡ found → norm_if_any found ≡ None
     at_found None q = refl

@@ -4,7 +4,7 @@ use Rattle.std.specs.Prelude.{filter, flat_map, is_some}
 use Rattle.std.specs.List.{find, range_with_len}
 use Rattle.std.proofs.lemmas.List.{length-map}
 use Rattle.lu_types.specs.Tables.{TableField}
-use Rattle.lu_types.specs.declared.bits.TheConstants.{INDEXED}
+use Rattle.lu_types.specs.Bits as bit
 use Rattle.lu_types.specs.Joins.{join_all}
 use Rattle.lu_model.specs.Index.{Term, term_cmp, in_order, Occurrences, Entry, IndexedTerm, Index}
 use Rattle.lu_model.specs.Contents.{Content, bits_of, content_at, field_at, indexed_term, is_deleted, kept, live, live_contents, name_of, occurrences_at, term_of}
@@ -98,7 +98,7 @@ module _ (indexes : List Index) (ok : Each IsValid indexes) where
   term_right index h it k = each_at (λ (term : IndexedTerm). IsIndexedTerm index.size (field_at term.field index.fields).bits term) it index.terms (valid index h).terms k
 
   term_has : (index : Index) → IsIn index indexes → (it : IndexedTerm) → IsIn it index.terms → Has table (field_at it.field index.fields)
-  term_has index h it k = has_at index h it.field (bit_within INDEXED index.fields it.field refl (term_right index h it k).indexed)
+  term_has index h it k = has_at index h it.field (bit_within bit.indexed index.fields it.field refl (term_right index h it k).indexed)
 
   term_says : (index : Index) → IsIn index indexes → (it : IndexedTerm) → IsIn it index.terms → Says (bits_of (name_of index.fields it.field) table) (field_at it.field index.fields).bits
   term_says index h it k = Says-Has table (field_at it.field index.fields) (term_has index h it k) (term_right index h it k).indexed
@@ -149,7 +149,7 @@ module _ (indexes : List Index) (ok : Each IsValid indexes) where
   pub source_terms_are_texts : (index : Index) → IsIn index indexes → (it : IndexedTerm) → IsIn it index.terms → IsTerm (term_of index.fields it)
   source_terms_are_texts index h it k =
       let right = term_right index h it k in
-      let low = bit_within INDEXED index.fields it.field refl right.indexed in
+      let low = bit_within bit.indexed index.fields it.field refl right.indexed in
       let name = each_at (λ (field : TableField). IsText field.name) (field_at it.field index.fields) index.fields (valid index h).names (get_in index.fields it.field no_field low) in
       record { field = name.0; text = right.text.0 }
 

@@ -1,4 +1,4 @@
--- The terms of a merge, by sources; and an index of which a term is deleted.
+-- The terms of a merge, by sources.
 use Rattle.std.proofs.Common.{◌≡◌, ℕ, ◌+◌, ◌<◌, true, List, [], ◌∷◌, Option, Some, None, length, map, refl, sym, ap, ◌∙◌, subst, inl, inr, arith, eqb}
 use Rattle.std.specs.Prelude.{filter, filter_map, flat_map, is_some, option_map}
 use Rattle.std.specs.List.{find, enumerate_from, cons_option}

@@ -5,7 +5,7 @@ use Rattle.std.specs.List.{AllZip, enumerate_from, range_with_len}
 use Rattle.std.proofs.lemmas.List.{length-map, map-append}
 use Rattle.lu_types.specs.Bits.{has_bit}
 use Rattle.lu_types.specs.Tables.{TableField}
-use Rattle.lu_types.specs.declared.bits.TheConstants.{OMIT_TF}
+use Rattle.lu_types.specs.Bits as bit
 use Rattle.lu_types.specs.declared.document.Document.{Document}
 use Rattle.lu_model.specs.Index.{Term, Occurrences, omitted, Index}
 use Rattle.lu_model.specs.Contents.{Content, bits_of, content_at, content_of, index_of, is_deleted, kept, live_contents, merge_of, under}
@@ -37,9 +37,9 @@ pub covered : (table : List TableField) (docs : List Document) → join table (f
 covered table docs covers doc h f k = subst (λ t. Has t f) covers (Has-join table (flat_map fields_of docs) f (in_flat_map fields_of doc f docs h k))
 
 -- what one table keeps, kept by another that omits wherever the first does
-kept_twice : (below above : ℕ) (o : Occurrences) → (has_bit OMIT_TF below ≡ true → has_bit OMIT_TF above ≡ true) → kept above (kept below o) ≡ kept above o
+kept_twice : (below above : ℕ) (o : Occurrences) → (has_bit bit.omit_tf below ≡ true → has_bit bit.omit_tf above ≡ true) → kept above (kept below o) ≡ kept above o
 kept_twice below above o h =
-    elim (has_bit OMIT_TF below) as (λ b. has_bit OMIT_TF below ≡ b → kept above (cond b omitted o) ≡ kept above o) [
+    elim (has_bit bit.omit_tf below) as (λ b. has_bit bit.omit_tf below ≡ b → kept above (cond b omitted o) ≡ kept above o) [
       | true ↦ λ t. let up = h t in ap (λ b. cond b omitted omitted) up ∙ sym (ap (λ b. cond b omitted o) up)
       | false ↦ λ t. refl
     ] refl
@@ -55,7 +55,7 @@ module _ (all : List TableField) (source : Source) (ok : IsSource source) (above
       terms_are_texts d.0 (each_at IsDocument d.0 source.1 (each-from_all IsDocument source.1 ok.2) d.1) t (subst (λ (w : Content). IsIn t w.terms) d.2 c.2)
 
   -- where a field omits frequencies and positions in one table, it does in all tables joined
-  omits : (doc : Document) → IsIn doc source.1 → (t : Term) → IsIn t (content_of doc).terms → has_bit OMIT_TF (bits_of t.field source.0) ≡ true → has_bit OMIT_TF (bits_of t.field all) ≡ true
+  omits : (doc : Document) → IsIn doc source.1 → (t : Term) → IsIn t (content_of doc).terms → has_bit bit.omit_tf (bits_of t.field source.0) ≡ true → has_bit bit.omit_tf (bits_of t.field all) ≡ true
   omits doc h t k e =
       let s = stands_in doc t k in
       let has = HasFields-indexed source.0 doc (fields doc h) s.field s.inside in
@@ -64,9 +64,9 @@ module _ (all : List TableField) (source : Source) (ok : IsSource source) (above
       let up = above has.field inside in
       let indexed = subst (λ b. Says b (asked_bits s.field.vector (is_some s.field.norm) s.field.omit_tf (has_payloads s.field))) below (Says-indexed source.0 s.field has) in
       let says = up.says indexed.indexed in
-      let there : has_bit OMIT_TF has.field.bits ≡ true = ap (has_bit OMIT_TF) (sym below) ∙ ap (λ name. has_bit OMIT_TF (bits_of name source.0)) (sym s.name) ∙ e in
+      let there : has_bit bit.omit_tf has.field.bits ≡ true = ap (has_bit bit.omit_tf) (sym below) ∙ ap (λ name. has_bit bit.omit_tf (bits_of name source.0)) (sym s.name) ∙ e in
       let name : has.field.name ≡ t.field = name-Has source.0 (indexed_field s.field) has ∙ sym s.name in
-      ap (λ m. has_bit OMIT_TF (bits_of m all)) (sym name) ∙ ap (has_bit OMIT_TF) (bits-Has all has.field up) ∙ says.omit_tf there
+      ap (λ m. has_bit bit.omit_tf (bits_of m all)) (sym name) ∙ ap (has_bit bit.omit_tf) (bits-Has all has.field up) ∙ says.omit_tf there
 
   alike_at : (n : ℕ) (doc : Document) → slice_get source.1 n ≡ Some doc → AreAlike all (content_at (source_index source) n) (content_of doc)
   alike_at n doc e = record {

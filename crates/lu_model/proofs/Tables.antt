@@ -7,7 +7,7 @@ use Rattle.std.specs.Cmp.Lexicographic.{bytes_decides}
 use Rattle.std.proofs.Math.Numerals.{one-add}
 use Rattle.lu_types.specs.Bits.{has_bit}
 use Rattle.lu_types.specs.Tables.{TableField}
-use Rattle.lu_types.specs.declared.bits.TheConstants.{INDEXED}
+use Rattle.lu_types.specs.Bits as bit
 use Rattle.lu_model.specs.Contents.{bits_of, field_at, field_number}
 use Rattle.lu_model.proofs.Words.{IsIn, no_field}
 use Rattle.lu_types.specs.Joins.{join_bits, join_field, join}
@@ -42,7 +42,7 @@ at_number name (field ∷ table) =
 pub record Has (table : List TableField) (asked : TableField) : Type 0 where
   pub field : TableField
   pub found : named asked.name table ≡ Some field
-  pub says : has_bit INDEXED asked.bits ≡ true → Says field.bits asked.bits
+  pub says : has_bit bit.indexed asked.bits ≡ true → Says field.bits asked.bits
 
 -- the field at the number of the name
 pub at_number-Has : (table : List TableField) (asked : TableField) (h : Has table asked) → field_at (field_number asked.name table) table ≡ h.field
@@ -57,7 +57,7 @@ name_at-Has table asked h = ap (λ f. f.name) (at_number-Has table asked h) ∙ 
 pub bits-Has : (table : List TableField) (asked : TableField) (h : Has table asked) → bits_of asked.name table ≡ h.field.bits
 bits-Has table asked h = ap (λ f. f.bits) (at_number-Has table asked h)
 
-pub Says-Has : (table : List TableField) (asked : TableField) → Has table asked → has_bit INDEXED asked.bits ≡ true → Says (bits_of asked.name table) asked.bits
+pub Says-Has : (table : List TableField) (asked : TableField) → Has table asked → has_bit bit.indexed asked.bits ≡ true → Says (bits_of asked.name table) asked.bits
 Says-Has table asked h i = subst (λ b. Says b asked.bits) (sym (bits-Has table asked h)) (h.says i)
 
 abbrev joined : TableField → TableField → TableField

@@ -8,11 +8,11 @@ use Rattle.std.proofs.Math.Numerals.{one-add}
 use mathlib.Core.Bool.{true≢false}
 use Rattle.lu_types.specs.Bits.{has_bit}
 use Rattle.lu_types.specs.Tables.{TableField}
-use Rattle.lu_types.specs.declared.bits.TheConstants.{VECTORS}
+use Rattle.lu_types.specs.Bits as bit
 use Rattle.lu_types.specs.declared.document.Document.{Document}
 use Rattle.lu_types.specs.declared.stored.StoredValue.{StoredValue}
 use Rattle.lu_model.specs.Index.{Term, term_cmp, in_order, Occurrences, Index, FieldVector}
-use Rattle.lu_model.specs.Contents.{Content, MISSING_NORM, bits_of, content_at, content_of, field_number, has_norms, index_of, indexed_term, kept, name_of, occurrences_at, term_of, under, vector_of}
+use Rattle.lu_model.specs.Contents.{Content, missing_norm, bits_of, content_at, content_of, field_number, has_norms, index_of, indexed_term, kept, name_of, occurrences_at, term_of, under, vector_of}
 use Rattle.lu_model.proofs.Words.{IsIn, HaveSame, same_term, no_field, value_in, vector_in, has_vectors, has_vector_of, stands_at, entries_if_any, byte_of, IsTerm, norms_in, stored_by_name, vector_by_name}
 use Rattle.lu_types.specs.Joins.{stored_field, indexed_field, has_vector, has_payloads, is_empty}
 use Rattle.lu_model.proofs.Ordered.{in_in_order, from_in_order}
@@ -41,12 +41,12 @@ vectors_again table (v ∷ vectors) h =
     ∙ (λ i. record { field = name i; bits = v.bits; terms = v.terms } ∷ rest i)
 
 -- the norms at the number of a name
-norms_at_number : (contents : List Content) (name : List ℕ) (table : List TableField) → get_or (map (norms_in contents) table) (field_number name table) None ≡ cond (has_norms (bits_of name table)) (Some (map (λ content. unwrap_or (content.norm name) MISSING_NORM) contents)) None
+norms_at_number : (contents : List Content) (name : List ℕ) (table : List TableField) → get_or (map (norms_in contents) table) (field_number name table) None ≡ cond (has_norms (bits_of name table)) (Some (map (λ content. unwrap_or (content.norm name) missing_norm) contents)) None
 norms_at_number contents name [] = refl
 norms_at_number contents name (field ∷ table) =
-    elim (bytes_eq name field.name) as (λ b. bytes_eq name field.name ≡ b → get_or (map (norms_in contents) (field ∷ table)) (cond (not b) (1 + field_number name table) 0) None ≡ cond (has_norms (get_or (field ∷ table) (cond (not b) (1 + field_number name table) 0) no_field).bits) (Some (map (λ content. unwrap_or (content.norm name) MISSING_NORM) contents)) None) [
-      | true ↦ λ e. ap (λ m. cond (has_norms field.bits) (Some (map (λ content. unwrap_or (content.norm m) MISSING_NORM) contents)) None) (sym ((bytes_decides name field.name).0 e))
-      | false ↦ λ e. ap (λ n. get_or (map (norms_in contents) (field ∷ table)) n None) (one-add (field_number name table)) ∙ norms_at_number contents name table ∙ ap (λ n. cond (has_norms (get_or (field ∷ table) n no_field).bits) (Some (map (λ content. unwrap_or (content.norm name) MISSING_NORM) contents)) None) (sym (one-add (field_number name table)))
+    elim (bytes_eq name field.name) as (λ b. bytes_eq name field.name ≡ b → get_or (map (norms_in contents) (field ∷ table)) (cond (not b) (1 + field_number name table) 0) None ≡ cond (has_norms (get_or (field ∷ table) (cond (not b) (1 + field_number name table) 0) no_field).bits) (Some (map (λ content. unwrap_or (content.norm name) missing_norm) contents)) None) [
+      | true ↦ λ e. ap (λ m. cond (has_norms field.bits) (Some (map (λ content. unwrap_or (content.norm m) missing_norm) contents)) None) (sym ((bytes_decides name field.name).0 e))
+      | false ↦ λ e. ap (λ n. get_or (map (norms_in contents) (field ∷ table)) n None) (one-add (field_number name table)) ∙ norms_at_number contents name table ∙ ap (λ n. cond (has_norms (get_or (field ∷ table) n no_field).bits) (Some (map (λ content. unwrap_or (content.norm name) missing_norm) contents)) None) (sym (one-add (field_number name table)))
     ] refl
 
 is_some-map : {X Y : Type 0} (f : X → Y) (o : Option X) → is_some (option_map f o) ≡ is_some o
@@ -144,17 +144,17 @@ module _ (table : List TableField) (docs : List Document) (fields : (doc : Docum
       let has = HasFields-indexed table doc (fields doc (in_at docs n doc e)) from.0 inside.0 in
       let says = Says-indexed table from.0 has in
       let name : v.field ≡ from.0.field = ap (λ (w : (FieldVector (List ℕ))). w.field) from.2 in
-      let vectors : has_bit VECTORS (bits_of from.0.field table) ≡ true =
+      let vectors : has_bit bit.vectors (bits_of from.0.field table) ≡ true =
       says.vectors (vectors-asked from.0.vector (is_some from.0.norm) from.0.omit_tf (has_payloads from.0) ∙ (both_true (has_vector from.0.vector) (not (is_empty from.0.tokens)) inside.1).0) in (
         subst (λ w. name_of table (field_number w table) ≡ w) (sym name) (name_at-Has table (indexed_field from.0) has),
-        ap (λ w. has_bit VECTORS (bits_of w table)) name ∙ vectors,
+        ap (λ w. has_bit bit.vectors (bits_of w table)) name ∙ vectors,
       ))
 
-  pub same_norm : (n : ℕ) (doc : Document) → slice_get docs n ≡ Some doc → (name : List ℕ) → unwrap_or ((content_at index n).norm name) MISSING_NORM ≡ unwrap_or ((content_of doc).norm name) MISSING_NORM
+  pub same_norm : (n : ℕ) (doc : Document) → slice_get docs n ≡ Some doc → (name : List ℕ) → unwrap_or ((content_at index n).norm name) missing_norm ≡ unwrap_or ((content_of doc).norm name) missing_norm
   unfolding index_of
   same_norm n doc e name =
-      ap (λ norms. unwrap_or (byte_of n norms) MISSING_NORM) (norms_at_number contents name table)
-      ∙ elim (has_norms (bits_of name table)) as (λ b. has_norms (bits_of name table) ≡ b → unwrap_or (byte_of n (cond b (Some (map (λ content. unwrap_or (content.norm name) MISSING_NORM) contents)) None)) MISSING_NORM ≡ unwrap_or ((content_of doc).norm name) MISSING_NORM) [
-        | true ↦ λ t. get-map (λ content. unwrap_or (content.norm name) MISSING_NORM) contents n (content_of doc) 0 (slice_get-map content_of docs n doc e)
-        | false ↦ λ t. ap (λ norm. unwrap_or norm MISSING_NORM) (sym (no_norm table doc (fields doc (in_at docs n doc e)) name t))
+      ap (λ norms. unwrap_or (byte_of n norms) missing_norm) (norms_at_number contents name table)
+      ∙ elim (has_norms (bits_of name table)) as (λ b. has_norms (bits_of name table) ≡ b → unwrap_or (byte_of n (cond b (Some (map (λ content. unwrap_or (content.norm name) missing_norm) contents)) None)) missing_norm ≡ unwrap_or ((content_of doc).norm name) missing_norm) [
+        | true ↦ λ t. get-map (λ content. unwrap_or (content.norm name) missing_norm) contents n (content_of doc) 0 (slice_get-map content_of docs n doc e)
+        | false ↦ λ t. ap (λ norm. unwrap_or norm missing_norm) (sym (no_norm table doc (fields doc (in_at docs n doc e)) name t))
       ] refl

@@ -15,7 +15,7 @@ use Rattle.lu_types.specs.DocFaults.{IsSoundToken, IsSound}
 use Rattle.lu_types.specs.Joins.{has_payloads, asked_bits}
 use Rattle.lu_types.proofs.DocFaultLemmas.{IsSound-from_none}
 use Rattle.lu_model.specs.Index.{Term, term_cmp, in_order, Entry, IndexedTerm}
-use Rattle.lu_model.specs.Contents.{Content, MISSING_NORM, bits_of, content_of, field_at, field_number, has_norms, index_of, indexed_term, term_of, under}
+use Rattle.lu_model.specs.Contents.{Content, missing_norm, bits_of, content_of, field_at, field_number, has_norms, index_of, indexed_term, term_of, under}
 use Rattle.lu_model.specs.Valid.{IsSmall, IsKept, IsIndexedTerm, IsVector, AreNorms, IsValid, IsStorable}
 use Rattle.lu_model.proofs.Words.{IsIn, Each, value_in, vector_in, has_vectors, norm_if_any, IsTerm, IsValue, CanBeWritten, Apart, norms_in, IsText}
 use Rattle.lu_model.proofs.Among.{from_flat_map, from_map, in_map}
@@ -45,11 +45,11 @@ pub terms_again : (table : List TableField) (contents : List Content) (terms : L
 terms_again table contents [] h = refl
 terms_again table contents (t ∷ terms) h = λ i. h t (inl refl) i ∷ terms_again table contents terms (λ u k. h u (inr k)) i
 
-norm_byte : (fields : List IndexedField) (name : List ℕ) → Each IsIndexedField fields → unwrap_or (norm_if_any (find (λ (field : IndexedField). bytes_eq name field.field) fields)) MISSING_NORM < 256
+norm_byte : (fields : List IndexedField) (name : List ℕ) → Each IsIndexedField fields → unwrap_or (norm_if_any (find (λ (field : IndexedField). bytes_eq name field.field) fields)) missing_norm < 256
 norm_byte [] name h = lit< tt
 norm_byte (f ∷ fields) name h =
-    elim (bytes_eq name f.field) as (λ b. unwrap_or (norm_if_any (cond b (Some f) (find (λ (field : IndexedField). bytes_eq name field.field) fields))) MISSING_NORM < 256) [
-      | true ↦ elim f.norm as (λ o. IfSome o (λ norm. norm < 256) → unwrap_or o MISSING_NORM < 256) [ None ↦ λ k. lit< tt | Some byte ↦ λ k. k ] h.0.norm
+    elim (bytes_eq name f.field) as (λ b. unwrap_or (norm_if_any (cond b (Some f) (find (λ (field : IndexedField). bytes_eq name field.field) fields))) missing_norm < 256) [
+      | true ↦ elim f.norm as (λ o. IfSome o (λ norm. norm < 256) → unwrap_or o missing_norm < 256) [ None ↦ λ k. lit< tt | Some byte ↦ λ k. k ] h.0.norm
       | false ↦ norm_byte fields name h.1
     ]
 
@@ -119,13 +119,13 @@ module _ (table : List TableField) (docs : List Document) (limits : Limits) (ok 
   norms_are : (more : List TableField) → AllZip (AreNorms (length contents)) more (map (norms_in contents) more)
   norms_are [] = tt
   norms_are (f ∷ more) =
-      let bytes = map (λ (content : Content). unwrap_or (content.norm f.name) MISSING_NORM) contents in
+      let bytes = map (λ (content : Content). unwrap_or (content.norm f.name) missing_norm) contents in
       let one : AreNorms (length contents) f (norms_in contents f) =
       elim (has_norms f.bits) as (λ b. has_norms f.bits ≡ b → AreNorms (length contents) f (cond b (Some bytes) None)) [
         | true ↦ λ e. (
           e,
-          length-map contents (λ (content : Content). unwrap_or (content.norm f.name) MISSING_NORM),
-          are_bytes bytes (each_map (λ byte. byte < 256) (λ (content : Content). unwrap_or (content.norm f.name) MISSING_NORM) contents (each_content (λ content. unwrap_or (content.norm f.name) MISSING_NORM < 256) (λ doc h. norm_byte doc.indexed f.name (each-from_all IsIndexedField doc.indexed (ok.documents doc h).indexed)))),
+          length-map contents (λ (content : Content). unwrap_or (content.norm f.name) missing_norm),
+          are_bytes bytes (each_map (λ byte. byte < 256) (λ (content : Content). unwrap_or (content.norm f.name) missing_norm) contents (each_content (λ content. unwrap_or (content.norm f.name) missing_norm < 256) (λ doc h. norm_byte doc.indexed f.name (each-from_all IsIndexedField doc.indexed (ok.documents doc h).indexed)))),
         )
         | false ↦ λ e. e
       ] refl in

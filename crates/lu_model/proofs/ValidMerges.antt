@@ -6,10 +6,10 @@ use Rattle.std.specs.List.Sorted.{IsStrictlySortedBy}
 use Rattle.std.proofs.lemmas.Bool.{cases_lt}
 use Rattle.std.proofs.lemmas.List.{length-map}
 use Rattle.lu_types.specs.Tables.{TableField}
-use Rattle.lu_types.specs.declared.bits.TheConstants.{VECTORS}
+use Rattle.lu_types.specs.Bits as bit
 use Rattle.lu_types.specs.Joins.{join_all}
 use Rattle.lu_model.specs.Index.{Term, term_cmp, in_order, IndexedTerm, FieldVector, Index}
-use Rattle.lu_model.specs.Contents.{Content, MISSING_NORM, bits_of, content_at, field_at, field_number, has_norms, index_of, indexed_term, live_contents, merge_of, name_of}
+use Rattle.lu_model.specs.Contents.{Content, missing_norm, bits_of, content_at, field_at, field_number, has_norms, index_of, indexed_term, live_contents, merge_of, name_of}
 use Rattle.lu_model.specs.Valid.{IsSmall, IsIndexedTerm, IsVector, AreNorms, IsValid}
 use Rattle.lu_model.proofs.Words.{IsIn, Each, EachPair, no_field, value_in, vector_in, has_vectors, byte_of, IsValue, CanBeMerged, Apart, norms_in, vector_by_name, IsText}
 use Rattle.lu_model.proofs.Among.{from_map, from_filter}
@@ -37,14 +37,14 @@ module _ (indexes : List Index) (ok : CanBeMerged indexes) where
   abbrev keys : List Term
   keys = in_order term_cmp (flat_map (λ content. content.terms) contents)
 
-  norm_small : (name : List ℕ) (index : Index) → IsIn index indexes → (n : ℕ) → (found : Option (List ℕ)) → get_or index.norms (field_number name index.fields) None ≡ found → unwrap_or (byte_of n found) MISSING_NORM < 256
+  norm_small : (name : List ℕ) (index : Index) → IsIn index indexes → (n : ℕ) → (found : Option (List ℕ)) → get_or index.norms (field_number name index.fields) None ≡ found → unwrap_or (byte_of n found) missing_norm < 256
   norm_small name index h n None q = lit< tt
   norm_small name index h n (Some bytes) q = norm_bytes index.size index.fields index.norms (field_number name index.fields) bytes (valid indexes ok.valid index h).norms q n
 
   norms_are : (more : List TableField) → AllZip (AreNorms (length contents)) more (map (norms_in contents) more)
   norms_are [] = tt
   norms_are (f ∷ more) =
-      let norm = λ (content : Content). unwrap_or (content.norm f.name) MISSING_NORM in
+      let norm = λ (content : Content). unwrap_or (content.norm f.name) missing_norm in
       let one : AreNorms (length contents) f (norms_in contents f) =
       elim (has_norms f.bits) as (λ b. has_norms f.bits ≡ b → AreNorms (length contents) f (cond b (Some (map norm contents)) None)) [
         | true ↦ λ e. (e, length-map contents norm, are_bytes (map norm contents) (each_map (λ byte. byte < 256) norm contents (each_content indexes ok.valid (λ c. norm c < 256) (λ index h n l. norm_small f.name index h n (get_or index.norms (field_number f.name index.fields) None) refl))))
@@ -103,8 +103,8 @@ module _ (indexes : List Index) (ok : CanBeMerged indexes) where
       (pair_map (λ (v w : (FieldVector (List ℕ))). field_number v.field table ≢ field_number w.field table) (vector_by_name index.fields) (vectors_at index n)
       (pair_weaker (λ (v w : (FieldVector ℕ)). field_number (name_of index.fields v.field) table ≢ field_number (name_of index.fields w.field) table) (λ (v w : (FieldVector ℕ)). v.field ≢ w.field) (vectors_at index n)
       (λ v w p q differ same.
-      let low = bit_within VECTORS index.fields v.field refl (vector_right index h n l v p).field in
-      let high = bit_within VECTORS index.fields w.field refl (vector_right index h n l w q).field in
+      let low = bit_within bit.vectors index.fields v.field refl (vector_right index h n l v p).field in
+      let high = bit_within bit.vectors index.fields w.field refl (vector_right index h n l w q).field in
       names_differ index h v.field w.field low high differ (sym (name_at-Has table (field_at v.field index.fields) (has_at indexes ok.valid index h v.field low)) ∙ ap (name_of table) same ∙ name_at-Has table (field_at w.field index.fields) (has_at indexes ok.valid index h w.field high)))
       (each-from_pairs Apart (vectors_at index n) (each_at (AllPairs Apart) (vectors_at index n) index.vectors (valid indexes ok.valid index h).apart (vectors_of index h n l))))))
 

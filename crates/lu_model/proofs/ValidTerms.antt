@@ -11,7 +11,7 @@ use Rattle.lu_prims.proofs.OrderLemmas.{nat_less}
 use mathlib.Core.Bool.{true≢false}
 use Rattle.lu_types.specs.Bits.{has_bit}
 use Rattle.lu_types.specs.Tables.{TableField}
-use Rattle.lu_types.specs.declared.bits.TheConstants.{PAYLOADS, OMIT_TF}
+use Rattle.lu_types.specs.Bits as bit
 use Rattle.lu_types.specs.declared.document.Document.{Document}
 use Rattle.lu_types.specs.declared.document.IndexedField.{IndexedField}
 use Rattle.lu_types.specs.declared.document.Token.{Token}
@@ -130,10 +130,10 @@ module _ (table : List TableField) (doc : Document) (limits : Limits) (small : I
       let fewer = length_filter-le (λ (token : Token). bytes_eq term.text token.text) f.tokens in
       let few : length f.tokens ≤ limits.tokens = right.few in
       let count : length (map occurrence tokens) ≡ length tokens = length-map tokens occurrence in
-      elim (has_bit OMIT_TF (bits_of term.field table)) as (λ b. has_bit OMIT_TF (bits_of term.field table) ≡ b → IsKept (bits_of term.field table) (cond b omitted o)) [
+      elim (has_bit bit.omit_tf (bits_of term.field table)) as (λ b. has_bit bit.omit_tf (bits_of term.field table) ≡ b → IsKept (bits_of term.field table) (cond b omitted o)) [
         | true ↦ λ t. t
         | false ↦ λ t.
-            let no_omit : f.omit_tf ≡ false = turned_false (has_bit OMIT_TF (bits_of term.field table)) f.omit_tf (λ q. says.omit_tf (omit_tf-asked f.vector (is_some f.norm) f.omit_tf (has_payloads f) ∙ q)) t in
+            let no_omit : f.omit_tf ≡ false = turned_false (has_bit bit.omit_tf (bits_of term.field table)) f.omit_tf (λ q. says.omit_tf (omit_tf-asked f.vector (is_some f.norm) f.omit_tf (has_payloads f) ∙ q)) t in
             subst (IsKept (bits_of term.field table)) (sym is.0) (
               t,
               record {
@@ -145,7 +145,7 @@ module _ (table : List TableField) (doc : Document) (limits : Limits) (small : I
                     let of = each_at IsToken token f.tokens (each-from_all IsToken f.tokens (made_field f s.inside).tokens) (from_filter (λ (token : Token). bytes_eq term.text token.text) token f.tokens k).0 in
                     (small_place token.position one.position, (of.payload, small_bytes (length token.payload) one.payload))));
                 payloads = λ q.
-                    let asked : (not f.omit_tf && has_payloads f) ≡ false = turned_false (has_bit PAYLOADS (bits_of term.field table)) (not f.omit_tf && has_payloads f) (λ p. says.payloads (payloads-asked f.vector (is_some f.norm) f.omit_tf (has_payloads f) ∙ p)) q in
+                    let asked : (not f.omit_tf && has_payloads f) ≡ false = turned_false (has_bit bit.payloads (bits_of term.field table)) (not f.omit_tf && has_payloads f) (λ p. says.payloads (payloads-asked f.vector (is_some f.norm) f.omit_tf (has_payloads f) ∙ p)) q in
                     let none : has_payloads f ≡ false = ap (λ b. not b && has_payloads f) (sym no_omit) ∙ asked in
                     each_map (λ (o : Occurrence). o.payload ≡ []) occurrence tokens (each_filter (λ (token : Token). token.payload ≡ []) (λ (token : Token). bytes_eq term.text token.text) f.tokens (no_payload f.tokens none));
               },

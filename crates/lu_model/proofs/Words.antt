@@ -9,7 +9,7 @@ use Rattle.lu_types.specs.Documents.{IsDocument}
 use Rattle.lu_types.specs.Joins.{is_empty, has_vector, Covers}
 use Rattle.lu_types.specs.StoredFields.{StoredField}
 use Rattle.lu_types.specs.Tables.{TableField, IsTable}
-use Rattle.lu_types.specs.declared.bits.TheConstants.{VECTORS}
+use Rattle.lu_types.specs.Bits as bit
 use Rattle.lu_types.specs.declared.document.Document.{Document}
 use Rattle.lu_types.specs.declared.document.IndexedField.{IndexedField}
 use Rattle.lu_types.specs.declared.document.Limits.{Limits}
@@ -17,7 +17,7 @@ use Rattle.lu_types.specs.declared.document.Token.{Token}
 use Rattle.lu_types.specs.declared.stored.Stored.TheVariants.{Text}
 use Rattle.lu_types.specs.declared.stored.StoredValue.{StoredValue}
 use Rattle.lu_model.specs.Index.{Term, Entry, IndexedTerm, VectorTerm, FieldVector, Index}
-use Rattle.lu_model.specs.Contents.{Content, MISSING_NORM, bits_of, field_number, has_norms, kept, left_of, live_from, merge_of, name_of, tokens_with, under}
+use Rattle.lu_model.specs.Contents.{Content, missing_norm, bits_of, field_number, has_norms, kept, left_of, live_from, merge_of, name_of, tokens_with, under}
 use Rattle.lu_model.specs.Valid.{IsSmall, IsStorable, IsValid}
 
 -- ---- items of lists
@@ -75,7 +75,7 @@ entry_of table term numbered =
 -- the norms of a field, one for each document, if the field has norms
 abbrev pub norms_in : List Content → TableField → Option (List ℕ)
 norms_in contents field =
-    cond (has_norms field.bits) (Some (map (λ content. unwrap_or (content.norm field.name) MISSING_NORM) contents)) None
+    cond (has_norms field.bits) (Some (map (λ content. unwrap_or (content.norm field.name) missing_norm) contents)) None
 
 -- a stored value of a table with so many fields
 abbrev pub IsValue : ℕ → StoredField → Type 0
@@ -94,7 +94,7 @@ IsText text = IsStorable (Text text)
 
 -- the field of the vector has vectors
 abbrev pub has_vectors : List TableField → (FieldVector (List ℕ)) → Bool
-has_vectors table vector = has_bit VECTORS (bits_of vector.field table)
+has_vectors table vector = has_bit bit.vectors (bits_of vector.field table)
 
 -- vectors of two fields
 abbrev pub Apart : (FieldVector ℕ) → (FieldVector ℕ) → Type 0

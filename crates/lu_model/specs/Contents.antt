@@ -9,7 +9,7 @@ use Rattle.lu_types.specs.Bits.{has_bit}
 use Rattle.lu_types.specs.Joins.{is_empty, has_vector, keeps_positions, keeps_offsets, bit_if, join_all, table_of}
 use Rattle.lu_types.specs.StoredFields.{StoredField}
 use Rattle.lu_types.specs.Tables.{TableField}
-use Rattle.lu_types.specs.declared.bits.TheConstants.{INDEXED, VECTORS, OMIT_NORMS, OMIT_TF}
+use Rattle.lu_types.specs.Bits as bit
 use Rattle.lu_types.specs.declared.document.Document.{Document}
 use Rattle.lu_types.specs.declared.document.IndexedField.{IndexedField}
 use Rattle.lu_types.specs.declared.document.Token.{Token}
@@ -34,11 +34,11 @@ bits_of name table = (field_at (field_number name table) table).bits
 
 -- a field has norms where it is indexed and does not omit them
 abbrev pub has_norms : ℕ → Bool
-has_norms bits = has_bit INDEXED bits && not (has_bit OMIT_NORMS bits)
+has_norms bits = has_bit bit.indexed bits && not (has_bit bit.omit_norms bits)
 
 -- a norm that is missing
-abbrev pub MISSING_NORM : ℕ
-MISSING_NORM = 124
+abbrev pub missing_norm : ℕ
+missing_norm = 124
 
 -- what a document holds: its stored values, its terms, what is known of each in it, the norm for each name of a field, its vectors
 pub record Content : Type 0 where
@@ -57,11 +57,11 @@ stored_in table values =
 abbrev pub vectors_in : List TableField → List (FieldVector (List ℕ)) → List (FieldVector ℕ)
 vectors_in table vectors =
     map (λ vector. record { field = field_number vector.field table; bits = vector.bits; terms = vector.terms })
-    (filter (λ vector. has_bit VECTORS (bits_of vector.field table)) vectors)
+    (filter (λ vector. has_bit bit.vectors (bits_of vector.field table)) vectors)
 
 -- what a field with these bits keeps of a term in a document: where it omits frequencies and positions, only that the term is there
 abbrev pub kept : ℕ → Occurrences → Occurrences
-kept bits occurrences = cond (has_bit OMIT_TF bits) omitted occurrences
+kept bits occurrences = cond (has_bit bit.omit_tf bits) omitted occurrences
 
 -- a term with the documents in which it stands, in order
 abbrev pub indexed_term : List TableField → List Content → Term → IndexedTerm
@@ -86,7 +86,7 @@ index_of table contents = record {
   stored = map (λ content. stored_in table content.stored) contents;
   terms = map (indexed_term table contents) (in_order term_cmp (flat_map (λ content. content.terms) contents));
   norms = map (λ field.
-      cond (has_norms field.bits) (Some (map (λ content. unwrap_or (content.norm field.name) MISSING_NORM) contents)) None) table;
+      cond (has_norms field.bits) (Some (map (λ content. unwrap_or (content.norm field.name) missing_norm) contents)) None) table;
   vectors = map (λ content. vectors_in table content.vectors) contents;
   deleted = [];
 }

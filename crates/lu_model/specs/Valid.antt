@@ -8,7 +8,7 @@ use Rattle.lu_prims.specs.Order.{text_cmp}
 use Rattle.lu_types.specs.Bits.{has_bit}
 use Rattle.lu_types.specs.Documents.{IsStored, content_of}
 use Rattle.lu_types.specs.Tables.{TableField, IsTable}
-use Rattle.lu_types.specs.declared.bits.TheConstants.{INDEXED, VECTORS, PAYLOADS, OMIT_TF}
+use Rattle.lu_types.specs.Bits as bit
 use Rattle.lu_types.specs.declared.stored.Stored.{Stored}
 use Rattle.lu_types.specs.declared.stored.Stored.TheVariants.{Text, Binary}
 use Rattle.lu_model.specs.Index.{term_cmp, Occurrence, Occurrences, given, omitted, IndexedTerm, VectorTerm, FieldVector, Index}
@@ -28,16 +28,16 @@ pub record AreOccurrences (bits : ℕ) (occurrences : List Occurrence) : Type 0 
   pub few : IsSmall (length occurrences)
   pub rise : IsNonDecreasing (map (λ o. o.position) occurrences)
   pub small : Each (λ o. IsSmall o.position × IsStorable (Binary o.payload)) occurrences
-  pub payloads : has_bit PAYLOADS bits ≡ false → Each (λ o. o.payload ≡ []) occurrences
+  pub payloads : has_bit bit.payloads bits ≡ false → Each (λ o. o.payload ≡ []) occurrences
 
 -- what a field with these bits keeps of a term in a document: occurrences are omitted exactly where the field omits them
 abbrev pub IsKept : ℕ → Occurrences → Type 0
-IsKept bits (given occurrences) = (has_bit OMIT_TF bits ≡ false) × AreOccurrences bits occurrences
-IsKept bits omitted = has_bit OMIT_TF bits ≡ true
+IsKept bits (given occurrences) = (has_bit bit.omit_tf bits ≡ false) × AreOccurrences bits occurrences
+IsKept bits omitted = has_bit bit.omit_tf bits ≡ true
 
 -- a term of an index with so many documents, in a field with these bits: it has an entry, and its documents rise
 pub record IsIndexedTerm (size bits : ℕ) (term : IndexedTerm) : Type 0 where
-  pub indexed : has_bit INDEXED bits ≡ true
+  pub indexed : has_bit bit.indexed bits ≡ true
   pub text : IsStorable (Text term.text)
   pub some : 0 < length term.entries
   pub rise : IsStrictlySortedBy nat_cmp (map (λ entry. entry.document) term.entries)
@@ -60,7 +60,7 @@ pub record IsVectorTerm (bits : ℕ) (term : VectorTerm) : Type 0 where
 
 -- a vector of a document
 pub record IsVector (fields : List TableField) (vector : FieldVector ℕ) : Type 0 where
-  pub field : has_bit VECTORS (field_at vector.field fields).bits ≡ true
+  pub field : has_bit bit.vectors (field_at vector.field fields).bits ≡ true
   pub bits : vector.bits < 4
   pub few : IsSmall (length vector.terms)
   pub rise : IsStrictlySortedBy text_cmp (map (λ term. term.text) vector.terms)

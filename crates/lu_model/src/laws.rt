@@ -11,7 +11,7 @@ ghost use Rattle.lu_types.specs.Tables.{TableField, IsTable, number_of};
 ghost use Rattle.lu_types.specs.declared.document.Document.{Document};
 ghost use Rattle.lu_types.specs.declared.document.Limits.{Limits};
 ghost use Rattle.lu_types.specs.declared.stored.Stored.TheVariants.{Text};
-ghost use Rattle.lu_model.specs.Contents.{AreTerms, Content, MISSING_NORM, after, content_at, content_of, field_number, has_norms, index_of_documents, is_deleted, joined_table, left_of, live, live_contents, merge_of, merged_term, runs, stored_in, term_of, under, vectors_in, without_term};
+ghost use Rattle.lu_model.specs.Contents.{AreTerms, Content, missing_norm, after, content_at, content_of, field_number, has_norms, index_of_documents, is_deleted, joined_table, left_of, live, live_contents, merge_of, merged_term, runs, stored_in, term_of, under, vectors_in, without_term};
 ghost use Rattle.lu_model.specs.Index.{Entry, Index, Term, in_order, term_cmp};
 ghost use Rattle.lu_model.specs.Valid.{IsSmall, IsStorable, IsValid};
 
@@ -68,7 +68,7 @@ pub fn merged_by_source()
     ensures vectors { (indexes : List Index) → (merge_of indexes).vectors
         ≡ flat_map (λ index. map (λ document. vectors_in (joined_table indexes) (content_at index document).vectors) (live index)) indexes }
     ensures norms { (indexes : List Index) → (merge_of indexes).norms ≡ map (λ field. cond (has_norms field.bits) (Some
-        (flat_map (λ index. map (λ document. unwrap_or ((content_at index document).norm field.name) MISSING_NORM) (live index)) indexes)) None)
+        (flat_map (λ index. map (λ document. unwrap_or ((content_at index document).norm field.name) missing_norm) (live index)) indexes)) None)
         (joined_table indexes) }
     ensures terms { (indexes : List Index) → All IsValid indexes → (merge_of indexes).terms
         ≡ filter (λ term. not (is_empty term.entries)) (map (merged_term indexes)

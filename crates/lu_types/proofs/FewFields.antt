@@ -1,11 +1,10 @@
 -- A table to which fields of different names were joined has as many fields at least.
-use Rattle.std.proofs.Common.{◌≡◌, ◌≢◌, ℕ, zero, suc, ◌+◌, ◌<◌, ◌≤◌, Bool, true, false, cond, List, [], ◌∷◌, ◌++◌, Option, Some, None, length, map, eqb, refl, sym, ap, subst, ◌∙◌, arith, get_or, flat_map, ltb-true}
-use Rattle.std.specs.Prelude.{not, ◌||◌, is_some, nat_lt, Contains, slice_index_or}
-use Rattle.std.specs.List.{fold, list_any, position_or_len, AllByRecursion, IsDistinct}
+use Rattle.std.proofs.Common.{◌≡◌, ◌≢◌, ℕ, zero, suc, ◌+◌, ◌<◌, ◌≤◌, Bool, true, false, cond, List, [], ◌∷◌, None, length, map, eqb, refl, sym, ap, subst, ◌∙◌, arith, get_or, flat_map}
+use Rattle.std.specs.Prelude.{not, ◌||◌, Contains, slice_index_or}
+use Rattle.std.specs.List.{list_any, position_or_len, AllByRecursion, IsDistinct}
 use Rattle.std.specs.Str.{bytes_eq}
 use Rattle.std.specs.Cmp.Lexicographic.{bytes_decides}
 use Rattle.std.proofs.lemmas.Bool.{eqb-true}
-use Rattle.std.proofs.lemmas.Bool.Decides.{eqb_tells}
 use Rattle.std.proofs.lemmas.List.{length-map}
 use Rattle.std.proofs.lemmas.List.Sums.{fold-append, passes_at_first}
 use Rattle.std.proofs.lemmas.Map.Steps.{length-le_from_distinct_below}

@@ -1,16 +1,12 @@
 -- Rows of the definitions: the faults of documents, and what joins make of bits.
-use Rattle.std.specs.Prelude.{◌≡◌, ℕ, ◌+◌, List, [], ◌∷◌, Option, Some, None, codes, refl, replicate}
+use Rattle.std.specs.Prelude.{◌≡◌, ℕ, List, [], ◌∷◌, Option, Some, None, codes, refl, replicate}
 use Rattle.std.proofs.Common.{lit≤}
-use Rattle.lu_types.specs.Bounds.{most_documents, most_tokens, most_file_bytes}
-use Rattle.lu_types.specs.Tables.{TableField, number_of}
 use Rattle.lu_types.specs.DocFaults.{doc_fault}
 use Rattle.lu_types.specs.Joins.{join_bits, join_field, join_all, asked_bits, table_of}
-use Rattle.lu_types.specs.declared.document.Document.{Document}
 use Rattle.lu_types.specs.declared.document.IndexedField.{IndexedField}
 use Rattle.lu_types.specs.declared.document.Token.{Token}
 use Rattle.lu_types.specs.declared.document.Limits.{Limits}
-use Rattle.lu_types.specs.declared.document.Vector.{Vector}
-use Rattle.lu_types.specs.declared.document.Vector.TheVariants.{Off, Plain, Positions, Offsets, Both}
+use Rattle.lu_types.specs.declared.document.Vector.TheVariants.{Off, Positions, Offsets, Both}
 use Rattle.lu_types.specs.declared.document.DocFault.{DocFault}
 use Rattle.lu_types.specs.declared.document.DocFault.TheVariants.{NameLong, TextLong, PositionOrder, OffsetOrder, PayloadLong, FieldTwice, TokensMany}
 use Rattle.lu_types.specs.declared.stored.Stored.TheVariants.{Text}

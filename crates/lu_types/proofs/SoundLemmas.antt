@@ -1,7 +1,7 @@
 -- A document that breaks no limit has no fault.
-use Rattle.std.proofs.Common.{◌≡◌, ◌≢◌, ℕ, ◌<◌, ◌≤◌, Bool, true, false, List, [], ◌∷◌, ◌++◌, Option, Some, None, length, map, refl, sym, ap, ◌∙◌, arith}
+use Rattle.std.proofs.Common.{◌≡◌, ◌≢◌, ℕ, ◌≤◌, Bool, true, false, List, [], ◌∷◌, ◌++◌, Option, None, length, map, refl, sym, ap, ◌∙◌, arith}
 use Rattle.std.specs.Prelude.{nat_lt, ◌||◌}
-use Rattle.std.specs.List.{list_any, AllByRecursion}
+use Rattle.std.specs.List.{AllByRecursion}
 use Rattle.std.specs.Str.{bytes_eq}
 use Rattle.std.specs.Cmp.Lexicographic.{bytes_decides}
 use Rattle.std.proofs.lemmas.Bool.Decides.{nat_tests}
@@ -13,7 +13,7 @@ use Rattle.lu_types.specs.declared.document.Limits.{Limits}
 use Rattle.lu_types.specs.declared.document.DocFault.{DocFault}
 use Rattle.lu_types.specs.declared.document.DocFault.TheVariants.{NameLong, TextLong, PositionOrder, OffsetOrder, PayloadLong, FieldTwice, TokensMany}
 use Rattle.lu_types.specs.declared.stored.StoredValue.{StoredValue}
-use Rattle.lu_types.specs.DocFaults.{fault_if, first_fault, is_named, token_fault, tokens_fault, named_field_fault, field_fault, fields_fault, values_fault, doc_fault, IsSoundToken, AreSoundTokens, IsSoundField, AreApart, IsSound}
+use Rattle.lu_types.specs.DocFaults.{fault_if, first_fault, is_named, token_fault, tokens_fault, named_field_fault, fields_fault, values_fault, doc_fault, IsSoundToken, AreSoundTokens, IsSoundField, AreApart, IsSound}
 
 -- a fault that is none, before others
 after_none : (f : Option DocFault) (fs : List (Option DocFault)) → f ≡ None → first_fault fs ≡ None → first_fault (f ∷ fs) ≡ None

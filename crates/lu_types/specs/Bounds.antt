@@ -1,4 +1,4 @@
--- The greatest lengths, places and counts (docs/FORMAT.md, "Documents").
+-- The greatest lengths, places and counts (format page, "Documents").
 use Rattle.std.specs.Prelude.{ℕ}
 
 -- the greatest length of a name, of the text of a term and of a payload, in bytes

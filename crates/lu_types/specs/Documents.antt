@@ -1,4 +1,4 @@
--- What each document of the program is made of: texts and bytes.
+-- What each document of the program is made of: texts and bytes (format page, "Documents").
 use Rattle.std.specs.Prelude.{ℕ, ◌<◌, List, All, IfSome}
 use Rattle.std.specs.Str.{IsUtf8}
 use Rattle.lu_grammar.specs.Bytes.{IsBytes}

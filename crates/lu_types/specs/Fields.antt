@@ -1,4 +1,4 @@
--- What a field of the program is in a table.
+-- What a lent field is in a table (format page, "Field tables").
 use Rattle.lu_types.specs.Tables.{TableField}
 use Rattle.lu_types.specs.declared.field.Field.{Field}
 

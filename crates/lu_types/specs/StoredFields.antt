@@ -1,4 +1,4 @@
--- Stored values by the numbers of their fields.
+-- Stored values by the numbers of their fields (format page, "Stored documents").
 use Rattle.std.specs.Prelude.{ℕ, Bool}
 use Rattle.lu_types.specs.declared.stored.Stored.{Stored}
 

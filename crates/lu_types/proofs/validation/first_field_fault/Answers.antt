@@ -1,11 +1,9 @@
-use Rattle.std.proofs.Common.{◌≡◌, List, Bool, Some, None, take, map, ap, ◌∙◌, sym, subst}
+use Rattle.std.proofs.Common.{◌≡◌, Some, None, take, ap, ◌∙◌, sym, subst}
 use Rattle.std.specs.Prelude.{is_some}
 use Rattle.std.proofs.lemmas.List.Elements.{All-more}
-use Rattle.lu_types.specs.Tables.{TableField, number_of}
-use Rattle.lu_types.specs.Joins.{join_field}
 use Rattle.lu_types.specs.DocFaults.{is_named, named_field_fault}
 use Rattle.lu_types.specs.Documents.{IsIndexedField}
-use Rattle.lu_types.proofs.TwiceLemmas.{named, is_named-table, next_passes, next_fails, join_named}
+use Rattle.lu_types.proofs.TwiceLemmas.{is_named-table, next_passes, next_fails, join_named}
 use Rattle.lu_types.proofs.validation.first_field_fault.Goals as goal
 
 pub returns-in-Some-clause-fault : goal.returns-in-Some-clause-fault

@@ -2,7 +2,6 @@ use Rattle.std.proofs.Common.{◌≡◌, ◌∷◌, ◌++◌, [], List, Some, No
 use Rattle.std.proofs.lemmas.List.{map-append, length-map}
 use Rattle.lu_types.specs.Tables.{TableField, number_of, HasNumbers}
 use Rattle.lu_types.specs.Fields.{table_field}
-use Rattle.lu_types.specs.Joins.{join_field}
 use Rattle.lu_types.proofs.JoinLemmas.{join_field-new}
 use Rattle.lu_types.proofs.NumberLemmas.{HasNumbers_push, number_of-new}
 use Rattle.lu_types.proofs.joined.JoinedTable.push.Goals as goal

@@ -11,7 +11,8 @@ use Rattle.lu_grammar.specs.Reading.{value_or}
 use Rattle.lu_grammar.specs.Plans.{Plan, done, and_then, each, Broken, read_file}
 use Rattle.lu_grammar.proofs.Codecs.{ok_of, Writes, read_file-Writes, Writes-due, Writes-done, Writes-and_then}
 use Rattle.stored_fields.specs.Format.{store_format, header_length}
-use Rattle.stored_fields.specs.Values.{StoredField, Document}
+use Rattle.lu_types.specs.StoredFields.{StoredField}
+use Rattle.stored_fields.specs.Values.{Document}
 use Rattle.stored_fields.specs.Documents.{FdtRecord, format, header_shape}
 use Rattle.stored_fields.specs.Stores.{total_of}
 use Rattle.stored_fields.specs.Writing.{IsStorable, IsStorableDocument, AreStorable, value_bytes, document_bytes, fdt_bytes, places_from, place_bytes, fdx_bytes, OpenDocument, HeldDocuments, with_document, with_begun, one_longer, with_longer, with_stored}

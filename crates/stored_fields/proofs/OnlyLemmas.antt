@@ -16,7 +16,8 @@ use Rattle.lu_grammar.proofs.Records.{TakesRecord, ShapeJudges, read_shape-judge
 use Rattle.lu_grammar.proofs.Loops.{one-was}
 use Rattle.stored_fields.specs.Format.{bit_tokenized, bit_binary}
 use Rattle.lu_types.specs.Bits.{has_bit}
-use Rattle.stored_fields.specs.Values.{StoredField, Document, StoredEntry, content_shape, stored}
+use Rattle.lu_types.specs.StoredFields.{StoredField}
+use Rattle.stored_fields.specs.Values.{Document, StoredEntry, content_shape, stored}
 use Rattle.stored_fields.specs.Documents.{FdtRecord, value, value_shape, has_other_bit, stored_entry_conditions, value_conditions, with_value, values_kind, count_of, count_shape, start_conditions, document_at}
 use Rattle.stored_fields.specs.Writing.{IsStorable, IsStorableDocument, value_bits, value_bytes, document_bytes}
 use Rattle.stored_fields.proofs.WriteLemmas.{IsField}

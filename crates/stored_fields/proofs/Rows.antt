@@ -9,7 +9,8 @@ use Rattle.stored_fields.specs.Writing.{fdx_bytes, fdt_bytes, HeldDocuments, wit
 use Rattle.lu_grammar.specs.Reading.{read, read_groups}
 use Rattle.lu_grammar.specs.Records.{record_at}
 use Rattle.lu_grammar.specs.Plans.{each, Broken, read_plan, read_file}
-use Rattle.stored_fields.specs.Values.{StoredField, Document}
+use Rattle.lu_types.specs.StoredFields.{StoredField}
+use Rattle.stored_fields.specs.Values.{Document}
 use Rattle.stored_fields.specs.Places.{fdx_plan}
 use Rattle.stored_fields.specs.Documents.{fdt_plan}
 

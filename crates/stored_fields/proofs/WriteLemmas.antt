@@ -12,7 +12,8 @@ use Rattle.lu_grammar.specs.Plans.{Plan, done, and_then, Kind, one, times, each}
 use Rattle.lu_grammar.proofs.Codecs.{Spells-followed, Writes, Writes-due, Writes-done, Writes-and_then, Writes-none}
 use Rattle.stored_fields.specs.Format.{bit_tokenized, bit_binary}
 use Rattle.lu_types.specs.Bits.{has_bit}
-use Rattle.stored_fields.specs.Values.{StoredField, Document, StoredEntry, content_shape, stored_entry_shape, stored}
+use Rattle.lu_types.specs.StoredFields.{StoredField}
+use Rattle.stored_fields.specs.Values.{Document, StoredEntry, content_shape, stored_entry_shape, stored}
 use Rattle.stored_fields.specs.Documents.{FdtRecord, count, value, count_of, count_shape, value_shape, value_conditions, has_other_bit, with_value, values_kind}
 use Rattle.stored_fields.specs.Writing.{IsStorableValue, IsStorable, value_bits, content_bytes, value_bytes, IsStorableDocument, AreStorable, document_bytes, OpenDocument}
 use Rattle.stored_fields.specs.InnerWriting.{open_plan, finished_plan, open_bytes}

@@ -46,7 +46,9 @@ value_shape = followed stored_entry_shape (λ entry. whole (value entry))
 
 -- the field of a value must be one of so many, where this is asked, and its bits must mean something
 abbrev pub stored_entry_conditions : Bool → ℕ → ℕ → ℕ → List Condition
-stored_entry_conditions asked fields field bits = record { rule = rules.stored_field; broken = asked && nat_le fields field } ∷ record { rule = rules.stored_bits; broken = has_other_bit bits } ∷ []
+stored_entry_conditions asked fields field bits =
+    record { rule = rules.stored_field; broken = asked && nat_le fields field }
+    ∷ record { rule = rules.stored_bits; broken = has_other_bit bits } ∷ []
 
 -- the same of a record that is a value
 abbrev pub value_conditions : Bool → ℕ → FdtRecord → List Condition
@@ -77,7 +79,8 @@ is_within window number = nat_le window.offset number && nat_lt number (window.o
 
 -- a document, which starts at a place, and of whose values the fields are looked up or not
 abbrev pub document_plan : Bool → ℕ → ℤ → Plan Document FdtRecord
-document_plan asked fields wanted = due count_shape (λ place _. start_conditions wanted place) (λ _ r. times (values_kind asked fields) (count_of r) [])
+document_plan asked fields wanted =
+    due count_shape (λ place _. start_conditions wanted place) (λ _ r. times (values_kind asked fields) (count_of r) [])
 
 -- the same after the documents so far
 abbrev pub document_at : Bool → ℕ → ℤ → List Document → Plan (List Document) FdtRecord
@@ -85,7 +88,8 @@ document_at asked fields wanted documents = and_then (document_plan asked fields
 
 -- the next document of a store with these places
 abbrev pub next_document : Window → ℕ → List ℤ → List Document → Plan (List Document) FdtRecord
-next_document window fields places documents = document_at (is_within window (length documents)) fields (get_or places (length documents) (pos 0)) documents
+next_document window fields places documents =
+    document_at (is_within window (length documents)) fields (get_or places (length documents) (pos 0)) documents
 
 -- `.fdt` of a store with these places, of which a segment with so many fields takes the documents in the window: its header, and the documents
 abbrev pub fdt_plan : Window → ℕ → List ℤ → Plan (List Document) FdtRecord

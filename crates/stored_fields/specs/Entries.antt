@@ -5,7 +5,8 @@ use Rattle.stored_fields.specs.declared.value.ValueRef.{ValueRef}
 use Rattle.stored_fields.specs.declared.value.ValueRef.TheVariants as lent
 use Rattle.stored_fields.specs.declared.value.StoredRef.{StoredRef}
 use Rattle.stored_fields.specs.declared.entry.EntryRef.{EntryRef}
-use Rattle.stored_fields.specs.Values.{StoredField, StoredEntry}
+use Rattle.lu_types.specs.StoredFields.{StoredField}
+use Rattle.stored_fields.specs.Values.{StoredEntry}
 
 -- what a lent value is
 abbrev pub value_of : ValueRef → Stored

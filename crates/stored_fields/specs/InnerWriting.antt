@@ -13,7 +13,9 @@ use Rattle.stored_fields.specs.Writing.{IsStorable, AreStorable, value_bytes, fd
 
 -- a document that lacks so many of its values
 abbrev pub open_plan : ℕ → Plan OpenDocument FdtRecord
-open_plan lacks = due count_shape (λ _ _. []) (λ _ r. and_then (times (values_kind false 0) (count_of r - lacks) []) (λ values. done (record { announced = count_of r; values = values })))
+open_plan lacks =
+    due count_shape (λ _ _. [])
+    (λ _ r. and_then (times (values_kind false 0) (count_of r - lacks) []) (λ values. done (record { announced = count_of r; values = values })))
 
 -- one more document, with all of its values
 abbrev pub finished_plan : List Document → Plan (List Document) FdtRecord
@@ -22,7 +24,9 @@ finished_plan documents = and_then (open_plan 0) (λ d. done (documents ++ d.val
 -- so many documents, the last of which lacks so many values
 abbrev pub held_documents : ℕ → ℕ → Plan HeldDocuments FdtRecord
 held_documents total zero = and_then (each finished_plan total []) (λ documents. done (record { finished = documents; opened = None }))
-held_documents total (suc n) = and_then (each finished_plan (total - 1) []) (λ documents. and_then (open_plan (suc n)) (λ d. done (record { finished = documents; opened = Some d })))
+held_documents total (suc n) =
+    and_then (each finished_plan (total - 1) [])
+    (λ documents. and_then (open_plan (suc n)) (λ d. done (record { finished = documents; opened = Some d })))
 
 -- `.fdt` of them
 abbrev pub held_plan : ℕ → ℕ → Plan HeldDocuments FdtRecord
@@ -42,7 +46,8 @@ open_bytes d = spelling num d.announced ++ flat_map value_bytes d.values
 abbrev pub AreSpelled : List ℕ → List ℕ → ℕ → List Document → Option OpenDocument → Type 0
 AreSpelled fdx fdt lacks finished None = (fdx ≡ fdx_bytes finished) × (fdt ≡ fdt_bytes finished) × (lacks ≡ 0)
 AreSpelled fdx fdt lacks finished (Some d) =
-    (fdx ≡ fdx_bytes finished ++ place_bytes (length (fdt_bytes finished))) × (fdt ≡ fdt_bytes finished ++ open_bytes d) × (length d.values + lacks ≡ d.announced) × (0 < lacks)
+    (fdx ≡ fdx_bytes finished ++ place_bytes (length (fdt_bytes finished))) × (fdt ≡ fdt_bytes finished ++ open_bytes d)
+    × (length d.values + lacks ≡ d.announced) × (0 < lacks)
 
 -- the open document, if there is one, has fewer than 2^31 values, and those so far can be stored
 abbrev pub IsStorableSoFar : Option OpenDocument → Type 0

@@ -15,9 +15,12 @@ is_past_store total window = nat_lt total (window.offset + window.count)
 
 -- what the header of a store of so many documents must not be
 abbrev pub fdx_header_conditions : ℕ → Window → ℤ → List Condition
-fdx_header_conditions total window z = record { rule = rules.fdx_format; broken = is_other_store_format z } ∷ record { rule = rules.store_range; broken = is_past_store total window } ∷ []
+fdx_header_conditions total window z =
+    record { rule = rules.fdx_format; broken = is_other_store_format z }
+    ∷ record { rule = rules.store_range; broken = is_past_store total window } ∷ []
 
--- where a place may not be after the place before it, if there is one: the first is not just after the header, a later one is not above the one before, or over the greatest
+-- where a place may not be after the place before it, if there is one: the first is not just after the header,
+-- a later one is not above the one before, or over the greatest
 abbrev pub is_misplaced : Option ℤ → ℤ → Bool
 is_misplaced None z = not (int_eq z (pos header_length))
 is_misplaced (Some before) z = int_le z before || int_lt greatest_place z

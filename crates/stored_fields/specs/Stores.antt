@@ -26,10 +26,11 @@ windowed window all = take window.count (drop window.offset all)
 -- ---- the two files, in order, and what they stand for: the documents in the window
 
 -- those of a store of which a segment with so many fields takes a window; its `.fdx` tells how many documents there are, and the window
-abbrev pub store_files : (List ℕ → ℕ) → (List ℕ → Window) → ℕ → Option (List ℕ) → Option (List ℕ) → FilePlan (List Document)
+abbrev pub store_files : (List ℕ → ℕ) → (List ℕ → Window) → ℕ → Option (List ℕ) → Option (List ℕ)
+    → FilePlan (List Document)
 store_files total window fields fdx fdt =
     needs Fdx fdx (λ bytes. fdx_plan (total bytes) (window bytes))
-    (λ bytes places. needs Fdt fdt (λ _. fdt_plan (window bytes) fields places) (λ _ documents. stands (windowed (window bytes) documents)))
+    (λ bytes places. needs Fdt fdt (λ _. fdt_plan (window bytes) fields places) (λ _ all. stands (windowed (window bytes) all)))
 
 -- those of a segment of so many documents, with so many fields, that has its store to itself
 abbrev pub own_files : ℕ → ℕ → Option (List ℕ) → Option (List ℕ) → FilePlan (List Document)

@@ -3,15 +3,10 @@ use Rattle.std.specs.Prelude.{ℕ, Bool, true, false, List, ◌<◌, All}
 use Rattle.lu_types.specs.declared.stored.Stored.{Stored}
 use Rattle.lu_types.specs.declared.stored.Stored.TheVariants.{Text, Binary}
 use Rattle.lu_types.specs.Bits.{has_bit}
+use Rattle.lu_types.specs.StoredFields.{StoredField}
 use Rattle.lu_grammar.specs.Parts.{byte, num, bytes, text}
 use Rattle.lu_grammar.specs.Records.{Shape, whole, part, followed}
 use Rattle.stored_fields.specs.Format.{bit_tokenized, bit_binary}
-
--- a value that a document stores: the number of its field, whether it was tokenized, and what it is
-pub record StoredField : Type 0 where
-  pub field : ℕ
-  pub tokenized : Bool
-  pub value : Stored
 
 -- the values of a document, in order
 abbrev pub Document : Type 0
@@ -34,7 +29,9 @@ content_shape false = part text (λ t. whole (Text t))
 
 -- the number of the field, the bits, and what the value is
 abbrev pub stored_entry_shape : Shape StoredEntry
-stored_entry_shape = part num (λ field. part byte (λ bits. followed (content_shape (has_bit bit_binary bits)) (λ value. whole (record { field = field; bits = bits; value = value }))))
+stored_entry_shape =
+    part num (λ field. part byte
+    (λ bits. followed (content_shape (has_bit bit_binary bits)) (λ value. whole (record { field = field; bits = bits; value = value }))))
 
 -- what an entry stores
 abbrev pub stored : StoredEntry → StoredField

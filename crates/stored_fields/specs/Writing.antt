@@ -6,7 +6,8 @@ use Rattle.lu_types.specs.declared.stored.Stored.TheVariants.{Text, Binary}
 use Rattle.lu_types.specs.declared.stored.Window.{Window}
 use Rattle.lu_grammar.specs.Parts.{int32, int64, num, bytes, text, IsValue, spelling}
 use Rattle.stored_fields.specs.Format.{store_format, header_length, bit_tokenized, bit_binary}
-use Rattle.stored_fields.specs.Values.{StoredField, Document, HasFields}
+use Rattle.lu_types.specs.StoredFields.{StoredField}
+use Rattle.stored_fields.specs.Values.{Document, HasFields}
 use Rattle.stored_fields.specs.Stores.{windowed}
 
 -- ---- what can be written
@@ -65,7 +66,8 @@ place_bytes place = spelling int64 (pos place)
 abbrev pub fdx_bytes : List Document → List ℕ
 fdx_bytes documents = spelling int32 store_format ++ flat_map place_bytes (places_from header_length documents)
 
--- a window of written documents can be checked: their places are below 2^31, the window is in the store, and the fields of its documents are among so many
+-- a window of written documents can be checked: their places are below 2^31, the window is in the store, and the fields of its
+-- documents are among so many
 pub record IsCheckable (fields : ℕ) (window : Window) (documents : List Document) : Type 0 where
   pub short : length (fdt_bytes documents) < 2 ^ 31
   pub within : window.offset + window.count ≤ length documents
@@ -86,7 +88,8 @@ pub record HeldDocuments : Type 0 where
 -- a document after others: open until it has all of its values, and finished then
 abbrev pub with_document : List Document → OpenDocument → HeldDocuments
 with_document finished d =
-    if length d.values == d.announced then record { finished = finished ++ d.values ∷ []; opened = None } else record { finished = finished; opened = Some d }
+    if length d.values == d.announced then record { finished = finished ++ d.values ∷ []; opened = None }
+    else record { finished = finished; opened = Some d }
 
 -- one more document, of so many values
 abbrev pub with_begun : ℕ → HeldDocuments → HeldDocuments

@@ -14,7 +14,8 @@ use crate::value::{BINARY, TOKENIZED};
 /// What the writer gives for some documents is read as exactly these documents, through any window of them.
 pub fn written_is_read()
     ensures { (documents : List Document) (fields : ℕ) (window : Window) → AreStorable documents → IsCheckable fields window documents
-        → StandFor (store_files (λ _. length documents) (λ _. window) fields (Some (fdx_bytes documents)) (Some (fdt_bytes documents))) (windowed window documents) }
+        → StandFor (store_files (λ _. length documents) (λ _. window) fields (Some (fdx_bytes documents)) (Some (fdt_bytes documents)))
+        (windowed window documents) }
 {}
 
 /// Nothing else is read so: two files that are read as a store are what the writer gives for some documents, and are read as those
@@ -22,7 +23,8 @@ pub fn written_is_read()
 pub fn only_written_is_read()
     ensures { (fdx fdt : List ℕ) (fields total : ℕ) (window : Window) (seen : List Document) → IsBytes fdx → IsBytes fdt
         → StandFor (store_files (λ _. total) (λ _. window) fields (Some fdx) (Some fdt)) seen
-        → (documents : List Document) × (fdx ≡ fdx_bytes documents) × (fdt ≡ fdt_bytes documents) × AreStorable documents × (length documents ≡ total) × (seen ≡ windowed window documents) }
+        → (documents : List Document) × (fdx ≡ fdx_bytes documents) × (fdt ≡ fdt_bytes documents) × AreStorable documents × (length documents ≡ total)
+        × (seen ≡ windowed window documents) }
 {}
 
 /// The numbers of the code are those that the definitions have.

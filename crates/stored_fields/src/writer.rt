@@ -1,7 +1,7 @@
 //! The writer of both files (format page, "Stored documents").
 ghost use Rattle.std.specs.Prelude.{◌≡◌, ◌+◌, ◌-◌, ◌^◌, ◌<◌, ◌++◌, [], ◌∷◌, length, take, None, IsSome, IfOk, OnOk, OnErr, vec_len};
 ghost use Rattle.lu_types.specs.declared.stored.Stored.TheVariants as owned;
-ghost use Rattle.stored_fields.specs.Values.{StoredField};
+ghost use Rattle.lu_types.specs.StoredFields.{StoredField};
 ghost use Rattle.stored_fields.specs.Entries.{value_of, lent_field};
 ghost use Rattle.stored_fields.specs.Writing.{IsStorable, value_bits, content_bytes, value_bytes, fdx_bytes, fdt_bytes, with_begun, with_stored, AreStorable};
 
@@ -80,7 +80,8 @@ impl StoredWriter {
         }
     }
 
-    /// Adds a text of fewer than 2^31 bytes to the open document, which is finished with its last value. An `Err` leaves the writer as it was.
+    /// Adds a text of fewer than 2^31 bytes to the open document, which is finished with its last value.
+    /// An `Err` leaves the writer as it was.
     pub fn put_text(&mut self, field: u32, tokenized: bool, text: &str) -> Result<(), OutOfMemory>
         requires lacking { IsSome self.old.opened }
         requires field { field < 2 ^ 31 }
@@ -95,7 +96,8 @@ impl StoredWriter {
         })
     }
 
-    /// Adds fewer than 2^31 bytes to the open document, which is finished with its last value. An `Err` leaves the writer as it was.
+    /// Adds fewer than 2^31 bytes to the open document, which is finished with its last value.
+    /// An `Err` leaves the writer as it was.
     pub fn put_binary(
         &mut self,
         field: u32,

@@ -10,7 +10,7 @@ use Rattle.lu_model.specs.Index.{Term, Index}
 use Rattle.lu_model.specs.Contents.{without_term}
 use Rattle.lu_model.specs.Valid.{IsValid}
 use Rattle.lu_model.proofs.Words.{Each}
-use Rattle.lu_model.proofs.Each.{each_filter}
+use Rattle.lu_model.proofs.Each.{each_filter, all-from_each}
 
 above_range : (m a n : ℕ) → m < a → AllByRecursion (λ k. nat_cmp m k ≡ Less) (range_with_len a n)
 above_range m a zero h = tt
@@ -45,5 +45,5 @@ deleted_is_valid term index ok =
       apart = ok.apart;
       vector_fields = ok.vector_fields;
       deleted = IsStrictlySortedBy-filter nat_cmp _ (range_with_len 0 index.size) (range_rises 0 index.size);
-      deleted_below = each_filter (λ d. d < index.size) _ (range_with_len 0 index.size) (range_below index.size 0 index.size size);
+      deleted_below = all-from_each (λ d. d < index.size) (without_term term index).deleted (each_filter (λ d. d < index.size) _ (range_with_len 0 index.size) (range_below index.size 0 index.size size));
     }

@@ -68,6 +68,9 @@ pub each-from_pairs : {X : Type 0} (R : X → X → Type 0) (xs : List X) → Al
 each-from_pairs R [] h = tt
 each-from_pairs R (x ∷ xs) h = (each-from_all (R x) xs (λ k d l. h 0 (suc k) d (omega arith) (omega arith)), each-from_pairs R xs (λ i j d p q. h (suc i) (suc j) d (omega arith) (omega arith)))
 
+pub all_at : {X : Type 0} (P : X → Type 0) (x : X) (xs : List X) → All P xs → IsIn x xs → P x
+all_at P x xs h k = each_at P x xs (each-from_all P xs h) k
+
 -- numbers of which none is below one before it
 pub non_decreasing : (ns : List ℕ) → EachPair (λ m n. m ≤ n) ns → IsNonDecreasing ns
 non_decreasing ns h i j d low high = elim (cases_lt i j) [

@@ -1,6 +1,6 @@
 -- What a merge of valid indexes has of its sources: stored values and terms.
 use Rattle.std.proofs.Common.{◌≡◌, ℕ, ◌+◌, ◌<◌, ◌≤◌, true, not, List, [], Option, Some, None, length, map, get_or, refl, sym, ap, ◌∙◌, subst, arith, eqb}
-use Rattle.std.specs.Prelude.{filter, flat_map, is_some}
+use Rattle.std.specs.Prelude.{filter, flat_map, is_some, All}
 use Rattle.std.specs.List.{find, range_with_len}
 use Rattle.std.proofs.lemmas.List.{length-map}
 use Rattle.lu_types.specs.Tables.{TableField}
@@ -17,7 +17,7 @@ use Rattle.lu_model.proofs.Tables.{Has, Has-joins, Says-Has, name_at-Has, find_i
 use Rattle.lu_model.proofs.Alike.{term_order}
 use Rattle.lu_model.proofs.Held.{same_term-true}
 use Rattle.lu_model.proofs.Entries.{HasName, any-found}
-use Rattle.lu_model.proofs.Each.{each_in, each_at, each_map}
+use Rattle.lu_model.proofs.Each.{each_in, each_at, each_map, all_at, all-from_each}
 use Rattle.lu_model.proofs.ValidTerms.{entries_within, entries_rise, some_entry}
 use Rattle.lu_model.proofs.ValidIndex.{number-lt}
 use Rattle.lu_model.proofs.Found.{bit_within, found_entry, from_range, get_in, kept_above, one_found}
@@ -61,13 +61,13 @@ module _ (indexes : List Index) (ok : Each IsValid indexes) where
       let right = valid index h in
       let values = get_or index.stored n [] in
       let within : n < length index.stored = omega (arith, right.stored, l) in
-      let few = each_at (λ values. IsSmall (length values)) values index.stored right.few_values (get_in index.stored n [] within) in
-      let each = each_at (Each (IsValue (length index.fields))) values index.stored right.values (get_in index.stored n [] within) in
+      let few = all_at (λ values. IsSmall (length values)) values index.stored right.few_values (get_in index.stored n [] within) in
+      let each = all_at (All (IsValue (length index.fields))) values index.stored right.values (get_in index.stored n [] within) in
       let a = length-map values (stored_by_name index.fields) in
       let b = length-map (map (stored_by_name index.fields) values) (value_in table) in (
         omega (arith, few, a, b),
         each_map (IsValue (length table)) (value_in table) (map (stored_by_name index.fields) values) (each_map (λ v. IsValue (length table) (value_in table v)) (stored_by_name index.fields) values (each_in (λ v. IsValue (length table) (value_in table (stored_by_name index.fields v))) values (λ v k.
-            let field = each_at (IsValue (length index.fields)) v values each k in
+            let field = all_at (IsValue (length index.fields)) v values each k in
             let there = has_at index h v.field field.0 in
             (number-lt (name_of index.fields v.field) table there.field there.found, field.1)))),
       )
@@ -95,7 +95,7 @@ module _ (indexes : List Index) (ok : Each IsValid indexes) where
       record { index = s.0; inside = s.1; n = s.2.0; low = s.2.1; it = it.0; in_terms = stands.0; stands = stands.1; is = it.2; content = subst (λ w. IsIn w contents) s.2.2 c.1 }
 
   term_right : (index : Index) → IsIn index indexes → (it : IndexedTerm) → IsIn it index.terms → IsIndexedTerm index.size (field_at it.field index.fields).bits it
-  term_right index h it k = each_at (λ (term : IndexedTerm). IsIndexedTerm index.size (field_at term.field index.fields).bits term) it index.terms (valid index h).terms k
+  term_right index h it k = all_at (λ (term : IndexedTerm). IsIndexedTerm index.size (field_at term.field index.fields).bits term) it index.terms (valid index h).terms k
 
   term_has : (index : Index) → IsIn index indexes → (it : IndexedTerm) → IsIn it index.terms → Has table (field_at it.field index.fields)
   term_has index h it k = has_at index h it.field (bit_within bit.indexed index.fields it.field refl (term_right index h it k).indexed)
@@ -115,7 +115,7 @@ module _ (indexes : List Index) (ok : Each IsValid indexes) where
       let is : t ≡ term_of index.fields it = same_term-true t (term_of index.fields it) r.1 in
       let right = term_right index h it r.0 in
       let entry = found_entry n it.entries o e in
-      let one = each_at (λ (entry : Entry). (entry.document < index.size) × IsKept (field_at it.field index.fields).bits entry.occurrences) entry.0 it.entries right.entries entry.1 in
+      let one = all_at (λ (entry : Entry). (entry.document < index.size) × IsKept (field_at it.field index.fields).bits entry.occurrences) entry.0 it.entries right.entries entry.1 in
       let says = subst (λ (w : Term). Says (bits_of w.field table) (field_at it.field index.fields).bits) (sym is) (term_says index h it r.0) in
       kept_above (field_at it.field index.fields).bits (bits_of t.field table) o says (subst (IsKept (field_at it.field index.fields).bits) entry.2 one.1)
 
@@ -140,9 +140,9 @@ module _ (indexes : List Index) (ok : Each IsValid indexes) where
         text = subst (λ (w : Term). IsText w.text) (sym s.is) right.text;
         some = some_entry table t 0 (content_at s.index s.n) contents s.content there;
         rise = entries_rise table t 0 contents;
-        entries = each_in (λ (entry : Entry). (entry.document < length contents) × IsKept (bits_of t.field table) entry.occurrences) entries (λ entry k.
+        entries = all-from_each (λ (entry : Entry). (entry.document < length contents) × IsKept (bits_of t.field table) entry.occurrences) entries (each_in (λ (entry : Entry). (entry.document < length contents) × IsKept (bits_of t.field table) entry.occurrences) entries (λ entry k.
             let one = each_at (λ (entry : Entry). (0 ≤ entry.document) × (entry.document < length contents) × IsKept (bits_of t.field table) entry.occurrences) entry entries within k in
-            (one.1, one.2));
+            (one.1, one.2)));
       }
 
   -- names and texts of the terms of a source are texts
@@ -150,7 +150,7 @@ module _ (indexes : List Index) (ok : Each IsValid indexes) where
   source_terms_are_texts index h it k =
       let right = term_right index h it k in
       let low = bit_within bit.indexed index.fields it.field refl right.indexed in
-      let name = each_at (λ (field : TableField). IsText field.name) (field_at it.field index.fields) index.fields (valid index h).names (get_in index.fields it.field no_field low) in
+      let name = all_at (λ (field : TableField). IsText field.name) (field_at it.field index.fields) index.fields (valid index h).names (get_in index.fields it.field no_field low) in
       record { field = name.0; text = right.text.0 }
 
   pub terms_are_texts : (t : Term) → IsIn t (flat_map (λ content. content.terms) contents) → IsTerm t

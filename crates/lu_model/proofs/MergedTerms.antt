@@ -11,7 +11,7 @@ use Rattle.lu_model.specs.Contents.{Content, bits_of, content_at, field_at, fiel
 use Rattle.lu_model.specs.Valid.{IsIndexedTerm, IsKept, IsValid}
 use Rattle.lu_model.proofs.Words.{IsIn, Each, same_term, entries_if_any, stands_at, entry_of}
 use Rattle.lu_model.proofs.Among.{from_flat_map, from_map, in_map, in_filter, in_flat_map}
-use Rattle.lu_model.proofs.Each.{each_in, each_at}
+use Rattle.lu_model.proofs.Each.{each_in, each_at, all_at}
 use Rattle.lu_model.proofs.Tables.{find_in}
 use Rattle.lu_model.proofs.Held.{same_term-true}
 use Rattle.lu_model.proofs.Entries.{any-found}
@@ -27,8 +27,8 @@ has_entries term index ok = at (find (λ t. same_term term (term_of index.fields
     at None q = (tt, tt)
     at (Some it) q =
         let inside = (find_in (λ (t : IndexedTerm). same_term term (term_of index.fields t)) it index.terms q).0 in
-        let right = each_at (λ (t : IndexedTerm). IsIndexedTerm index.size (field_at t.field index.fields).bits t) it index.terms ok.terms inside in
-        (right.rise, each_in (λ (entry : Entry). entry.document < index.size) it.entries (λ e k. (each_at (λ (entry : Entry). (entry.document < index.size) × IsKept (field_at it.field index.fields).bits entry.occurrences) e it.entries right.entries k).0))
+        let right = all_at (λ (t : IndexedTerm). IsIndexedTerm index.size (field_at t.field index.fields).bits t) it index.terms ok.terms inside in
+        (right.rise, each_in (λ (entry : Entry). entry.document < index.size) it.entries (λ e k. (all_at (λ (entry : Entry). (entry.document < index.size) × IsKept (field_at it.field index.fields).bits entry.occurrences) e it.entries right.entries k).0))
 
 -- the entries of a term in a merge of valid indexes are the renumbered entries of the sources
 pub same_entries : (indexes : List Index) → Each IsValid indexes → (t : Term) → (indexed_term (joined_table indexes) (flat_map live_contents indexes) t).entries ≡ (merged_term indexes t).entries

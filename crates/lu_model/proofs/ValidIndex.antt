@@ -1,6 +1,6 @@
 -- The index of documents that can be written is valid.
 use Rattle.std.proofs.Common.{◌≡◌, ℕ, suc, ◌+◌, ◌<◌, ◌≤◌, true, false, not, cond, List, [], ◌∷◌, Some, None, length, map, refl, sym, ap, ◌∙◌, subst, inl, inr, arith, lit<}
-use Rattle.std.specs.Prelude.{filter, flat_map, is_some, unwrap_or, AllPairs, IfSome}
+use Rattle.std.specs.Prelude.{filter, flat_map, is_some, unwrap_or, AllPairs, IfSome, All}
 use Rattle.std.specs.List.{AllZip, find}
 use Rattle.std.specs.List.Sorted.{IsStrictlySortedBy}
 use Rattle.std.specs.Str.{bytes_eq}
@@ -27,7 +27,7 @@ use Rattle.lu_model.proofs.Held.{HasFields, HasFields-stored, HasFields-indexed,
 use Rattle.lu_model.proofs.Entries.{term_of-indexed}
 use Rattle.lu_model.proofs.Under.{of_document, names}
 use Rattle.lu_model.proofs.Merges.{covered, terms_are_texts}
-use Rattle.lu_model.proofs.Each.{each_in, each_at, each_map, each-from_all, pairs-from_each, are_bytes}
+use Rattle.lu_model.proofs.Each.{each_in, each_at, each_map, each-from_all, pairs-from_each, are_bytes, all-from_each}
 use Rattle.lu_model.proofs.SoundTokens.{each_sound}
 use Rattle.lu_model.proofs.ValidTerms.{small_bytes, entries_within, entries_rise, some_entry, sound_field, made_field, is_kept}
 use Rattle.lu_model.proofs.ValidVectors.{vectors_few, vectors_are, vectors_apart}
@@ -111,9 +111,9 @@ module _ (table : List TableField) (docs : List Document) (limits : Limits) (ok 
         text = subst IsText (sym s.text) ((each_at IsToken s.token s.field.tokens (each-from_all IsToken s.field.tokens made.tokens) s.in_tokens).text, small_bytes (length s.token.text) token.text);
         some = some_entry table t 0 (content_of d.0) contents (in_map content_of d.0 docs d.1) (some-occurrences d.0 t d.2);
         rise = entries_rise table t 0 contents;
-        entries = each_in (λ (entry : Entry). (entry.document < length contents) × IsKept (bits_of t.field table) entry.occurrences) entries (λ entry k.
+        entries = all-from_each (λ (entry : Entry). (entry.document < length contents) × IsKept (bits_of t.field table) entry.occurrences) entries (each_in (λ (entry : Entry). (entry.document < length contents) × IsKept (bits_of t.field table) entry.occurrences) entries (λ entry k.
             let one = each_at (λ (entry : Entry). (0 ≤ entry.document) × (entry.document < length contents) × IsKept (bits_of t.field table) entry.occurrences) entry entries within k in
-            (one.1, one.2));
+            (one.1, one.2)));
       }
 
   norms_are : (more : List TableField) → AllZip (AreNorms (length contents)) more (map (norms_in contents) more)
@@ -141,18 +141,18 @@ module _ (table : List TableField) (docs : List Document) (limits : Limits) (ok 
       record {
         small = omega (arith, few, size_is);
         fields = ok.fields;
-        names = ok.names;
+        names = all-from_each (λ (f : TableField). IsText f.name) table ok.names;
         stored = length-map contents stored;
-        few_values = each_map (λ values. IsSmall (length values)) stored contents (each_content (λ c. IsSmall (length (stored c))) (λ doc h. (stored_small doc h).0));
-        values = each_map (Each (IsValue (length table))) stored contents (each_content (λ c. Each (IsValue (length table)) (stored c)) (λ doc h. (stored_small doc h).1));
+        few_values = all-from_each (λ values. IsSmall (length values)) (map stored contents) (each_map (λ values. IsSmall (length values)) stored contents (each_content (λ c. IsSmall (length (stored c))) (λ doc h. (stored_small doc h).0)));
+        values = all-from_each (All (IsValue (length table))) (map stored contents) (each_map (All (IsValue (length table))) stored contents (each_content (λ c. All (IsValue (length table)) (stored c)) (λ doc h. all-from_each (IsValue (length table)) (stored (content_of doc)) (stored_small doc h).1)));
         few_terms = ok.few_terms;
         rise = subst (IsStrictlySortedBy term_cmp) (sym (terms_again table contents keys (λ t k. term_of-indexed table contents t (names table docs fields texts t k)))) (rises-in_order term_cmp term_order (flat_map (λ content. content.terms) contents));
-        terms = each_map (λ (term : IndexedTerm). IsIndexedTerm (length contents) (field_at term.field table).bits term) (indexed_term table contents) keys (each_in (λ t. IsIndexedTerm (length contents) (bits_of t.field table) (indexed_term table contents t)) keys term_is);
+        terms = all-from_each (λ (term : IndexedTerm). IsIndexedTerm (length contents) (field_at term.field table).bits term) (map (indexed_term table contents) keys) (each_map (λ (term : IndexedTerm). IsIndexedTerm (length contents) (field_at term.field table).bits term) (indexed_term table contents) keys (each_in (λ t. IsIndexedTerm (length contents) (bits_of t.field table) (indexed_term table contents t)) keys term_is));
         norms = norms_are table;
         vectors = length-map contents vectors;
-        few_vectors = each_map (λ vs. IsSmall (length vs)) vectors contents (each_content (λ c. IsSmall (length (vectors c))) (λ doc h. vectors_few table doc limits tokens (fields doc h) (sound doc h) (ok.documents doc h) (ok.short doc h).fields));
-        apart = each_map (AllPairs Apart) vectors contents (each_content (λ c. AllPairs Apart (vectors c)) (λ doc h. pairs-from_each Apart (vectors (content_of doc)) (vectors_apart table doc limits tokens (fields doc h) (sound doc h) (ok.documents doc h))));
-        vector_fields = each_map (λ vs. Each (IsVector table) vs) vectors contents (each_content (λ c. Each (IsVector table) (vectors c)) (λ doc h. vectors_are table doc limits tokens (fields doc h) (sound doc h) (ok.documents doc h)));
+        few_vectors = all-from_each (λ vs. IsSmall (length vs)) (map vectors contents) (each_map (λ vs. IsSmall (length vs)) vectors contents (each_content (λ c. IsSmall (length (vectors c))) (λ doc h. vectors_few table doc limits tokens (fields doc h) (sound doc h) (ok.documents doc h) (ok.short doc h).fields)));
+        apart = all-from_each (AllPairs Apart) (map vectors contents) (each_map (AllPairs Apart) vectors contents (each_content (λ c. AllPairs Apart (vectors c)) (λ doc h. pairs-from_each Apart (vectors (content_of doc)) (vectors_apart table doc limits tokens (fields doc h) (sound doc h) (ok.documents doc h)))));
+        vector_fields = all-from_each (All (IsVector table)) (map vectors contents) (each_map (All (IsVector table)) vectors contents (each_content (λ c. All (IsVector table) (vectors c)) (λ doc h. all-from_each (IsVector table) (vectors (content_of doc)) (vectors_are table doc limits tokens (fields doc h) (sound doc h) (ok.documents doc h)))));
         deleted = tt;
-        deleted_below = tt;
+        deleted_below = λ k d l. absurd (omega arith);
       }

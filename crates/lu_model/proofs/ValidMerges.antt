@@ -1,6 +1,6 @@
 -- A merge of valid indexes is valid.
 use Rattle.std.proofs.Common.{◌≡◌, ◌≢◌, ℕ, ◌<◌, ◌≤◌, true, false, cond, List, [], ◌∷◌, Option, Some, None, length, map, get_or, refl, sym, ap, ◌∙◌, subst, inl, inr, arith, lit<}
-use Rattle.std.specs.Prelude.{filter, flat_map, unwrap_or, AllPairs}
+use Rattle.std.specs.Prelude.{filter, flat_map, unwrap_or, AllPairs, All}
 use Rattle.std.specs.List.{AllZip}
 use Rattle.std.specs.List.Sorted.{IsStrictlySortedBy}
 use Rattle.std.proofs.lemmas.Bool.{cases_lt}
@@ -18,7 +18,7 @@ use Rattle.lu_model.proofs.Tables.{name_at-Has}
 use Rattle.lu_model.proofs.Alike.{term_order}
 use Rattle.lu_model.proofs.Covering.{clear-joins}
 use Rattle.lu_model.proofs.Entries.{term_of-indexed}
-use Rattle.lu_model.proofs.Each.{each_in, each_at, each_map, pair_filter, pair_map, pair_weaker, length_filter-le, all-from_each, each-from_all, pairs-from_each, each-from_pairs, are_bytes}
+use Rattle.lu_model.proofs.Each.{each_in, each_at, each_map, pair_filter, pair_map, pair_weaker, length_filter-le, all-from_each, each-from_all, pairs-from_each, each-from_pairs, are_bytes, all_at}
 use Rattle.lu_model.proofs.ValidIndex.{terms_again}
 use Rattle.lu_model.proofs.JoinedTables.{names-joins, apart-joins}
 use Rattle.lu_model.proofs.Found.{bit_within, get_in, norm_bytes}
@@ -61,14 +61,14 @@ module _ (indexes : List Index) (ok : CanBeMerged indexes) where
 
   vectors_few : (index : Index) → IsIn index indexes → (n : ℕ) → n < index.size → IsSmall (length (map (vector_in table) (filter (has_vectors table) (content_at index n).vectors)))
   vectors_few index h n l =
-      let few = each_at (λ vs. IsSmall (length vs)) (vectors_at index n) index.vectors (valid indexes ok.valid index h).few_vectors (vectors_of index h n l) in
+      let few = all_at (λ vs. IsSmall (length vs)) (vectors_at index n) index.vectors (valid indexes ok.valid index h).few_vectors (vectors_of index h n l) in
       let a = length-map (vectors_at index n) (vector_by_name index.fields) in
       let b = length_filter-le (has_vectors table) (map (vector_by_name index.fields) (vectors_at index n)) in
       let c = length-map (filter (has_vectors table) (map (vector_by_name index.fields) (vectors_at index n))) (vector_in table) in
       omega (arith, few, a, b, c)
 
   vector_right : (index : Index) → IsIn index indexes → (n : ℕ) → n < index.size → (v : (FieldVector ℕ)) → IsIn v (vectors_at index n) → IsVector index.fields v
-  vector_right index h n l v k = each_at (IsVector index.fields) v (vectors_at index n) (each_at (λ vs. Each (IsVector index.fields) vs) (vectors_at index n) index.vectors (valid indexes ok.valid index h).vector_fields (vectors_of index h n l)) k
+  vector_right index h n l v k = all_at (IsVector index.fields) v (vectors_at index n) (all_at (All (IsVector index.fields)) (vectors_at index n) index.vectors (valid indexes ok.valid index h).vector_fields (vectors_of index h n l)) k
 
   vectors_are : (index : Index) → IsIn index indexes → (n : ℕ) → n < index.size → Each (IsVector table) (map (vector_in table) (filter (has_vectors table) (content_at index n).vectors))
   vectors_are index h n l =
@@ -106,7 +106,7 @@ module _ (indexes : List Index) (ok : CanBeMerged indexes) where
       let low = bit_within bit.vectors index.fields v.field refl (vector_right index h n l v p).field in
       let high = bit_within bit.vectors index.fields w.field refl (vector_right index h n l w q).field in
       names_differ index h v.field w.field low high differ (sym (name_at-Has table (field_at v.field index.fields) (has_at indexes ok.valid index h v.field low)) ∙ ap (name_of table) same ∙ name_at-Has table (field_at w.field index.fields) (has_at indexes ok.valid index h w.field high)))
-      (each-from_pairs Apart (vectors_at index n) (each_at (AllPairs Apart) (vectors_at index n) index.vectors (valid indexes ok.valid index h).apart (vectors_of index h n l))))))
+      (each-from_pairs Apart (vectors_at index n) (all_at (AllPairs Apart) (vectors_at index n) index.vectors (valid indexes ok.valid index h).apart (vectors_of index h n l))))))
 
   in_tables : (t : List TableField) → IsIn t tables → (index : Index) × IsIn index indexes × (t ≡ index.fields)
   in_tables t h = from_map (λ (index : Index). index.fields) t indexes h
@@ -125,18 +125,18 @@ module _ (indexes : List Index) (ok : CanBeMerged indexes) where
           clear = all-from_each (λ field. field.bits < 128) table (each_in (λ (f : TableField). f.bits < 128) table clear);
           apart = pairs-from_each (λ field later. field.name ≢ later.name) table (apart-joins [] tables tt);
         };
-        names = names-joins IsText [] tables tt (λ t k. let i = in_tables t k in subst (λ u. Each (λ (f : TableField). IsText f.name) u) (sym i.2) (valid indexes ok.valid i.0 i.1).names);
+        names = all-from_each (λ (f : TableField). IsText f.name) table (names-joins IsText [] tables tt (λ t k. let i = in_tables t k in subst (λ u. Each (λ (f : TableField). IsText f.name) u) (sym i.2) (each-from_all (λ (f : TableField). IsText f.name) i.0.fields (valid indexes ok.valid i.0 i.1).names)));
         stored = length-map contents stored;
-        few_values = each_map (λ values. IsSmall (length values)) stored contents (each_content indexes ok.valid (λ c. IsSmall (length (stored c))) (λ index h n l. (stored_is indexes ok.valid index h n l).0));
-        values = each_map (Each (IsValue (length table))) stored contents (each_content indexes ok.valid (λ c. Each (IsValue (length table)) (stored c)) (λ index h n l. (stored_is indexes ok.valid index h n l).1));
+        few_values = all-from_each (λ values. IsSmall (length values)) (map stored contents) (each_map (λ values. IsSmall (length values)) stored contents (each_content indexes ok.valid (λ c. IsSmall (length (stored c))) (λ index h n l. (stored_is indexes ok.valid index h n l).0)));
+        values = all-from_each (All (IsValue (length table))) (map stored contents) (each_map (All (IsValue (length table))) stored contents (each_content indexes ok.valid (λ c. All (IsValue (length table)) (stored c)) (λ index h n l. all-from_each (IsValue (length table)) (stored (content_at index n)) (stored_is indexes ok.valid index h n l).1)));
         few_terms = ok.few_terms;
         rise = subst (IsStrictlySortedBy term_cmp) (sym (terms_again table contents keys (λ t k. term_of-indexed table contents t (has_name indexes ok.valid t k)))) (rises-in_order term_cmp term_order (flat_map (λ content. content.terms) contents));
-        terms = each_map (λ (term : IndexedTerm). IsIndexedTerm (length contents) (field_at term.field table).bits term) (indexed_term table contents) keys (each_in (λ t. IsIndexedTerm (length contents) (bits_of t.field table) (indexed_term table contents t)) keys (term_is indexes ok.valid));
+        terms = all-from_each (λ (term : IndexedTerm). IsIndexedTerm (length contents) (field_at term.field table).bits term) (map (indexed_term table contents) keys) (each_map (λ (term : IndexedTerm). IsIndexedTerm (length contents) (field_at term.field table).bits term) (indexed_term table contents) keys (each_in (λ t. IsIndexedTerm (length contents) (bits_of t.field table) (indexed_term table contents t)) keys (term_is indexes ok.valid)));
         norms = norms_are table;
         vectors = length-map contents vectors;
-        few_vectors = each_map (λ vs. IsSmall (length vs)) vectors contents (each_content indexes ok.valid (λ c. IsSmall (length (vectors c))) vectors_few);
-        apart = each_map (AllPairs Apart) vectors contents (each_content indexes ok.valid (λ c. AllPairs Apart (vectors c)) (λ index h n l. pairs-from_each Apart (vectors (content_at index n)) (vectors_apart index h n l)));
-        vector_fields = each_map (λ vs. Each (IsVector table) vs) vectors contents (each_content indexes ok.valid (λ c. Each (IsVector table) (vectors c)) vectors_are);
+        few_vectors = all-from_each (λ vs. IsSmall (length vs)) (map vectors contents) (each_map (λ vs. IsSmall (length vs)) vectors contents (each_content indexes ok.valid (λ c. IsSmall (length (vectors c))) vectors_few));
+        apart = all-from_each (AllPairs Apart) (map vectors contents) (each_map (AllPairs Apart) vectors contents (each_content indexes ok.valid (λ c. AllPairs Apart (vectors c)) (λ index h n l. pairs-from_each Apart (vectors (content_at index n)) (vectors_apart index h n l))));
+        vector_fields = all-from_each (All (IsVector table)) (map vectors contents) (each_map (All (IsVector table)) vectors contents (each_content indexes ok.valid (λ c. All (IsVector table) (vectors c)) (λ index h n l. all-from_each (IsVector table) (vectors (content_at index n)) (vectors_are index h n l))));
         deleted = tt;
-        deleted_below = tt;
+        deleted_below = λ k d l. absurd (omega arith);
       }

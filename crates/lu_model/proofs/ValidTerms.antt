@@ -28,7 +28,7 @@ use Rattle.lu_model.proofs.Words.{IsIn, Each, entry_of}
 use Rattle.lu_model.proofs.Asked.{payloads-asked, omit_tf-asked}
 use Rattle.lu_model.proofs.Bits.{Says, turned_false}
 use Rattle.lu_model.proofs.Held.{HasFields, HasFields-indexed, Says-indexed, stands_in, occurrences-in_terms}
-use Rattle.lu_model.proofs.Each.{each_in, each_at, each_by_recursion, each_filter, each_map, pair_filter, pair_map, length_filter-le, each-from_all, non_decreasing}
+use Rattle.lu_model.proofs.Each.{each_in, each_at, each_by_recursion, each_filter, each_map, pair_filter, pair_map, length_filter-le, each-from_all, non_decreasing, all-from_each}
 use Rattle.lu_model.proofs.Among.{from_filter}
 use Rattle.lu_model.proofs.SoundTokens.{each_sound, do_not_fall, one_field, no_payload}
 
@@ -140,14 +140,14 @@ module _ (table : List TableField) (doc : Document) (limits : Limits) (small : I
                 some = omega (arith, is.1, count);
                 few = omega (arith, fewer, few, count, small);
                 rise = non_decreasing (map (λ (o : Occurrence). o.position) (map occurrence tokens)) (pair_map (λ m n. m ≤ n) (λ (o : Occurrence). o.position) (map occurrence tokens) (pair_map (λ (a b : Occurrence). a.position ≤ b.position) occurrence tokens (pair_filter (λ (a b : Token). a.position ≤ b.position) (λ (token : Token). bytes_eq term.text token.text) f.tokens (do_not_fall 0 f.tokens right.tokens))));
-                small = each_map (λ (o : Occurrence). IsSmall o.position × IsStorable (Binary o.payload)) occurrence tokens (each_in (λ (token : Token). IsSmall token.position × IsStorable (Binary token.payload)) tokens (λ token k.
+                small = all-from_each (λ (o : Occurrence). IsSmall o.position × IsStorable (Binary o.payload)) (map occurrence tokens) (each_map (λ (o : Occurrence). IsSmall o.position × IsStorable (Binary o.payload)) occurrence tokens (each_in (λ (token : Token). IsSmall token.position × IsStorable (Binary token.payload)) tokens (λ token k.
                     let one = each_at IsSoundToken token tokens (each_filter IsSoundToken (λ (token : Token). bytes_eq term.text token.text) f.tokens (each_sound 0 f.tokens right.tokens)) k in
                     let of = each_at IsToken token f.tokens (each-from_all IsToken f.tokens (made_field f s.inside).tokens) (from_filter (λ (token : Token). bytes_eq term.text token.text) token f.tokens k).0 in
-                    (small_place token.position one.position, (of.payload, small_bytes (length token.payload) one.payload))));
+                    (small_place token.position one.position, (of.payload, small_bytes (length token.payload) one.payload)))));
                 payloads = λ q.
                     let asked : (not f.omit_tf && has_payloads f) ≡ false = turned_false (has_bit bit.payloads (bits_of term.field table)) (not f.omit_tf && has_payloads f) (λ p. says.payloads (payloads-asked f.vector (is_some f.norm) f.omit_tf (has_payloads f) ∙ p)) q in
                     let none : has_payloads f ≡ false = ap (λ b. not b && has_payloads f) (sym no_omit) ∙ asked in
-                    each_map (λ (o : Occurrence). o.payload ≡ []) occurrence tokens (each_filter (λ (token : Token). token.payload ≡ []) (λ (token : Token). bytes_eq term.text token.text) f.tokens (no_payload f.tokens none));
+                    all-from_each (λ (o : Occurrence). o.payload ≡ []) (map occurrence tokens) (each_map (λ (o : Occurrence). o.payload ≡ []) occurrence tokens (each_filter (λ (token : Token). token.payload ≡ []) (λ (token : Token). bytes_eq term.text token.text) f.tokens (no_payload f.tokens none)));
               },
             )
       ] refl

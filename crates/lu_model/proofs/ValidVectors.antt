@@ -25,7 +25,7 @@ use Rattle.lu_model.proofs.Among.{from_map, in_filter, from_filter}
 use Rattle.lu_model.proofs.Ordered.{rises-in_order, from_in_order}
 use Rattle.lu_model.proofs.Tables.{name_at-Has}
 use Rattle.lu_model.proofs.Held.{HasFields, HasFields-indexed}
-use Rattle.lu_model.proofs.Each.{each_in, each_at, each_by_recursion, each_filter, each_map, pair_filter, pair_map, pair_weaker, length_filter-le, length_in_order-le, each-from_all, non_decreasing}
+use Rattle.lu_model.proofs.Each.{each_in, each_at, each_by_recursion, each_filter, each_map, pair_filter, pair_map, pair_weaker, length_filter-le, length_in_order-le, each-from_all, non_decreasing, all-from_each}
 use Rattle.lu_model.proofs.SoundTokens.{each_sound, do_not_fall}
 use Rattle.lu_model.proofs.ValidTerms.{small_bytes, small_place, sound_field, made_field}
 
@@ -91,9 +91,9 @@ module _ (limits : Limits) (small : IsSmall limits.tokens) (f : IndexedField) (s
         positions = AreAsMany-length 1 (vector_bits p o) (length found) (map position found) (sym (length-map found position)) p (bit_1 p o);
         spans = AreAsMany-length 2 (vector_bits p o) (length found) (map span found) (sym (length-map found span)) o (bit_2 p o);
         rise = non_decreasing (cond p (map position found) []) (pair_cond (λ m n. m ≤ n) p (map position found) (pair_map (λ m n. m ≤ n) position found (pair_filter (λ (a b : Token). a.position ≤ b.position) test f.tokens (do_not_fall 0 f.tokens sound.tokens))));
-        low = each_cond IsSmall p (map position found) (each_map IsSmall position found (each_in (λ (token : Token). IsSmall token.position) found (λ token k. small_place token.position (each_at IsSoundToken token found each k).position)));
-        within = each_cond (λ (s : Span). (s.start ≤ s.end) × IsSmall s.end) o (map span found) (each_map (λ (s : Span). (s.start ≤ s.end) × IsSmall s.end) span found (each_in (λ (token : Token). (token.start ≤ token.end) × IsSmall token.end) found (λ token k.
-            let right = each_at IsSoundToken token found each k in (right.start, small_place token.end right.end))));
+        low = all-from_each IsSmall (cond p (map position found) []) (each_cond IsSmall p (map position found) (each_map IsSmall position found (each_in (λ (token : Token). IsSmall token.position) found (λ token k. small_place token.position (each_at IsSoundToken token found each k).position))));
+        within = all-from_each (λ (s : Span). (s.start ≤ s.end) × IsSmall s.end) (cond o (map span found) []) (each_cond (λ (s : Span). (s.start ≤ s.end) × IsSmall s.end) o (map span found) (each_map (λ (s : Span). (s.start ≤ s.end) × IsSmall s.end) span found (each_in (λ (token : Token). (token.start ≤ token.end) × IsSmall token.end) found (λ token k.
+            let right = each_at IsSoundToken token found each k in (right.start, small_place token.end right.end)))));
       }
 
   -- the vector of a sound field that has vectors in the table
@@ -112,7 +112,7 @@ module _ (limits : Limits) (small : IsSmall limits.tokens) (f : IndexedField) (s
         bits = vector_bits-lt p o;
         few = omega (arith, count, fewer, same, few, small);
         rise = subst (IsStrictlySortedBy text_cmp) (sym (again p o rising)) (rises-in_order text_cmp text_order texts);
-        terms = each_map (IsVectorTerm (vector_bits p o)) (term_with p o f.tokens) rising (each_in (λ text. IsVectorTerm (vector_bits p o) (term_with p o f.tokens text)) rising (λ text k. is_term p o text (from_in_order text_cmp text_order text texts k)));
+        terms = all-from_each (IsVectorTerm (vector_bits p o)) (map (term_with p o f.tokens) rising) (each_map (IsVectorTerm (vector_bits p o)) (term_with p o f.tokens) rising (each_in (λ text. IsVectorTerm (vector_bits p o) (term_with p o f.tokens text)) rising (λ text k. is_term p o text (from_in_order text_cmp text_order text texts k))));
       }
     where
       again : (p o : Bool) (texts : List (List ℕ)) → map (λ (term : VectorTerm). term.text) (map (term_with p o f.tokens) texts) ≡ texts

@@ -1,6 +1,6 @@
 -- Indexes that files can stand for (format page, "Indexes").
-use Rattle.std.specs.Prelude.{◌≡◌, ◌≢◌, ◌<◌, ◌≤◌, ◌^◌, ℕ, true, false, List, [], length, map, AllPairs, Option, Some, None}
-use Rattle.std.specs.List.{AllByRecursion as Each, AllZip}
+use Rattle.std.specs.Prelude.{◌≡◌, ◌≢◌, ◌<◌, ◌≤◌, ◌^◌, ℕ, true, false, List, [], length, map, All, AllPairs, Option, Some, None}
+use Rattle.std.specs.List.{AllZip}
 use Rattle.std.specs.List.Sorted.{IsStrictlySortedBy, IsNonDecreasing}
 use Rattle.std.specs.Ordering.{nat_cmp}
 use Rattle.lu_grammar.specs.Bytes.{IsBytes}
@@ -27,8 +27,8 @@ pub record AreOccurrences (bits : ℕ) (occurrences : List Occurrence) : Type 0 
   pub some : 0 < length occurrences
   pub few : IsSmall (length occurrences)
   pub rise : IsNonDecreasing (map (λ o. o.position) occurrences)
-  pub small : Each (λ o. IsSmall o.position × IsStorable (Binary o.payload)) occurrences
-  pub payloads : has_bit bit.payloads bits ≡ false → Each (λ o. o.payload ≡ []) occurrences
+  pub small : All (λ o. IsSmall o.position × IsStorable (Binary o.payload)) occurrences
+  pub payloads : has_bit bit.payloads bits ≡ false → All (λ o. o.payload ≡ []) occurrences
 
 -- what a field with these bits keeps of a term in a document: occurrences are omitted exactly where the field omits them
 abbrev pub IsKept : ℕ → Occurrences → Type 0
@@ -41,7 +41,7 @@ pub record IsIndexedTerm (size bits : ℕ) (term : IndexedTerm) : Type 0 where
   pub text : IsStorable (Text term.text)
   pub some : 0 < length term.entries
   pub rise : IsStrictlySortedBy nat_cmp (map (λ entry. entry.document) term.entries)
-  pub entries : Each (λ entry. (entry.document < size) × IsKept bits entry.occurrences) term.entries
+  pub entries : All (λ entry. (entry.document < size) × IsKept bits entry.occurrences) term.entries
 
 -- so many values are kept where the bit is set, and none where not
 abbrev pub AreAsMany : {X : Type 0} → ℕ → ℕ → ℕ → List X → Type 0
@@ -55,8 +55,8 @@ pub record IsVectorTerm (bits : ℕ) (term : VectorTerm) : Type 0 where
   pub positions : AreAsMany 1 bits term.frequency term.positions
   pub spans : AreAsMany 2 bits term.frequency term.spans
   pub rise : IsNonDecreasing term.positions
-  pub low : Each IsSmall term.positions
-  pub within : Each (λ span. (span.start ≤ span.end) × IsSmall span.end) term.spans
+  pub low : All IsSmall term.positions
+  pub within : All (λ span. (span.start ≤ span.end) × IsSmall span.end) term.spans
 
 -- a vector of a document
 pub record IsVector (fields : List TableField) (vector : FieldVector ℕ) : Type 0 where
@@ -64,7 +64,7 @@ pub record IsVector (fields : List TableField) (vector : FieldVector ℕ) : Type
   pub bits : vector.bits < 4
   pub few : IsSmall (length vector.terms)
   pub rise : IsStrictlySortedBy text_cmp (map (λ term. term.text) vector.terms)
-  pub terms : Each (IsVectorTerm vector.bits) vector.terms
+  pub terms : All (IsVectorTerm vector.bits) vector.terms
 
 -- the norms of a field: a byte for each document exactly where the field has norms
 abbrev pub AreNorms : ℕ → TableField → Option (List ℕ) → Type 0
@@ -75,17 +75,17 @@ AreNorms size field (Some norms) = (has_norms field.bits ≡ true) × (length no
 pub record IsValid (index : Index) : Type 0 where
   pub small : IsSmall index.size
   pub fields : IsTable index.fields
-  pub names : Each (λ field. IsStorable (Text field.name)) index.fields
+  pub names : All (λ field. IsStorable (Text field.name)) index.fields
   pub stored : length index.stored ≡ index.size
-  pub few_values : Each (λ values. IsSmall (length values)) index.stored
-  pub values : Each (Each (λ value. (value.field < length index.fields) × IsStorable value.value)) index.stored
+  pub few_values : All (λ values. IsSmall (length values)) index.stored
+  pub values : All (All (λ value. (value.field < length index.fields) × IsStorable value.value)) index.stored
   pub few_terms : IsSmall (length index.terms)
   pub rise : IsStrictlySortedBy term_cmp (map (term_of index.fields) index.terms)
-  pub terms : Each (λ term. IsIndexedTerm index.size (field_at term.field index.fields).bits term) index.terms
+  pub terms : All (λ term. IsIndexedTerm index.size (field_at term.field index.fields).bits term) index.terms
   pub norms : AllZip (AreNorms index.size) index.fields index.norms
   pub vectors : length index.vectors ≡ index.size
-  pub few_vectors : Each (λ vectors. IsSmall (length vectors)) index.vectors
-  pub apart : Each (AllPairs (λ v w. v.field ≢ w.field)) index.vectors
-  pub vector_fields : Each (Each (IsVector index.fields)) index.vectors
+  pub few_vectors : All (λ vectors. IsSmall (length vectors)) index.vectors
+  pub apart : All (AllPairs (λ v w. v.field ≢ w.field)) index.vectors
+  pub vector_fields : All (All (IsVector index.fields)) index.vectors
   pub deleted : IsStrictlySortedBy nat_cmp index.deleted
-  pub deleted_below : Each (λ document. document < index.size) index.deleted
+  pub deleted_below : All (λ document. document < index.size) index.deleted

@@ -1,6 +1,5 @@
 //! The laws of indexes: each stands on a function that does nothing (format page, "Indexes").
 ghost use Rattle.std.specs.List.Sorted.{IsStrictlySortedBy};
-ghost use Rattle.std.specs.List.{AllByRecursion as Each, enumerate_from};
 ghost use Rattle.std.specs.Prelude.{◌≡◌, ℕ, ◌+◌, ◌<◌, ◌≤◌, ◌↔◌, not, ◌&&◌, cond, nat_le, List, [], ◌∷◌, length, map, filter, flat_map, slice_index_or, unwrap_or, All, Contains, Some, None};
 ghost use Rattle.std.specs.Ordering.{nat_cmp};
 ghost use Rattle.std.specs.Str.{IsUtf8};
@@ -67,9 +66,9 @@ pub fn merged_by_source()
         ≡ flat_map (λ index. map (λ document. stored_in (joined_table indexes) (content_at index document).stored) (live index)) indexes }
     ensures vectors { (indexes : List Index) → (merge_of indexes).vectors
         ≡ flat_map (λ index. map (λ document. vectors_in (joined_table indexes) (content_at index document).vectors) (live index)) indexes }
-    ensures norms { (indexes : List Index) → (merge_of indexes).norms ≡ map (λ field. cond (has_norms field.bits) (Some
-        (flat_map (λ index. map (λ document. unwrap_or ((content_at index document).norm field.name) missing_norm) (live index)) indexes)) None)
-        (joined_table indexes) }
+    ensures norms { (indexes : List Index) → (merge_of indexes).norms ≡ map (λ field. cond (has_norms field.bits)
+        (Some (flat_map (λ index. map (λ document.
+        unwrap_or ((content_at index document).norm field.name) missing_norm) (live index)) indexes)) None) (joined_table indexes) }
     ensures terms { (indexes : List Index) → All IsValid indexes → (merge_of indexes).terms
         ≡ filter (λ term. not (is_empty term.entries)) (map (merged_term indexes)
         (in_order term_cmp (flat_map (λ index. map (term_of index.fields) index.terms) indexes))) }
@@ -85,13 +84,13 @@ pub fn sound_documents()
 pub fn written_documents()
     ensures index { (docs : List Document) (limits : Limits) → All IsDocument docs
         → All (λ doc. doc_fault doc limits ≡ None) docs
-        → All (λ doc. IsSmall (length doc.stored) × IsSmall (length doc.indexed) × Each (λ value. IsStorable value.value) doc.stored) docs
+        → All (λ doc. IsSmall (length doc.stored) × IsSmall (length doc.indexed) × All (λ value. IsStorable value.value) doc.stored) docs
         → IsSmall (length docs) → IsSmall (length (table_of docs)) → IsSmall (length (index_of_documents docs).terms)
         → IsValid (index_of_documents docs) }
     ensures under { (table : List TableField) (docs : List Document) (limits : Limits) → All IsDocument docs
         → All (λ doc. doc_fault doc limits ≡ None) docs
-        → All (λ doc. IsSmall (length doc.stored) × IsSmall (length doc.indexed) × Each (λ value. IsStorable value.value) doc.stored) docs
-        → IsSmall (length docs) → IsTable table → Each (λ field. IsStorable (Text field.name)) table → Covers table docs
+        → All (λ doc. IsSmall (length doc.stored) × IsSmall (length doc.indexed) × All (λ value. IsStorable value.value) doc.stored) docs
+        → IsSmall (length docs) → IsTable table → All (λ field. IsStorable (Text field.name)) table → Covers table docs
         → IsSmall (length (under table docs).terms) → IsValid (under table docs) }
 {}
 

@@ -141,6 +141,9 @@ fn loads_by_name(rt: HostRuntime) -> Result<(), test::Fail> {
     let loaded = load(alloc, &mut dir, &names, 5)?;
     assert_eq!(rt; loaded.get("five"), Some(b"abcde".as_slice()));
     assert_eq!(rt; loaded.get("none"), None);
+    assert_eq!(rt; loaded.get("other"), None);
+    assert_eq!(rt; loaded.at(0), Some(b"abcde".as_slice()));
+    assert_eq!(rt; loaded.at(1), None);
     Ok(())
 }
 

@@ -1,30 +1,29 @@
--- A file of a segment as a command finds it.
-use Rattle.std.specs.Prelude.{◌≡◌, ℕ, ◌-◌, ◌^◌, ◌≤◌, true, List, length, Option, IfSome}
+-- The files of a segment as a command finds them.
+use Rattle.std.specs.Prelude.{◌≡◌, ℕ, ◌-◌, ◌^◌, List, [], ◌∷◌, length, map, All, Option, Some, None, unwrap_or, slice_get, if◌then◌else◌}
 use Rattle.std.specs.Option.{ForSome}
-use Rattle.lu_types.specs.RuleNumbers as number
 use Rattle.lu_dir.specs.Files.{Files, contents}
-use Rattle.lu_dir.specs.Loading.{is_over}
+use Rattle.lu_dir.specs.Loading.{IsLoadable, is_over}
+use Rattle.lu_types.specs.Names.{part_name}
 use Rattle.lu_types.specs.declared.kind.FileKind.{FileKind}
-use Rattle.lu_types.specs.declared.fault.Spot.{Spot}
-use Rattle.lu_command.specs.declared.status.Status.{Status}
-use Rattle.lu_command.specs.declared.status.Status.TheVariants as statuses
-
--- the answer of a command that needs no commit, where a file has this fault
-abbrev pub not_standing : Spot → Status
-not_standing spot = statuses.NotStanding 0 (record { segment = 0; spot = spot })
-
--- the fault of a file that is not there
-abbrev pub missing : FileKind → Spot
-missing kind = record { kind = kind; offset = 0; rule = number.missing }
 
 -- the most bytes of a file that a command reads
 abbrev pub file_limit : ℕ
 file_limit = 2 ^ 31 - 1
 
--- a folder that tells its files has a file of this name that is too long
-abbrev pub IsTooLong : Option Files → List ℕ → Type 0
-IsTooLong files name = ForSome files (λ told. is_over file_limit (contents told name) ≡ true)
+-- the first of these kinds whose file is too long
+abbrev pub first_too_long : Files → List ℕ → List FileKind → Option FileKind
+first_too_long files segment [] = None
+first_too_long files segment (kind ∷ kinds) = if is_over file_limit (contents files (part_name segment kind)) then Some kind else first_too_long files segment kinds
 
--- these bytes, where there are any, are the file of this name, if the folder tells its files; and they are not too many
-abbrev pub IsFile : Option Files → List ℕ → Option (List ℕ) → Type 0
-IsFile files name found = ForSome files (λ told. contents told name ≡ found) × IfSome found (λ bytes. length bytes ≤ file_limit)
+-- the names of the segment's files of these kinds
+abbrev pub part_names : List ℕ → List FileKind → List (List ℕ)
+part_names segment kinds = map (part_name segment) kinds
+
+-- this was found of the segment's files of these kinds, in order: what the folder has, if it tells its files; each is made of bytes and not too long
+pub record AreFound (files : Option Files) (segment : List ℕ) (kinds : List FileKind) (found : List (Option (List ℕ))) : Type 0 where
+  pub told : ForSome files (λ told. found ≡ map (contents told) (part_names segment kinds))
+  pub each : All (IsLoadable file_limit) found
+
+-- what was found at this place
+abbrev pub file_at : List (Option (List ℕ)) → ℕ → Option (List ℕ)
+file_at found place = unwrap_or (slice_get found place) None

@@ -2,8 +2,8 @@ pub mod Answers
 pub mod Asking
 pub mod Codes
 pub mod Commands
-pub mod Docs
 pub mod Files
 pub mod Meanings
+pub mod Needs
 pub mod Texts
 pub mod Words

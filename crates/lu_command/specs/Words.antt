@@ -1,12 +1,8 @@
 -- Options and arguments among the words of a call.
-use Rattle.std.specs.Prelude.{◌≡◌, ℕ, List, [], ◌∷◌, ◌++◌, length, map, filter, Bool, not, ◌&&◌, nat_eq, nat_lt, codes, String, string_bytes}
+use Rattle.std.specs.Prelude.{◌≡◌, ℕ, List, [], ◌∷◌, ◌++◌, length, filter, Bool, not, ◌&&◌, nat_eq, nat_lt, codes}
 use Rattle.std.specs.List.{before_first, after_first, starts_with}
 use Rattle.std.specs.Str.{bytes_eq}
 use Rattle.lu_types.specs.Names.{IsSegmentName}
-
--- the bytes of each word
-abbrev pub texts : {A : Type 0} → List (String A) → List (List ℕ)
-texts words = map string_bytes words
 
 -- the word ends the options
 abbrev pub ends_options : List ℕ → Bool

@@ -4,11 +4,11 @@ ghost use Rattle.std.specs.Option.{option_copied};
 ghost use Rattle.lu_types.specs.Names.{part_name as name_of_part};
 ghost use Rattle.lu_dir.specs.Faults.{IsCaused};
 ghost use Rattle.lu_dir.specs.Files.{Files};
-ghost use Rattle.lu_command.specs.Words.{texts};
+ghost use Rattle.lu_dir.specs.Loading.{texts};
 ghost use Rattle.lu_command.specs.Commands.{Meaning, Means};
-ghost use Rattle.lu_command.specs.Answers.{Prints, FieldsSays, FieldsDue, MeaningDue, Due, HoldsBytes, Completes};
-ghost use Rattle.lu_command.specs.Texts.{too_large_text as text_of_too_large};
-ghost use Rattle.lu_command.specs.Docs.{docs_kinds, DocsSays, DocsDue};
+ghost use Rattle.lu_command.specs.Needs.{fields_kinds, docs_kinds, table_files, document_files};
+ghost use Rattle.lu_command.specs.Answers.{Prints, Says, FieldsSays, DocsSays, FilesDue, MeaningDue, Due, Completes};
+ghost use Rattle.lu_command.specs.Texts.{too_large_text as text_of_too_large, field_lines, doc_lines};
 ghost use Rattle.lu_command.specs.Asking.{AsksFor, Asks, IsTooLarge, folder_of, status_of};
 ghost use Rattle.lu_command.specs.Meanings.{meaning_of};
 
@@ -37,12 +37,12 @@ fn stopped(fail: DirFail) -> Status
 }
 
 /// Prints what `fields` says of the bytes of a field table, where there are any.
-fn say_fields<K: Sink>(alloc: Global, segment: &str, found: Option<&[u8]>, out: &mut K) -> Status
-    ensures printed { Prints (FieldsSays segment.now (option_copied found.entry)) (K.taken out.old) (K.taken out.new) result }
+fn say_fields<K: Sink>(alloc: Global, segment: &str, fnm: Option<&[u8]>, out: &mut K) -> Status
+    ensures printed { Prints (Says segment.now (table_files (option_copied fnm.entry)) (field_lines 0)) (K.taken out.old) (K.taken out.new) result }
     ensures cause { IsCaused (K.faults out.old) (K.faults out.new) (result ≡ Status.Device Which.Sink) }
     ensures folder { result ≢ Status.Device Which.Dir }
 {
-    match fields_answer(alloc, segment, found) {
+    match fields_answer(alloc, segment, fnm) {
         Ok(answer) => tell(alloc, out, answer.status, answer.text.as_slice()),
         Err(_) => Status::NoMemory,
     }
@@ -80,7 +80,7 @@ fn say_unloaded<K: Sink>(alloc: Global, kind: FileKind, fault: LoadFault, out: &
 
 /// Answers `fields` in the folder that was entered.
 fn read_fields<D: Dir, K: Sink>(alloc: Global, segment: &str, dir: &mut D, out: &mut K) -> Status
-    ensures printed { Prints (FieldsDue segment.now (D.files dir.old)) (K.taken out.old) (K.taken out.new) result }
+    ensures printed { Prints (FilesDue segment.now fields_kinds (FieldsSays segment.now) (D.files dir.old)) (K.taken out.old) (K.taken out.new) result }
     ensures files { D.files dir.new ≡ D.files dir.old }
     ensures asked { D.asked dir.new ≡ D.asked dir.old }
     ensures folder { IsCaused (D.faults dir.old) (D.faults dir.new) (result ≡ Status.Device Which.Dir) }
@@ -91,7 +91,7 @@ fn read_fields<D: Dir, K: Sink>(alloc: Global, segment: &str, dir: &mut D, out: 
         Err(_) => return Status::NoMemory,
     };
     match load(alloc, dir, &names, FILE_LIMIT) {
-        Ok(loaded) => say_fields(alloc, segment, loaded.get(names[0].as_str()), out),
+        Ok(loaded) => say_fields(alloc, segment, loaded.at(0), out),
         Err(fault) => say_unloaded(alloc, FileKind::Fnm, fault, out),
     }
 }
@@ -106,7 +106,7 @@ fn say_docs<K: Sink>(
     out: &mut K,
 ) -> Status
     requires { IfSome (option_copied fdx) (λ bytes. length bytes ≤ FILE_LIMIT) }
-    ensures printed { Prints (DocsSays segment.now (option_copied fnm.entry) (option_copied fdx.entry) (option_copied fdt.entry)) (K.taken out.old) (K.taken out.new) result }
+    ensures printed { Prints (Says segment.now (document_files (option_copied fnm.entry) (option_copied fdx.entry) (option_copied fdt.entry)) (doc_lines 0)) (K.taken out.old) (K.taken out.new) result }
     ensures cause { IsCaused (K.faults out.old) (K.faults out.new) (result ≡ Status.Device Which.Sink) }
     ensures folder { result ≢ Status.Device Which.Dir }
 {
@@ -138,7 +138,7 @@ fn docs_kind(fault: &LoadFault) -> FileKind
 
 /// Answers `docs` in the folder that was entered.
 fn read_docs<D: Dir, K: Sink>(alloc: Global, segment: &str, dir: &mut D, out: &mut K) -> Status
-    ensures printed { Prints (DocsDue segment.now (D.files dir.old)) (K.taken out.old) (K.taken out.new) result }
+    ensures printed { Prints (FilesDue segment.now docs_kinds (DocsSays segment.now) (D.files dir.old)) (K.taken out.old) (K.taken out.new) result }
     ensures files { D.files dir.new ≡ D.files dir.old }
     ensures asked { D.asked dir.new ≡ D.asked dir.old }
     ensures folder { IsCaused (D.faults dir.old) (D.faults dir.new) (result ≡ Status.Device Which.Dir) }
@@ -149,13 +149,14 @@ fn read_docs<D: Dir, K: Sink>(alloc: Global, segment: &str, dir: &mut D, out: &m
         Err(_) => return Status::NoMemory,
     };
     match load(alloc, dir, &names, FILE_LIMIT) {
-        Ok(loaded) => {
-            let [fnm, fdx, fdt] = &names;
-            let fnm = loaded.get(fnm.as_str());
-            let fdx = loaded.get(fdx.as_str());
-            let fdt = loaded.get(fdt.as_str());
-            say_docs(alloc, segment, fnm, fdx, fdt, out)
-        }
+        Ok(loaded) => say_docs(
+            alloc,
+            segment,
+            loaded.at(0),
+            loaded.at(1),
+            loaded.at(2),
+            out,
+        ),
         Err(fault) => {
             let kind = docs_kind(&fault);
             say_unloaded(alloc, kind, fault, out)
@@ -198,7 +199,7 @@ fn obey<D: Dir, K: Sink>(alloc: Global, command: Command<'_>, dir: &mut D, out: 
 
 /// Words and the files of a folder that tells them determine the answer and its text.
 pub fn one_answer()
-    ensures { (words : List (List ℕ)) (files : Files) (status other : Status) (text other_text : List ℕ) → HoldsBytes files
+    ensures { (words : List (List ℕ)) (files : Files) (status other : Status) (text other_text : List ℕ)
         → Due words (Some files) status text → Due words (Some files) other other_text → (status ≡ other) × (text ≡ other_text) }
 {}
 

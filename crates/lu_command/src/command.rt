@@ -1,5 +1,5 @@
 ghost use Rattle.std.specs.Prelude.{◌≡◌, ℕ, List, MatchOption};
-ghost use Rattle.lu_command.specs.Words.{texts};
+ghost use Rattle.lu_dir.specs.Loading.{texts};
 ghost use Rattle.lu_command.specs.Commands.{Meaning, Means};
 ghost use Rattle.lu_command.specs.Asking.{folder_of};
 ghost use Rattle.lu_command.specs.Meanings.{meaning_of};

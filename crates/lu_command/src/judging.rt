@@ -1,10 +1,11 @@
 //! What a command says of the bytes that it read.
-ghost use Rattle.std.specs.Prelude.{◌≡◌, ◌<◌, ◌^◌, length, Some, None, IfOk, IfSome};
+ghost use Rattle.std.specs.Prelude.{◌≡◌, ℕ, ◌<◌, ◌^◌, length, Some, None, IfOk, IfSome};
 ghost use Rattle.std.specs.Option.{option_copied};
 ghost use Rattle.lu_types.specs.Names.{IsPart};
-ghost use Rattle.lu_command.specs.Answers.{FieldsSays, IsAnswer};
-ghost use Rattle.lu_command.specs.Docs.{StoreSays, DocsSays};
-ghost use Rattle.lu_command.specs.Files.{not_standing};
+ghost use Rattle.lu_types.specs.FilePlans.{missing as spot_of_missing};
+ghost use Rattle.stored_fields.specs.Stores.{all_files};
+ghost use Rattle.lu_command.specs.Answers.{Says, IsAnswer, not_standing};
+ghost use Rattle.lu_command.specs.Needs.{table_files, document_files};
 ghost use Rattle.lu_command.specs.Texts.{fault_text as text_of_fault, field_lines, doc_lines};
 
 use crate::answer::Answer;
@@ -13,9 +14,16 @@ use crate::texts::{docs_text, fault_text, fields_text};
 use field_infos::check;
 use lu_prims::OutOfMemory;
 use lu_types::rules::MISSING;
-use lu_types::{CodecFault, Fault, FieldTable, FileKind, Spot};
+use lu_types::{CodecFault, Fault, FieldTable, FileKind, Spot, Window};
 use std::alloc::Global;
-use stored_fields::{StoredView, stored_total};
+use stored_fields::{StoredView, check_places, stored_total};
+
+/// The fault of a file that is not there.
+fn missing(kind: FileKind) -> Spot
+    ensures { result ≡ spot_of_missing kind }
+{
+    Spot::at(kind, 0, MISSING)
+}
 
 /// The answer that a file of the segment has this fault.
 fn faulty(alloc: Global, segment: &str, spot: Spot) -> Result<Answer, OutOfMemory>
@@ -45,13 +53,13 @@ fn table_answer(alloc: Global, table: &FieldTable<'_>) -> Result<Answer, OutOfMe
 pub fn fields_answer(
     alloc: Global,
     segment: &str,
-    found: Option<&[u8]>,
+    fnm: Option<&[u8]>,
 ) -> Result<Answer, OutOfMemory>
-    ensures says { IfOk result (λ answer. FieldsSays segment.now (option_copied found.entry) answer.status answer.text.items) }
+    ensures says { IfOk result (λ answer. Says segment.now (table_files (option_copied fnm.entry)) (field_lines 0) answer.status answer.text.items) }
     ensures answer { IfOk result (λ answer. IsAnswer answer.status) }
 {
-    let Some(bytes) = found else {
-        return faulty(alloc, segment, MISSING_TABLE);
+    let Some(bytes) = fnm else {
+        return faulty(alloc, segment, missing(FileKind::Fnm));
     };
     match check(alloc, bytes, true, None) {
         Ok(table) => table_answer(alloc, &table),
@@ -59,26 +67,6 @@ pub fn fields_answer(
         Err(CodecFault::OutOfMemory) => Err(OutOfMemory),
     }
 }
-
-/// The fault of a field table that is not there.
-const MISSING_TABLE: Spot = Spot {
-    kind: FileKind::Fnm,
-    offset: 0,
-    rule: MISSING,
-};
-
-/// The fault of a file of places that is not there, and of a file of documents.
-const MISSING_PLACES: Spot = Spot {
-    kind: FileKind::Fdx,
-    offset: 0,
-    rule: MISSING,
-};
-
-const MISSING_DOCUMENTS: Spot = Spot {
-    kind: FileKind::Fdt,
-    offset: 0,
-    rule: MISSING,
-};
 
 /// The answer with the lines of the documents of a store.
 fn documents_answer(alloc: Global, view: &StoredView<'_>) -> Result<Answer, OutOfMemory>
@@ -101,7 +89,7 @@ fn store_answer(
     fdt: &[u8],
 ) -> Result<Answer, OutOfMemory>
     requires { length fdx.now < 2 ^ 31 }
-    ensures says { IfOk result (λ answer. StoreSays segment.now fields (Some fdx.now) (Some fdt.now) answer.status answer.text.items) }
+    ensures says { IfOk result (λ answer. Says segment.now (all_files fields (Some fdx.now) (Some fdt.now)) (doc_lines 0) answer.status answer.text.items) }
     ensures answer { IfOk result (λ answer. IsAnswer answer.status) }
 {
     match StoredView::check(fdx, fdt, fields, stored_total(fdx)) {
@@ -111,19 +99,19 @@ fn store_answer(
 }
 
 /// What `docs` says of a store without its file of documents: a fault of its file of places comes first.
-fn places_answer(
-    alloc: Global,
-    segment: &str,
-    fields: u32,
-    fdx: &[u8],
-) -> Result<Answer, OutOfMemory>
+fn places_answer(alloc: Global, segment: &str, fdx: &[u8]) -> Result<Answer, OutOfMemory>
     requires { length fdx.now < 2 ^ 31 }
-    ensures says { IfOk result (λ answer. StoreSays segment.now fields (Some fdx.now) None answer.status answer.text.items) }
+    ensures says { IfOk result (λ answer. (fields : ℕ) → Says segment.now (all_files fields (Some fdx.now) None) (doc_lines 0) answer.status answer.text.items) }
     ensures answer { IfOk result (λ answer. IsAnswer answer.status) }
 {
-    match StoredView::check(fdx, &[], fields, stored_total(fdx)) {
-        Err(spot) if spot.kind == FileKind::Fdx => faulty(alloc, segment, spot),
-        _ => faulty(alloc, segment, MISSING_DOCUMENTS),
+    let total = stored_total(fdx);
+    let whole = Window {
+        offset: 0,
+        count: total,
+    };
+    match check_places(fdx, total, whole) {
+        Ok(()) => faulty(alloc, segment, missing(FileKind::Fdt)),
+        Err(spot) => faulty(alloc, segment, spot),
     }
 }
 
@@ -136,15 +124,15 @@ fn stored_answer(
     fdt: Option<&[u8]>,
 ) -> Result<Answer, OutOfMemory>
     requires { IfSome (option_copied fdx) (λ bytes. length bytes < 2 ^ 31) }
-    ensures says { IfOk result (λ answer. StoreSays segment.now fields (option_copied fdx.entry) (option_copied fdt.entry) answer.status answer.text.items) }
+    ensures says { IfOk result (λ answer. Says segment.now (all_files fields (option_copied fdx.entry) (option_copied fdt.entry)) (doc_lines 0) answer.status answer.text.items) }
     ensures answer { IfOk result (λ answer. IsAnswer answer.status) }
 {
     let Some(fdx) = fdx else {
-        return faulty(alloc, segment, MISSING_PLACES);
+        return faulty(alloc, segment, missing(FileKind::Fdx));
     };
     match fdt {
         Some(fdt) => store_answer(alloc, segment, fields, fdx, fdt),
-        None => places_answer(alloc, segment, fields, fdx),
+        None => places_answer(alloc, segment, fdx),
     }
 }
 
@@ -157,11 +145,11 @@ pub fn docs_answer(
     fdt: Option<&[u8]>,
 ) -> Result<Answer, OutOfMemory>
     requires { IfSome (option_copied fdx) (λ bytes. length bytes < 2 ^ 31) }
-    ensures says { IfOk result (λ answer. DocsSays segment.now (option_copied fnm.entry) (option_copied fdx.entry) (option_copied fdt.entry) answer.status answer.text.items) }
+    ensures says { IfOk result (λ answer. Says segment.now (document_files (option_copied fnm.entry) (option_copied fdx.entry) (option_copied fdt.entry)) (doc_lines 0) answer.status answer.text.items) }
     ensures answer { IfOk result (λ answer. IsAnswer answer.status) }
 {
     let Some(bytes) = fnm else {
-        return faulty(alloc, segment, MISSING_TABLE);
+        return faulty(alloc, segment, missing(FileKind::Fnm));
     };
     match check(alloc, bytes, true, None) {
         Ok(table) => stored_answer(alloc, segment, table.count(), fdx, fdt),

@@ -1,7 +1,8 @@
 ghost use Rattle.std.specs.Prelude.{◌≡◌, ◌≢◌, List, ℕ, [], ◌∷◌, ◌++◌, MatchOption, string_bytes, slice_get};
 ghost use Rattle.std.specs.Option.{option_copied};
 ghost use Rattle.std.specs.List.{before_first, after_first, list_any, position};
-ghost use Rattle.lu_command.specs.Words.{texts, ends_options, is_option, options_in, arguments_in, HasDirAndSegment};
+ghost use Rattle.lu_dir.specs.Loading.{texts};
+ghost use Rattle.lu_command.specs.Words.{ends_options, is_option, options_in, arguments_in, HasDirAndSegment};
 
 use lu_types::segment_number;
 

@@ -1,5 +1,5 @@
 -- Counts of faults over several calls.
-use Rattle.std.proofs.Common.{ℕ, ◌≤◌, inl, inr, arith}
+use Rattle.std.proofs.Common.{◌≡◌, ◌<◌, ℕ, ◌≤◌, inl, inr, arith}
 use Rattle.lu_dir.specs.Faults.{Rose, IsCaused}
 
 -- a count that rose since a later moment rose since an earlier one
@@ -17,3 +17,8 @@ IsCaused-earlier before between after later caused = record {
 -- where nothing failed there is nothing to show but that the count did not fall
 pub IsCaused-no_failure : {Failure : Type 0} (before after : ℕ) → before ≤ after → (Failure → ⊥) → IsCaused before after Failure
 IsCaused-no_failure before after later none = record { later = later; rose = λ failure. absurd (none failure) }
+
+-- a count that rose stays so
+pub Rose-later : (before between after : ℕ) → between ≤ after → before ≤ between → Rose before between → Rose before after
+Rose-later before between after later earlier (inl rose) = inl (omega arith)
+Rose-later before between after later earlier (inr last) = grind arith

@@ -1,3 +1,4 @@
+pub mod BytesLemmas
 pub mod Causes
 pub mod Contents
 pub mod HeldFiles
@@ -8,3 +9,5 @@ pub mod Moved
 pub mod Named
 pub mod Ranges
 pub mod Taken
+pub mod Told
+pub mod TwoChanges

@@ -5,19 +5,34 @@ use Rattle.std.specs.declared.vec.Vec.{Vec}
 use Rattle.std.specs.declared.alloc.Global.{Global}
 use Rattle.std.specs.Option.{option_map}
 use Rattle.std.specs.Str.{bytes_eq}
-use Rattle.std.proofs.lemmas.List.{map-append, take-append-drop, take_more, length-take-le, length-map}
+use Rattle.std.proofs.lemmas.List.{map-append, take-append-drop, take_more, take_all, length-take-le, length-map}
 use Rattle.std.proofs.lemmas.List.Folds.{list_any-append}
 use Rattle.std.proofs.lemmas.Slice.Eq.{bytes_eq-Decides}
 use Rattle.lu_dir.proofs.Contents.{contents-with_file}
 use Rattle.lu_dir.specs.Files.{Files, contents}
 use Rattle.lu_dir.specs.FileMap.{with_found, items_of}
-use Rattle.lu_dir.specs.Loading.{is_named, AreLoaded, AreOnly, AreWithin, is_over, first_over, texts}
+use Rattle.lu_dir.specs.Loading.{is_over, first_over, texts}
+use Rattle.lu_dir.specs.InnerLoading.{is_named, AreLoaded, AreOnly, HaveAtMost}
 
 -- the texts of one string more
 pub texts-more : (names : List (String Global)) (place : ℕ) (name : String Global) → place < length names → name ≡ get_or names place name → texts (take (place + 1) names) ≡ texts (take place names) ++ string_bytes name ∷ []
 texts-more names place name within is =
     ap texts (take_more names place name within ∙ ap (λ (item : String Global). take place names ++ item ∷ []) (sym is))
     ∙ map-append string_bytes (take place names) (name ∷ [])
+
+-- the texts of one copy more
+pub texts-push : (copies after names : List (String Global)) (copy name : String Global) (place : ℕ) → after ≡ copies ++ copy ∷ [] → string_bytes copy ≡ string_bytes name → place < length names → name ≡ get_or names place name
+    → texts copies ≡ texts (take place names) → texts after ≡ texts (take (place + 1) names)
+texts-push copies after names copy name place pushed same within is before =
+    ap texts pushed
+    ∙ map-append string_bytes copies (copy ∷ [])
+    ∙ ap (λ (front : List (List ℕ)). front ++ string_bytes copy ∷ []) before
+    ∙ ap (λ (bytes : List ℕ). texts (take place names) ++ bytes ∷ []) same
+    ∙ sym (texts-more names place name within is)
+
+-- all of the texts
+pub texts-all : (names : List (String Global)) (place : ℕ) → length names ≤ place → texts (take place names) ≡ texts names
+texts-all names place le = ap texts (take_all place names le)
 
 rest_at : (names : List (String Global)) (place : ℕ) (name : String Global) → place < length names → name ≡ get_or names place name → drop place names ≡ name ∷ drop (place + 1) names
 rest_at names place name within is = drop-cons names place name within ∙ rw (add-one) (ap (λ (item : String Global). item ∷ drop (suc place) names) (sym is))
@@ -80,8 +95,8 @@ AreOnly-more names files name found only = λ asked apart.
     ∙ only-more (bytes_eq asked name) (is_named names asked) found (contents files asked) (only asked) (sym (is_named-more names name asked) ∙ apart)
 
 -- and none is over the limit
-pub AreWithin-more : (limit : ℕ) (files : Files) (name : List ℕ) (found : Option (List ℕ)) → AreWithin limit files → IfSome found (λ bytes. length bytes ≤ limit) → AreWithin limit (with_found name found files)
-AreWithin-more limit files name found within new = λ asked.
+pub HaveAtMost-more : (limit : ℕ) (files : Files) (name : List ℕ) (found : Option (List ℕ)) → HaveAtMost limit files → IfSome found (λ bytes. length bytes ≤ limit) → HaveAtMost limit (with_found name found files)
+HaveAtMost-more limit files name found within new = λ asked.
     let P : Option (List ℕ) → Type 0 = λ there. IfSome there (λ bytes. length bytes ≤ limit) in
     subst P (sym (contents-with_found name found files asked)) (within-more limit (bytes_eq asked name) found (contents files asked) (within asked) new)
 
@@ -135,9 +150,9 @@ AreOnly-next names place text name files new found within at named put only =
     subst (λ (listed : List (List ℕ)). AreOnly listed new) (ap (λ (bytes : List ℕ). texts (take place names) ++ bytes ∷ []) named ∙ sym (texts-more names place text within at))
     (subst (λ (held : Files). AreOnly (texts (take place names) ++ name ∷ []) held) (sym put) (AreOnly-more (texts (take place names)) files name found only))
 
-pub AreWithin-next : (limit : ℕ) (name : List ℕ) (files new : Files) (found : Option (Vec ℕ Global)) → new ≡ with_found name (option_map items_of found) files → AreWithin limit files → IfSome found (λ bytes. length bytes.items ≤ limit) → AreWithin limit new
-AreWithin-next limit name files new None put within fits = subst (λ (held : Files). AreWithin limit held) (sym put) within
-AreWithin-next limit name files new (Some bytes) put within fits = subst (λ (held : Files). AreWithin limit held) (sym put) (AreWithin-more limit files name (Some bytes.items) within fits)
+pub HaveAtMost-next : (limit : ℕ) (name : List ℕ) (files new : Files) (found : Option (Vec ℕ Global)) → new ≡ with_found name (option_map items_of found) files → HaveAtMost limit files → IfSome found (λ bytes. length bytes.items ≤ limit) → HaveAtMost limit new
+HaveAtMost-next limit name files new None put within fits = subst (λ (held : Files). HaveAtMost limit held) (sym put) within
+HaveAtMost-next limit name files new (Some bytes) put within fits = subst (λ (held : Files). HaveAtMost limit held) (sym put) (HaveAtMost-more limit files name (Some bytes.items) within fits)
 
 pub first_over-next : (told : Files) (limit : ℕ) (names : List (String Global)) (place : ℕ) (text : String Global) (name : List ℕ) → place < length names → text ≡ get_or names place text → name ≡ string_bytes text
     → first_over told limit (texts (take place names)) ≡ None → is_over limit (contents told name) ≡ false → first_over told limit (texts (take (place + 1) names)) ≡ None

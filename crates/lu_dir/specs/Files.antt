@@ -1,9 +1,10 @@
 -- The files of a folder, and what each call makes of them.
-use Rattle.std.specs.Prelude.{◌≡◌, ℕ, ◌+◌, ◌≤◌, List, [], ◌++◌, length, take, drop, Option, Some, Result, Err, unwrap_or, IsSomeAnd}
+use Rattle.std.specs.Prelude.{◌≡◌, ℕ, ◌+◌, ◌≤◌, List, [], ◌++◌, length, take, drop, Option, Some, Result, Err, unwrap_or, IsSomeAnd, IfSome}
 use Rattle.std.specs.Ordering.{nat_cmp}
 use Rattle.std.specs.Cmp.Lexicographic.{slice_cmp}
 use Rattle.std.specs.Option.{ForSome}
 use Rattle.std.specs.FinMap.{FinMap, get, insert, remove}
+use Rattle.lu_grammar.specs.Bytes.{IsBytes}
 use Rattle.lu_dir.specs.declared.fail.DirFail.{DirFail}
 use Rattle.lu_dir.specs.declared.fail.DirFail.TheVariants.{OutOfMemory}
 
@@ -14,6 +15,10 @@ Files = FinMap (slice_cmp nat_cmp) (List ℕ)
 -- the bytes of the file with this name, where there is one
 abbrev pub contents : Files → List ℕ → Option (List ℕ)
 contents files name = get files name
+
+-- each file is made of bytes
+abbrev pub AreMadeOfBytes : Files → Type 0
+AreMadeOfBytes files = (name : List ℕ) → IfSome (contents files name) IsBytes
 
 -- the files with this one made or replaced
 abbrev pub with_file : List ℕ → List ℕ → Files → Files

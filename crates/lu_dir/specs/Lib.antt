@@ -1,9 +1,10 @@
-pub mod Faults
 pub mod CallPlan
+pub mod Faults
 pub mod FileMap
 pub mod Files
 pub mod Folder
 pub mod Host
+pub mod InnerLoading
 pub mod LoadFaults
 pub mod Loading
 pub mod Planned

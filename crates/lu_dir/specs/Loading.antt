@@ -1,30 +1,29 @@
 -- Files that were loaded by their names.
-use Rattle.std.specs.Prelude.{◌≡◌, ℕ, ◌+◌, ◌≤◌, Bool, false, List, [], ◌∷◌, length, Option, Some, None, if◌then◌else◌, nat_lt, option_map, IfSome, map, string_bytes}
-use Rattle.std.specs.declared.string.String.{String}
-use Rattle.std.specs.declared.alloc.Global.{Global}
-use Rattle.std.specs.List.{list_any}
+use Rattle.std.specs.Prelude.{◌≡◌, ℕ, ◌+◌, ◌≤◌, Bool, false, List, [], ◌∷◌, length, Option, Some, None, if◌then◌else◌, nat_lt, option_map, IfSome, map, string_bytes, String, refl}
+use Rattle.std.specs.Coded.{Coded, code_by, coded_ℕ, coded_list, coded_option, coded×}
 use Rattle.std.specs.Str.{bytes_eq}
+use Rattle.lu_grammar.specs.Bytes.{IsBytes}
 use Rattle.lu_dir.specs.Files.{Files, contents}
 
--- whether the name is one of these
-abbrev pub is_named : List (List ℕ) → List ℕ → Bool
-is_named names name = list_any (bytes_eq name) names
+-- the bytes of some texts
+abbrev pub texts : {A : Type 0} → List (String A) → List (List ℕ)
+texts names = map string_bytes names
 
--- the file of a name that was asked for, where there is one
-abbrev pub file_if_named : Files → List (List ℕ) → List ℕ → Option (List ℕ)
-file_if_named told names name = (if is_named names name then contents told name else None)
+-- the names that were asked for, and beside each what was found: the bytes of its file, where there is one
+pub record Loading : Type 0 where
+  pub names : List (List ℕ)
+  pub found : List (Option (List ℕ))
 
--- these are the files of a folder that were asked for, and no others
-abbrev pub AreLoaded : Files → List (List ℕ) → Files → Type 0
-AreLoaded told names loaded = (name : List ℕ) → contents loaded name ≡ file_if_named told names name
+-- what was found beside the first of these names that is the one asked for
+abbrev pub found_at : List (List ℕ) → List (Option (List ℕ)) → List ℕ → Option (List ℕ)
+found_at (name ∷ names) (found ∷ rest) asked = (if bytes_eq asked name then found else found_at names rest asked)
+found_at (name ∷ names) [] asked = None
+found_at [] found asked = None
 
--- no other files than those that were asked for
-abbrev pub AreOnly : List (List ℕ) → Files → Type 0
-AreOnly names loaded = (name : List ℕ) → is_named names name ≡ false → contents loaded name ≡ None
-
--- no file has more bytes than the limit
-abbrev pub AreWithin : ℕ → Files → Type 0
-AreWithin limit loaded = (name : List ℕ) → IfSome (contents loaded name) (λ bytes. length bytes ≤ limit)
+-- what was found is made of bytes, of so many at most
+pub record IsLoadable (limit : ℕ) (found : Option (List ℕ)) : Type 0 where
+  pub bytes : IfSome found IsBytes
+  pub within : IfSome found (λ bytes. length bytes ≤ limit)
 
 -- whether a file is there and has more bytes than the limit
 abbrev pub is_over : ℕ → Option (List ℕ) → Bool
@@ -36,6 +35,6 @@ abbrev pub first_over : Files → ℕ → List (List ℕ) → Option ℕ
 first_over told limit [] = None
 first_over told limit (name ∷ names) = (if is_over limit (contents told name) then Some 0 else option_map (λ place. place + 1) (first_over told limit names))
 
--- the bytes of some texts
-abbrev pub texts : List (String Global) → List (List ℕ)
-texts names = map string_bytes names
+-- names and what was found are stored as a pair
+abbrev pub loading_code : Coded Loading
+loading_code = code_by (List (List ℕ) × List (Option (List ℕ))) (coded× (coded_list (coded_list coded_ℕ)) (coded_list (coded_option (coded_list coded_ℕ)))) (λ loaded. (loaded.names, loaded.found)) (λ pair. record { names = pair.0; found = pair.1 }) (λ _. refl)

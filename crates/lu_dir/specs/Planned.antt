@@ -52,6 +52,11 @@ abbrev pub left_by_remove : Left → List ℕ → Files → Files
 left_by_remove Absent name files = without_file name files
 left_by_remove _ name files = files
 
+-- a failed `create` that leaves this has to keep nothing
+abbrev pub TakesNoMemory : Left → Type 0
+TakesNoMemory (Prefix count) = ⊥
+TakesNoMemory _ = Unit {0}
+
 -- the count of failures after an answer
 abbrev pub faults_after : {T : Type 0} → Result T DirFail → ℕ → ℕ
 faults_after (Err Failed) faults = next_count faults

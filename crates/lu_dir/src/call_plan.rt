@@ -10,28 +10,28 @@ use std::marker::Model;
 
 /// The calls that are to fail, counted from 1, how many were made, and how many failed.
 #[derive(Drop)]
-pub struct Plan {
+pub struct CallPlan {
     fails: Vec<u64>,
     calls: u64,
     faults: FaultCount,
 }
 
-impl Model for Plan {
-    ghost use Rattle.lu_dir.specs.CallPlan.{CallPlan, plan_code};
+impl Model for CallPlan {
+    ghost use Rattle.lu_dir.specs.CallPlan.{PlannedCalls, plan_code};
 
-    ghost Value = { CallPlan };
+    ghost Value = { PlannedCalls };
 
     ghost coded = { plan_code };
 
     ghost view = { λ a. record { fails = a.fails.items; calls = a.calls; faults = a.faults } };
 }
 
-impl Plan {
+impl CallPlan {
     /// A plan of which no call was made yet.
-    pub fn new(fails: Vec<u64>) -> Plan
+    pub fn new(fails: Vec<u64>) -> CallPlan
         ensures { result ≡ record { fails = fails.items; calls = 0; faults = 0 } }
     {
-        Plan {
+        CallPlan {
             fails,
             calls: 0,
             faults: FaultCount::new(),

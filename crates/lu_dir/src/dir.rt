@@ -3,7 +3,7 @@ ghost use Rattle.std.specs.Prelude.{◌≡◌, ℕ, List, length, map, option_ma
 ghost use Rattle.std.specs.Option.{ForSome};
 ghost use Rattle.std.specs.FinMap.{keys};
 ghost use Rattle.lu_dir.specs.Faults.{IsCaused};
-ghost use Rattle.lu_dir.specs.Files.{Files, contents, with_file, without_file, range_of, HasRange, with_patch, CreateLeaves, PatchLeaves, RemoveLeaves, Leaves, asked_after};
+ghost use Rattle.lu_dir.specs.Files.{Files, contents, with_file, without_file, range_of, HasRange, with_patch, CreateLeaves, PatchLeaves, RemoveLeaves, Leaves, AreMadeOfBytes, asked_after};
 
 use crate::fail::DirFail;
 use std::alloc::Global;
@@ -20,9 +20,11 @@ pub trait Dir {
 
     ghost faults: { Self → ℕ };
 
-    /// Takes the folder at `path` as the one to use.
+    /// Takes the folder at `path` as the one to use. The files that it tells are made of bytes, as all that is written
+    /// later is.
     fn enter(&mut self, alloc: Global, path: &str) -> Result<(), DirFail>
         ensures files { files self.new ≡ files self.old }
+        ensures bytes { ForSome (files self.new) AreMadeOfBytes }
         ensures asked { asked self.new ≡ asked_after result path.now (asked self.old) }
         ensures cause { IsCaused (faults self.old) (faults self.new) (IsErrOf result DirFail.Failed) };
 
@@ -52,22 +54,22 @@ pub trait Dir {
         ensures asked { asked self.new ≡ asked self.old }
         ensures cause { IsCaused (faults self.old) (faults self.new) (IsErrOf result DirFail.Failed) };
 
-    /// Makes or replaces a file. After `Failed` the file is as before, absent, or holds a prefix of the bytes.
+    /// Makes or replaces a file. After an `Err` the file is as before, absent, or holds a prefix of the bytes.
     fn create(&mut self, alloc: Global, name: &str, bytes: &[u8]) -> Result<(), DirFail>
         ensures made { OnOk result (files self.new ≡ option_map (with_file name.now bytes.now) (files self.old)) }
-        ensures left { IsErrOf result DirFail.Failed
-            → Leaves (CreateLeaves name.now bytes.now) (files self.old) (files self.new) }
+        ensures left { OnErr result
+            (Leaves (CreateLeaves name.now bytes.now) (files self.old) (files self.new)) }
         ensures memory { IsErrOf result DirFail.OutOfMemory → files self.new ≡ files self.old }
         ensures asked { asked self.new ≡ asked self.old }
         ensures cause { IsCaused (faults self.old) (faults self.new) (IsErrOf result DirFail.Failed) };
 
-    /// Writes inside a file, whose length stays. After `Failed` a prefix of the bytes is written.
+    /// Writes inside a file, whose length stays. After an `Err` a prefix of the bytes is written, maybe none.
     fn patch(&mut self, alloc: Global, name: &str, at: u64, bytes: &[u8]) -> Result<(), DirFail>
         requires { ForSome (files self.old) (λ told. HasRange told name.now at (length bytes.now)) }
         ensures written { OnOk result
             (files self.new ≡ option_map (with_patch name.now at bytes.now) (files self.old)) }
-        ensures left { IsErrOf result DirFail.Failed
-            → Leaves (PatchLeaves name.now at bytes.now) (files self.old) (files self.new) }
+        ensures left { OnErr result
+            (Leaves (PatchLeaves name.now at bytes.now) (files self.old) (files self.new)) }
         ensures memory { IsErrOf result DirFail.OutOfMemory → files self.new ≡ files self.old }
         ensures asked { asked self.new ≡ asked self.old }
         ensures cause { IsCaused (faults self.old) (faults self.new) (IsErrOf result DirFail.Failed) };
@@ -78,11 +80,11 @@ pub trait Dir {
         ensures asked { asked self.new ≡ asked self.old }
         ensures cause { IsCaused (faults self.old) (faults self.new) (IsErrOf result DirFail.Failed) };
 
-    /// Removes a file. That there was none is no failure. After `Failed` the file is as before or absent.
+    /// Removes a file. That there was none is no failure. After an `Err` the file is as before or absent.
     fn remove(&mut self, alloc: Global, name: &str) -> Result<(), DirFail>
         ensures removed { OnOk result (files self.new ≡ option_map (without_file name.now) (files self.old)) }
-        ensures left { IsErrOf result DirFail.Failed
-            → Leaves (RemoveLeaves name.now) (files self.old) (files self.new) }
+        ensures left { OnErr result
+            (Leaves (RemoveLeaves name.now) (files self.old) (files self.new)) }
         ensures memory { IsErrOf result DirFail.OutOfMemory → files self.new ≡ files self.old }
         ensures asked { asked self.new ≡ asked self.old }
         ensures cause { IsCaused (faults self.old) (faults self.new) (IsErrOf result DirFail.Failed) };

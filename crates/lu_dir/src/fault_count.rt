@@ -2,6 +2,8 @@
 ghost use Rattle.std.specs.Prelude.{◌≡◌};
 ghost use Rattle.lu_dir.specs.Faults.{Rose, IsCaused};
 ghost use Rattle.lu_dir.specs.Planned.{next_count};
+ghost use Rattle.lu_dir.specs.Host.{fail_of};
+ghost use Rattle.std.specs.IoError.{error_kind};
 
 use crate::fail::DirFail;
 use std::io;
@@ -40,6 +42,7 @@ impl FaultCount {
 
     /// What an error of the system is to its caller: want of memory, or else a failure, which is counted.
     pub fn answer(&mut self, error: &io::Error) -> DirFail
+        ensures answer { result ≡ fail_of (error_kind error.now) }
         ensures failed { result ≡ DirFail.Failed → self.new ≡ next_count self.old }
         ensures memory { result ≡ DirFail.OutOfMemory → self.new ≡ self.old }
         ensures cause { IsCaused self.old self.new (result ≡ DirFail.Failed) }

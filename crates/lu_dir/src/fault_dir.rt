@@ -1,10 +1,10 @@
 //! A folder in memory that fails on demand.
-ghost use Rattle.std.specs.Prelude.{◌≡◌, length, map, take, is_ok, if◌then◌else◌, option_map, string_bytes, Some, None, Ok, Err, IfOk, OnOk, OnErr, IsErrOf};
+ghost use Rattle.std.specs.Prelude.{◌≡◌, length, map, take, is_ok, if◌then◌else◌, option_map, string_bytes, Some, None, Ok, Err, IfOk, OnOk, OnErr, IsErrOf, IsSome};
 ghost use Rattle.std.specs.Option.{ForSome};
 ghost use Rattle.std.specs.FinMap.{keys};
 ghost use Rattle.lu_dir.specs.Faults.{Rose, IsCaused};
-ghost use Rattle.lu_dir.specs.Files.{contents, with_file, without_file, with_patch, range_of, HasRange, asked_after};
-ghost use Rattle.lu_dir.specs.Planned.{next_count, next_failure, left_by_create, left_by_patch, left_by_remove, with_files, planned_answer, IsPlanned};
+ghost use Rattle.lu_dir.specs.Files.{contents, with_file, without_file, with_patch, range_of, HasRange, AreMadeOfBytes, asked_after};
+ghost use Rattle.lu_dir.specs.Planned.{next_count, next_failure, left_by_create, left_by_patch, left_by_remove, with_files, planned_answer, IsPlanned, TakesNoMemory};
 
 use crate::dir::Dir;
 use crate::fail::DirFail;
@@ -18,7 +18,8 @@ use std::marker::Model;
 /// A folder in memory whose calls fail where they are to, seen as the folder, the plan, and how many calls were made and
 /// how many failed. Each call of the folder counts, from 1 on; a call that `fails` names fails, and so does each from
 /// `stop` on. Where `fails` names a call more than once, the first entry says what it leaves; a call that it does not
-/// name leaves what was before.
+/// name leaves what was before. A call that is to fail answers `Failed`; only where it has to keep something, the path of
+/// `enter` or the prefix of `create`, can it answer `OutOfMemory` in place of that.
 #[derive(Drop)]
 pub struct FaultDir {
     dir: MemDir,
@@ -71,9 +72,10 @@ impl FaultDir {
 
     /// Leaves what a failed `create` is to leave.
     fn leave_created(&mut self, left: Left, name: &str, bytes: &[u8]) -> Result<(), OutOfMemory>
-        ensures { self.new ≡ (if is_ok result
+        ensures left { self.new ≡ (if is_ok result
             then with_files (left_by_create left name.now bytes.now self.old.folder.files) self.old
             else self.old) }
+        ensures room { OnErr result (¬ TakesNoMemory left) }
     {
         match left {
             Left::Before => Ok(()),
@@ -115,6 +117,7 @@ impl Dir for FaultDir {
 
     fn enter(&mut self, alloc: Global, path: &str) -> Result<(), DirFail>
         ensures files { self.new.folder.files ≡ self.old.folder.files }
+        ensures bytes { AreMadeOfBytes self.new.folder.files }
         ensures asked { self.new.folder.asked ≡ asked_after result path.now self.old.folder.asked }
         ensures planned { IsPlanned self.old self.new result }
         ensures cause { IsCaused self.old.faults self.new.faults (IsErrOf result DirFail.Failed) }
@@ -129,6 +132,7 @@ impl Dir for FaultDir {
 
     fn list(&mut self, alloc: Global) -> Result<Vec<String>, DirFail>
         ensures names { IfOk result (λ names. map string_bytes names.items ≡ keys self.old.folder.files) }
+        ensures due { IsSome (next_failure self.old) → IsErrOf result DirFail.Failed }
         ensures same { self.new.folder ≡ self.old.folder }
         ensures planned { IsPlanned self.old self.new result }
         ensures cause { IsCaused self.old.faults self.new.faults (IsErrOf result DirFail.Failed) }
@@ -170,6 +174,8 @@ impl Dir for FaultDir {
     fn create(&mut self, alloc: Global, name: &str, bytes: &[u8]) -> Result<(), DirFail>
         ensures made { OnOk result
             (self.new.folder.files ≡ with_file name.now bytes.now self.old.folder.files) }
+        ensures due { ForSome (next_failure self.old) (λ left.
+            TakesNoMemory left → IsErrOf result DirFail.Failed) }
         ensures left { IsErrOf result DirFail.Failed → ForSome (next_failure self.old) (λ left.
             self.new.folder.files ≡ left_by_create left name.now bytes.now self.old.folder.files) }
         ensures memory { IsErrOf result DirFail.OutOfMemory

@@ -4,7 +4,7 @@ ghost use Rattle.lu_dir.specs.Faults.{IsCaused};
 ghost use Rattle.lu_dir.specs.Streams.{Moves, moved_count};
 ghost use Rattle.lu_dir.specs.CallPlan.{is_due, IsPlannedCall};
 
-use crate::call_plan::Plan;
+use crate::call_plan::CallPlan;
 use crate::fail::DirFail;
 use crate::mem_stream::{MemSink, MemSource};
 use crate::stream::{Sink, Source};
@@ -15,7 +15,7 @@ use std::marker::Model;
 #[derive(Drop)]
 pub struct FaultSource {
     source: MemSource,
-    plan: Plan,
+    plan: CallPlan,
 }
 
 impl Model for FaultSource {
@@ -36,7 +36,7 @@ impl FaultSource {
     {
         FaultSource {
             source,
-            plan: Plan::new(fails),
+            plan: CallPlan::new(fails),
         }
     }
 }
@@ -66,7 +66,7 @@ impl Source for FaultSource {
 #[derive(Drop)]
 pub struct FaultSink {
     sink: MemSink,
-    plan: Plan,
+    plan: CallPlan,
 }
 
 impl Model for FaultSink {
@@ -87,7 +87,7 @@ impl FaultSink {
     {
         FaultSink {
             sink,
-            plan: Plan::new(fails),
+            plan: CallPlan::new(fails),
         }
     }
 

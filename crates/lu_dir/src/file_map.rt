@@ -2,7 +2,8 @@
 ghost use Rattle.std.specs.Prelude.{◌≡◌, ◌+◌, ◌≤◌, length, is_ok, if◌then◌else◌, IfOk, map, string_bytes, option_map};
 ghost use Rattle.std.specs.Option.{option_copied};
 ghost use Rattle.std.specs.FinMap.{empty, keys};
-ghost use Rattle.lu_dir.specs.Files.{contents, with_file, without_file, with_patch, written_over, HasRange};
+ghost use Rattle.lu_dir.specs.Files.{contents, with_file, without_file, with_patch, written_over, HasRange, AreMadeOfBytes};
+ghost use Rattle.lu_grammar.specs.Bytes.{IsBytes};
 ghost use Rattle.lu_dir.specs.FileMap.{items_of, with_found};
 
 use lu_prims::OutOfMemory;
@@ -18,7 +19,7 @@ pub struct FileMap {
 }
 
 impl Model for FileMap {
-    ghost use Rattle.lu_dir.specs.Files.{Files};
+    ghost use Rattle.lu_dir.specs.Files.{Files, AreMadeOfBytes};
     ghost use Rattle.lu_dir.specs.FileMap.{files_of, files_code};
 
     ghost Value = { Files };
@@ -26,6 +27,8 @@ impl Model for FileMap {
     ghost coded = { files_code };
 
     ghost view = { λ a. files_of a.held };
+
+    ghost invariant = { λ a. AreMadeOfBytes (files_of a.held) };
 }
 
 impl FileMap {
@@ -56,6 +59,13 @@ impl FileMap {
         Ok(names)
     }
 
+    /// Its files are made of bytes.
+    pub fn hold_bytes(&self)
+        ensures { AreMadeOfBytes self.now }
+    {
+        let _ = &self.held;
+    }
+
     pub fn get(&self, name: &str) -> Option<&[u8]>
         ensures { option_copied result ≡ contents self.now name.now }
     {
@@ -68,6 +78,7 @@ impl FileMap {
     pub fn put(&mut self, name: &str, bytes: Vec<u8>) -> Result<(), OutOfMemory>
         ensures { self.new ≡ (if is_ok result then with_file name.now bytes.items self.old else self.old) }
     {
+        all_bytes(bytes.as_slice());
         let name = String::from_str(self.alloc, name)?;
         self.held.insert(name, bytes)?;
         Ok(())
@@ -98,6 +109,13 @@ impl FileMap {
         };
         write_at(held, at, bytes);
     }
+}
+
+/// What a slice of bytes holds are bytes.
+pub(crate) fn all_bytes(bytes: &[u8])
+    ensures { IsBytes bytes.now }
+{
+    let _ = bytes;
 }
 
 fn write_at(held: &mut Vec<u8>, at: usize, bytes: &[u8])

@@ -1,6 +1,7 @@
 //! The real folder.
-ghost use Rattle.std.specs.Prelude.{◌≡◌, None, IsErrOf};
+ghost use Rattle.std.specs.Prelude.{◌≡◌, None, IfOk, IsErrOf, option_map, string_bytes};
 ghost use Rattle.lu_dir.specs.Faults.{IsCaused};
+ghost use Rattle.lu_dir.specs.Host.{path_of, told_answer, told_change};
 
 use crate::dir::Dir;
 use crate::fail::DirFail;
@@ -44,6 +45,7 @@ impl<'r, R: Runtime + AllocGlobal> HostDir<'r, R> {
 
     /// The answer of a call of the system, whose failure is counted.
     fn answer<T>(&mut self, outcome: io::Result<T>) -> Result<T, DirFail>
+        ensures answer { result ≡ told_answer outcome }
         ensures asked { self.new.asked ≡ self.old.asked }
         ensures cause { IsCaused self.old.faults self.new.faults (IsErrOf result DirFail.Failed) }
     {
@@ -55,6 +57,7 @@ impl<'r, R: Runtime + AllocGlobal> HostDir<'r, R> {
 
     /// The answer of a call of the system that may have changed a file: it failed whatever the reason.
     fn answer_changed<T>(&mut self, outcome: io::Result<T>) -> Result<T, DirFail>
+        ensures answer { result ≡ told_change outcome }
         ensures asked { self.new.asked ≡ self.old.asked }
         ensures cause { IsCaused self.old.faults self.new.faults (IsErrOf result DirFail.Failed) }
     {
@@ -66,7 +69,10 @@ impl<'r, R: Runtime + AllocGlobal> HostDir<'r, R> {
 }
 
 /// The path of a file in a folder.
-fn path_in(alloc: Global, folder: &Option<String>, name: &str) -> Result<String, AllocError> {
+fn path_in(alloc: Global, folder: &Option<String>, name: &str) -> Result<String, AllocError>
+    ensures { IfOk result (λ path.
+        string_bytes path ≡ path_of (option_map string_bytes folder.now) name.now) }
+{
     match folder {
         Some(folder) => format!(in alloc; "{folder}/{name}"),
         None => String::from_str(alloc, name),
@@ -126,11 +132,11 @@ fn create_at<R: Runtime + AllocGlobal>(rt: &R, path: &str, bytes: &[u8]) -> io::
     file.write_all(bytes)
 }
 
-/// Writes inside a file.
-fn patch_at<R: Runtime + AllocGlobal>(rt: &R, path: &str, at: u64, bytes: &[u8]) -> io::Result<()> {
+/// Opens a file to write from the place `at` on, which changes nothing.
+fn open_at<R: Runtime + AllocGlobal>(rt: &R, path: &str, at: u64) -> io::Result<R::File> {
     let mut file = OpenOptions::new().write(true).open(rt, path)?;
     file.seek(SeekFrom::Start(at))?;
-    file.write_all(bytes)
+    Ok(file)
 }
 
 /// Waits until a file is on the device.
@@ -156,12 +162,13 @@ impl<R: Runtime + AllocGlobal> Dir for HostDir<'_, R> {
     /// Fails where the path is no folder.
     fn enter(&mut self, alloc: Global, path: &str) -> Result<(), DirFail> {
         let text = String::from_str(alloc, path)?;
-        let is_folder = match fs::metadata(self.rt, path) {
-            Ok(found) => found.is_dir(),
-            Err(_) => false,
+        let found = fs::metadata(self.rt, path);
+        let found = match self.answer(found) {
+            Err(DirFail::OutOfMemory) => return Err(DirFail::OutOfMemory),
+            found => found,
         };
         self.path = Some(text);
-        if is_folder {
+        if found?.is_dir() {
             Ok(())
         } else {
             Err(self.faults.rise())
@@ -197,7 +204,9 @@ impl<R: Runtime + AllocGlobal> Dir for HostDir<'_, R> {
 
     fn patch(&mut self, alloc: Global, name: &str, at: u64, bytes: &[u8]) -> Result<(), DirFail> {
         let path = path_in(alloc, &self.path, name)?;
-        let outcome = patch_at(self.rt, path.as_str(), at, bytes);
+        let opened = open_at(self.rt, path.as_str(), at);
+        let mut file = self.answer(opened)?;
+        let outcome = file.write_all(bytes);
         self.answer_changed(outcome)
     }
 
@@ -210,6 +219,6 @@ impl<R: Runtime + AllocGlobal> Dir for HostDir<'_, R> {
     fn remove(&mut self, alloc: Global, name: &str) -> Result<(), DirFail> {
         let path = path_in(alloc, &self.path, name)?;
         let outcome = remove_at(self.rt, path.as_str());
-        self.answer_changed(outcome)
+        self.answer(outcome)
     }
 }

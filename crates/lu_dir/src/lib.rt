@@ -11,6 +11,7 @@ mod fault_stream;
 mod file_map;
 mod host_dir;
 mod host_stream;
+pub mod laws;
 mod loading;
 mod mem_dir;
 mod mem_stream;

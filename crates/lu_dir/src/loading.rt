@@ -1,9 +1,10 @@
 //! Files of a folder, loaded by their names.
-ghost use Rattle.std.specs.Prelude.{◌≡◌, ℕ, ◌<◌, ◌≤◌, ◌^◌, length, option_map, Some, None, IfOk, OnOk, IfSome, IsErrOf, true, false};
+ghost use Rattle.std.specs.Prelude.{◌≡◌, ℕ, ◌<◌, ◌≤◌, ◌^◌, length, map, option_map, slice_get, Some, None, All, IfOk, OnOk, IfSome, IsErrOf, true, false};
 ghost use Rattle.std.specs.Option.{ForSome, option_copied};
 ghost use Rattle.lu_dir.specs.Faults.{IsCaused};
-ghost use Rattle.lu_dir.specs.Files.{contents, range_of, HasRange};
-ghost use Rattle.lu_dir.specs.Loading.{AreLoaded, AreOnly, AreWithin, is_over, first_over, texts};
+ghost use Rattle.lu_dir.specs.Files.{contents, range_of, HasRange, AreMadeOfBytes};
+ghost use Rattle.lu_dir.specs.Loading.{IsLoadable, found_at, is_over, first_over, texts};
+ghost use Rattle.lu_dir.specs.InnerLoading.{AreOnly};
 ghost use Rattle.lu_dir.specs.FileMap.{items_of};
 
 use crate::dir::Dir;
@@ -60,29 +61,42 @@ impl From<OutOfMemory> for LoadFault {
     }
 }
 
-/// The files that were loaded, seen as their bytes by name.
+/// The files that were loaded, seen as the names that were asked for and what was found beside each.
 #[derive(Drop)]
 pub struct Loaded {
+    names: Vec<String>,
     files: FileMap,
 }
 
 impl Model for Loaded {
-    ghost use Rattle.lu_dir.specs.Files.{Files};
-    ghost use Rattle.lu_dir.specs.FileMap.{files_code};
+    ghost use Rattle.std.specs.Prelude.{map};
+    ghost use Rattle.lu_dir.specs.Files.{contents};
+    ghost use Rattle.lu_dir.specs.Loading.{Loading, loading_code, texts};
+    ghost use Rattle.lu_dir.specs.InnerLoading.{AreOnly};
 
-    ghost Value = { Files };
+    ghost Value = { Loading };
 
-    ghost coded = { files_code };
+    ghost coded = { loading_code };
 
-    ghost view = { λ a. a.files };
+    ghost view = { λ a. record { names = texts a.names.items; found = map (contents a.files) (texts a.names.items) } };
+
+    ghost invariant = { λ a. AreOnly (texts a.names.items) a.files };
 }
 
 impl Loaded {
     /// The bytes of a file, or `None` where there was no such file among the names.
     pub fn get(&self, name: &str) -> Option<&[u8]>
-        ensures { option_copied result ≡ contents self.now name.now }
+        ensures { option_copied result ≡ found_at self.now.names self.now.found name.now }
     {
         self.files.get(name)
+    }
+
+    /// The bytes of the file whose name stands at this place among the names, or `None` where there was no such file.
+    pub fn at(&self, place: usize) -> Option<&[u8]>
+        requires { place < length self.now.found }
+        ensures { slice_get self.now.found place ≡ Some (option_copied result) }
+    {
+        self.files.get(self.names[place].as_str())
     }
 }
 
@@ -148,10 +162,11 @@ pub fn load<D: Dir>(
 ) -> Result<Loaded, LoadFault>
     requires limit { limit < 2 ^ 31 }
     requires count { length names.now < 2 ^ 32 }
+    ensures names { IfOk result (λ loaded. loaded.names ≡ texts names.now) }
     ensures loaded { IfOk result (λ loaded. ForSome (D.files dir.old) (λ told.
-        AreLoaded told (texts names.now) loaded)) }
-    ensures only { IfOk result (λ loaded. AreOnly (texts names.now) loaded) }
-    ensures within { IfOk result (λ loaded. AreWithin limit loaded) }
+        loaded.found ≡ map (contents told) (texts names.now))) }
+    ensures count { IfOk result (λ loaded. length loaded.found ≡ length names.now) }
+    ensures each { IfOk result (λ loaded. All (IsLoadable limit) loaded.found) }
     ensures fits { IfOk result (λ _. ForSome (D.files dir.old) (λ told.
         first_over told limit (texts names.now) ≡ None)) }
     ensures over { (place : ℕ) → IsErrOf result (LoadFault.TooLarge place) → (place < length names.now)
@@ -167,5 +182,28 @@ pub fn load<D: Dir>(
             Err(fault) => return Err(fault),
         }
     }
-    Ok(Loaded { files })
+    Ok(beside(alloc, names, files)?)
+}
+
+/// The files beside the names.
+fn beside(alloc: Global, names: &[String], files: FileMap) -> Result<Loaded, OutOfMemory>
+    requires { AreOnly (texts names.now) files }
+    ensures names { IfOk result (λ loaded. loaded.names ≡ texts names.now) }
+    ensures found { IfOk result (λ loaded. loaded.found ≡ map (contents files) (texts names.now)) }
+    ensures bytes { AreMadeOfBytes files }
+{
+    files.hold_bytes();
+    let names = copied(alloc, names)?;
+    Ok(Loaded { names, files })
+}
+
+/// The names in memory of their own.
+fn copied(alloc: Global, names: &[String]) -> Result<Vec<String>, OutOfMemory>
+    ensures { IfOk result (λ copies. texts copies.items ≡ texts names.now) }
+{
+    let mut copies = Vec::new(alloc);
+    for name in names {
+        copies.push(name.clone()?)?;
+    }
+    Ok(copies)
 }

@@ -2,7 +2,7 @@
 ghost use Rattle.std.specs.Prelude.{◌≡◌, ◌+◌, ◌≤◌, length, map, option_map, string_bytes, Some, None, Ok, IsOk, IfOk, IsOkUnless, is_ok, if◌then◌else◌};
 ghost use Rattle.std.specs.Option.{option_copied};
 ghost use Rattle.std.specs.FinMap.{empty, keys};
-ghost use Rattle.lu_dir.specs.Files.{contents, with_file, without_file, with_patch, range_of, HasRange, asked_after};
+ghost use Rattle.lu_dir.specs.Files.{contents, with_file, without_file, with_patch, range_of, HasRange, AreMadeOfBytes, asked_after};
 
 use crate::dir::Dir;
 use crate::fail::DirFail;
@@ -87,8 +87,10 @@ impl Dir for MemDir {
     fn enter(&mut self, alloc: Global, path: &str) -> Result<(), DirFail>
         ensures answer { IsOkUnless result DirFail.OutOfMemory }
         ensures files { self.new.files ≡ self.old.files }
+        ensures bytes { AreMadeOfBytes self.new.files }
         ensures asked { self.new.asked ≡ asked_after result path.now self.old.asked }
     {
+        self.files.hold_bytes();
         self.path = Some(String::from_str(alloc, path)?);
         Ok(())
     }

@@ -1,4 +1,4 @@
-ghost use Rattle.std.specs.Prelude.{◌<◌, ◌≤◌, ◌^◌, IfOk, codes};
+ghost use Rattle.std.specs.Prelude.{◌<◌, ◌≤◌, ◌^◌, IfOk, codes, length};
 ghost use Rattle.lu_dir.specs.Files.{HasRange};
 
 use crate::{
@@ -125,6 +125,17 @@ fn fails_at_a_call(rt: HostRuntime) -> Result<(), test::Fail> {
     Ok(())
 }
 
+/// How many bytes stand at the first two places, where there are some.
+fn at_two(alloc: Global, dir: &mut MemDir, names: &[String]) -> Result<[usize; 2], test::Fail> {
+    if names.len() != 2 {
+        return Ok([0; 2]);
+    }
+    let loaded = load(alloc, dir, names, 5)?;
+    let file = loaded.at(0).map_or(0, |bytes| bytes.len());
+    let none = loaded.at(1).map_or(0, |bytes| bytes.len());
+    Ok([file, none])
+}
+
 #[test]
 fn loads_by_name(rt: HostRuntime) -> Result<(), test::Fail> {
     let alloc = rt.alloc();
@@ -141,6 +152,8 @@ fn loads_by_name(rt: HostRuntime) -> Result<(), test::Fail> {
     let loaded = load(alloc, &mut dir, &names, 5)?;
     assert_eq!(rt; loaded.get("five"), Some(b"abcde".as_slice()));
     assert_eq!(rt; loaded.get("none"), None);
+    assert_eq!(rt; loaded.get("other"), None);
+    assert_eq!(rt; at_two(alloc, &mut dir, &names)?, [5, 0]);
     Ok(())
 }
 
@@ -184,6 +197,27 @@ fn filled<'r>(rt: &'r HostRuntime) -> Result<HostDir<'r, HostRuntime>, test::Fai
     Ok(dir)
 }
 
+/// Whether the file `f` is loaded with these bytes.
+fn is_loaded<D: Dir>(
+    alloc: Global,
+    dir: &mut D,
+    names: &[String],
+    bytes: &[u8],
+) -> Result<bool, LoadFault>
+    requires { length names.now < 2 ^ 32 }
+{
+    let loaded = load(alloc, dir, names, 6)?;
+    Ok(loaded.get("f") == Some(bytes))
+}
+
+/// How many files are left once `f` is removed, twice.
+fn emptied<D: Dir>(alloc: Global, dir: &mut D) -> Result<usize, DirFail> {
+    dir.enter(alloc, FOLDER)?;
+    dir.remove(alloc, "f")?;
+    dir.remove(alloc, "f")?;
+    Ok(dir.list(alloc)?.len())
+}
+
 /// The lengths of a file, of a folder and of nothing.
 fn lengths<D: Dir>(alloc: Global, dir: &mut D) -> [Result<Option<u64>, DirFail>; 3] {
     [
@@ -211,14 +245,10 @@ fn works_on_a_real_folder(rt: HostRuntime) -> Result<(), test::Fail> {
     let mut dir = filled(&rt)?;
     let names = dir.list(alloc)?;
     assert_eq!(rt; names.len(), 1);
-    let loaded = load(alloc, &mut dir, &names, 6)?;
-    assert_eq!(rt; loaded.get("f"), Some(b"aWXYZf".as_slice()));
+    assert_eq!(rt; is_loaded(alloc, &mut dir, &names, b"aWXYZf")?, true);
     assert_eq!(rt; lengths(alloc, &mut dir), [Ok(Some(6)), Ok(None), Ok(None)]);
     assert_eq!(rt; failures(alloc, &mut dir), [Err(DirFail::Failed); 3]);
-    dir.enter(alloc, FOLDER)?;
-    dir.remove(alloc, "f")?;
-    dir.remove(alloc, "f")?;
-    assert_eq!(rt; dir.list(alloc)?.len(), 0);
+    assert_eq!(rt; emptied(alloc, &mut dir)?, 0);
     fs::remove_dir_all(&rt, FOLDER)?;
     Ok(())
 }

@@ -1,29 +1,33 @@
-use Rattle.std.proofs.Common.{◌≡◌, ℕ, List, [], ◌∷◌, Option, sym, ap, subst, ◌∙◌, inl, inr, string_bytes, slice_get, Result, Err}
-use Rattle.std.specs.Option.{option_copied}
+use Rattle.std.proofs.Common.{◌≡◌, ℕ, List, [], ◌∷◌, Option, Some, refl, arith, sym, ap, subst, ◌∙◌, inl, inr, Result, Err}
+use Rattle.std.specs.Option.{option_copied, ForSome}
 use Rattle.lu_types.specs.declared.kind.FileKind.TheVariants.{Fnm}
-use Rattle.lu_types.specs.Names.{part_name}
-use Rattle.lu_dir.specs.Files.{contents}
+use Rattle.lu_dir.specs.Loading.{first_over, texts}
 use Rattle.lu_dir.specs.declared.loading.LoadFault.{LoadFault}
+use Rattle.lu_dir.specs.declared.loading.LoadFault.TheVariants as LoadFaults
 use Rattle.lu_dir.specs.declared.loading.Loaded.{Loaded}
 use Rattle.lu_command.specs.declared.status.Status.TheVariants as statuses
 use Rattle.lu_command.specs.declared.status.Refusal.TheVariants as refusals
-use Rattle.lu_command.specs.Texts.{too_large_text}
-use Rattle.lu_command.specs.Files.{IsFile}
-use Rattle.lu_command.specs.Answers.{FieldsSays, FieldsDue}
+use Rattle.lu_command.specs.Texts.{too_large_text, field_lines}
+use Rattle.lu_command.specs.Files.{file_limit, first_too_long, part_names, file_at}
+use Rattle.lu_command.specs.Needs.{fields_kinds, table_files}
+use Rattle.lu_command.specs.Answers.{Says, FieldsSays, FilesDue}
 use Rattle.lu_command.specs.Asking.{IsTooLarge}
 use Rattle.lu_command.proofs.AnswerLemmas.{Prints-wider}
-use Rattle.lu_command.proofs.LoadLemmas.{IsFile-loaded, IsTooLong-first, IsCaused-never}
+use Rattle.lu_command.proofs.LoadLemmas.{AreFound-loaded, file_at-found, first_kind, IsCaused-never}
 use Rattle.lu_command.proofs.call.read_fields.Goals as goal
 
 pub returns-in-Ok-load-clause-printed : goal.returns-in-Ok-load-clause-printed
 returns-in-Ok-load-clause-printed g c =
     let segment = c.args.segment.now in
     let files = g.D.Dir.files c.args.dir.now in
-    let names : string_bytes c.in-Ok.name ∷ [] ≡ part_name segment Fnm ∷ [] = ap (λ (n : List ℕ). n ∷ []) c.in-Ok.ensures in
-    let found : option_copied c.get.result ≡ contents c.in-Ok-load.loaded (part_name segment Fnm) = c.get.ensures ∙ ap (contents c.in-Ok-load.loaded) (c.as_str.ensures.value ∙ c.in-Ok.ensures) in
-    let file : IsFile files (part_name segment Fnm) (option_copied c.get.result) =
-    subst (λ (o : Option (List ℕ)). IsFile files (part_name segment Fnm) o) (sym found) (IsFile-loaded files c.in-Ok-load.loaded (string_bytes c.in-Ok.name ∷ []) 0 (part_name segment Fnm) (ap (λ (ns : List (List ℕ)). slice_get ns 0) names) c.in-Ok-load.ensures.loaded c.in-Ok-load.ensures.within) in
-    Prints-wider (FieldsSays segment (option_copied c.get.result)) (FieldsDue segment files) (λ s t says. inr (option_copied c.get.result, file, says))
+    let loaded = c.in-Ok-load.loaded in
+    let spelled : texts (c.in-Ok.name ∷ []) ≡ part_names segment fields_kinds = ap (λ (n : List ℕ). n ∷ []) c.in-Ok.ensures in
+    Prints-wider (Says segment (table_files (option_copied c.at.result)) (field_lines 0)) (FilesDue segment fields_kinds (FieldsSays segment) files)
+    (λ s t says. inr (
+      loaded.found,
+      AreFound-loaded files segment fields_kinds (texts (c.in-Ok.name ∷ [])) loaded.found spelled c.in-Ok-load.ensures.loaded c.in-Ok-load.ensures.each,
+      subst (λ (fnm : Option (List ℕ)). Says segment (table_files fnm) (field_lines 0) s t) (file_at-found loaded.found 0 (option_copied c.at.result) c.at.ensures) says,
+    ))
     (g.K.Sink.taken c.args.out.now) (g.K.Sink.taken c.say_fields.new.out) c.say_fields.result c.say_fields.ensures.printed
 
 pub returns-in-Ok-load-clause-folder : goal.returns-in-Ok-load-clause-folder
@@ -31,12 +35,18 @@ returns-in-Ok-load-clause-folder g c = IsCaused-never (g.D.Dir.faults c.args.dir
 
 pub returns-clause-printed : goal.returns-clause-printed
 returns-clause-printed g c =
-    let segment = c.args.segment.now in
-    let files = g.D.Dir.files c.args.dir.now in
-    let names : string_bytes c.in-Ok.name ∷ [] ≡ part_name segment Fnm ∷ [] = ap (λ (n : List ℕ). n ∷ []) c.in-Ok.ensures in
-    Prints-wider (λ s t. IsTooLarge c.in-Err-load.fault × (s ≡ statuses.Refused (refusals.FileTooLarge Fnm)) × (t ≡ too_large_text Fnm)) (FieldsDue segment files)
-    (λ s t is. inl (IsTooLong-first files (part_name segment Fnm) _ is.0.0 names (c.in-Err-load.ensures.over is.0.0 (ap (λ (f : LoadFault). failed f) is.0.1)).1, is.1, is.2))
+    Prints-wider (λ s t. IsTooLarge c.in-Err-load.fault × (s ≡ statuses.Refused (refusals.FileTooLarge Fnm)) × (t ≡ too_large_text Fnm)) (FilesDue c.args.segment.now fields_kinds (FieldsSays c.args.segment.now) (g.D.Dir.files c.args.dir.now))
+    (λ s t is. inl (Fnm, first is.0.0 is.0.1, is.1, is.2))
     (g.K.Sink.taken c.args.out.now) (g.K.Sink.taken c.say_unloaded.new.out) c.say_unloaded.result c.say_unloaded.ensures.printed
   where
     failed : LoadFault → Result Loaded LoadFault
     failed f = Err f
+
+    spelled : texts (c.in-Ok.name ∷ []) ≡ part_names c.args.segment.now fields_kinds
+    spelled = ap (λ (n : List ℕ). n ∷ []) c.in-Ok.ensures
+
+    first : (place : ℕ) → c.in-Err-load.fault ≡ LoadFaults.TooLarge place → ForSome (g.D.Dir.files c.args.dir.now) (λ told. first_too_long told c.args.segment.now fields_kinds ≡ Some Fnm)
+    first place is told tells =
+        let over = c.in-Err-load.ensures.over place (ap failed is) in
+        let here : place ≡ 0 = omega (arith, over.0) in
+        first_kind told c.args.segment.now fields_kinds 0 Fnm (sym (ap (first_over told file_limit) spelled) ∙ over.1 told tells ∙ ap Some here) refl

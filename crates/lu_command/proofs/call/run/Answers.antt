@@ -1,5 +1,5 @@
 use Rattle.std.proofs.Common.{refl, inl, inr}
-use Rattle.lu_command.specs.Words.{texts}
+use Rattle.lu_dir.specs.Loading.{texts}
 use Rattle.lu_command.specs.Answers.{MeaningDue, Due}
 use Rattle.lu_command.specs.Meanings.{meaning_of}
 use Rattle.lu_command.specs.declared.status.Status.TheVariants as statuses

@@ -1,9 +1,11 @@
 use Rattle.std.specs.Option.{option_copied}
-use Rattle.lu_command.specs.Answers.{FieldsSays}
+use Rattle.lu_command.specs.Answers.{Says}
+use Rattle.lu_command.specs.Needs.{table_files}
+use Rattle.lu_command.specs.Texts.{field_lines}
 use Rattle.lu_command.proofs.AnswerLemmas.{Prints-one}
 use Rattle.lu_command.proofs.call.say_fields.Goals as goal
 
 pub returns-in-Ok-clause-printed : goal.returns-in-Ok-clause-printed
 returns-in-Ok-clause-printed g c =
-    Prints-one (FieldsSays c.args.segment.now (option_copied c.args.found)) c.in-Ok.answer.status c.as_slice.result.now
+    Prints-one (Says c.args.segment.now (table_files (option_copied c.args.fnm)) (field_lines 0)) c.in-Ok.answer.status c.as_slice.result.now
     (rw c.as_slice.ensures.value c.in-Ok.ensures.says) (g.K.Sink.taken c.args.out.now) (g.K.Sink.taken c.tell.new.out) c.tell.result c.tell.ensures.printed

@@ -1,5 +1,5 @@
 use Rattle.std.proofs.Common.{string_bytes, sym, ◌∙◌}
-use Rattle.lu_command.specs.Words.{texts}
+use Rattle.lu_dir.specs.Loading.{texts}
 use Rattle.lu_command.proofs.WordLemmas.{some_option, all_arguments, is_pair, no_second, has_third}
 use Rattle.lu_command.proofs.words.two_arguments.Goals as goal
 

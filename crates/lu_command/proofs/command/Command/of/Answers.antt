@@ -1,5 +1,5 @@
 use Rattle.std.proofs.Common.{string_bytes, ap}
-use Rattle.lu_command.specs.Words.{texts}
+use Rattle.lu_dir.specs.Loading.{texts}
 use Rattle.lu_command.proofs.MeaningLemmas.{without_dir_and_segment}
 use Rattle.lu_command.proofs.command.Command.of.Goals as goal
 

@@ -1,0 +1,4 @@
+pub mod Steps
+pub mod NormLemmas
+pub mod NormLaws
+pub mod Rows

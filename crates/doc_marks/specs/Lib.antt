@@ -1,2 +1,5 @@
 pub mod Words
 pub mod Norms
+pub mod Marking
+pub mod Deletions
+pub mod Spelling

@@ -1,8 +1,13 @@
 //! The norms of a segment and the marks of its deleted documents: `.nrm`, `.sN` and `.del` (format page, "Norms" and "Deletions").
 #![tactic(auto)]
 
+mod byte_marks;
+mod dense;
 mod faults;
+mod heading;
 pub mod laws;
 mod norms;
+mod pairs;
+mod segment;
 
 pub use norms::{NormWriter, Norms, check_separate};

@@ -1,5 +1,8 @@
 pub mod Steps
 pub mod MarkLemmas
+pub mod DelLemmas
+pub mod PairLemmas
+pub mod FileLemmas
 pub mod NormLemmas
 pub mod NormLaws
 pub mod Rows

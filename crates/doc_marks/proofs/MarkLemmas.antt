@@ -1,6 +1,8 @@
 -- Bits and the documents that they mark.
 use Rattle.std.proofs.Common.{◌≡◌, ℕ, zero, suc, ◌+◌, ◌-◌, ◌*◌, ◌/◌, ◌%◌, ◌^◌, ◌<◌, ◌≤◌, Bool, true, false, ◌||◌, eqb, leb, List, [], ◌∷◌, ◌++◌, length, get_or, refl, sym, ap, subst, ◌∙◌, append_assoc, arith, inl, inr, pow-suc}
-use Rattle.std.proofs.lemmas.Bool.{eq-eqb, ne_eqb, eqb-true, eqb-false, cases_Bool, cases_eq, cases_lt}
+use mathlib.Core.Bool.{true≢false}
+use Rattle.std.specs.List.{list_any}
+use Rattle.std.proofs.lemmas.Bool.{leb-false, eq-eqb, ne_eqb, eqb-true, eqb-false, cases_Bool, cases_eq, cases_lt}
 use Rattle.std.proofs.lemmas.List.{append-nil, length-append, append_cancel_right}
 use Rattle.lu_grammar.specs.Bytes.{IsBytes}
 use Rattle.doc_marks.specs.Marking.{bits, flags, places, marked, marked_at, is_in, flags_of, number_of_bits, marking, AreRising}
@@ -216,3 +218,13 @@ pub marking-marked : (found : List ℕ) → IsBytes found → marking 0 (length 
 marking-marked found fits =
     marking-flags 0 found (marked found) fits
     (ap (λ (n : ℕ). flags_of 0 n (marked found)) (sym (length-flags found)) ∙ flags_of-places 0 (flags found))
+
+-- ---- what is not past the size
+
+pub AreRising-not_past : (first larger size : ℕ) (docs : List ℕ) → AreRising first larger docs → list_any (λ doc. leb size doc) docs ≡ false → AreRising first size docs
+AreRising-not_past first larger size [] h fine = tt
+AreRising-not_past first larger size (d ∷ ds) h fine =
+    elim (cases_Bool (leb size d)) [
+      | inl past ↦ absurd (true≢false (rw past at fine))
+      | inr below ↦ (h.0, leb-false size d below, AreRising-not_past (suc d) larger size ds h.2 (rw below at fine))
+    ]

@@ -3,3 +3,4 @@ pub mod Norms
 pub mod Marking
 pub mod Deletions
 pub mod Spelling
+pub mod Lent

@@ -4,10 +4,13 @@
 mod byte_marks;
 mod dense;
 mod faults;
+mod form;
 mod heading;
 pub mod laws;
+mod live;
 mod norms;
 mod pairs;
 mod segment;
 
+pub use live::Live;
 pub use norms::{NormWriter, Norms, check_separate};

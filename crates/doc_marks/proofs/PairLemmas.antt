@@ -73,7 +73,7 @@ next_first-le size index zero gap right = omega arith
 next_first-le size index (suc before) zero right = let some : eqb (suc before) 0 ≡ false = ne_eqb (suc before) 0 (omega arith) in absurd (true≢false (rw some at right))
 next_first-le size index (suc before) (suc gap) right = let some : eqb (suc before) 0 ≡ false = ne_eqb (suc before) 0 (omega arith) in rw some (omega arith)
 
-next_first-with : (index before : ℕ) → 0 < before → cond (eqb before 0) (8 * index) (8 * (index + 1)) ≡ 8 * (index + 1)
+pub next_first-with : (index before : ℕ) → 0 < before → cond (eqb before 0) (8 * index) (8 * (index + 1)) ≡ 8 * (index + 1)
 next_first-with index zero some = absurd (omega arith)
 next_first-with index (suc before) some = let not_none : eqb (suc before) 0 ≡ false = ne_eqb (suc before) 0 (omega arith) in rw not_none refl
 

@@ -4,3 +4,4 @@ pub mod Marking
 pub mod Deletions
 pub mod Spelling
 pub mod Lent
+pub mod Walking

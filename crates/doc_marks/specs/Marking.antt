@@ -1,6 +1,6 @@
 -- Documents marked by bits (format page, "Deletions"): document d is bit d mod 8, the lowest first, of byte d / 8.
-use Rattle.std.specs.Prelude.{ℕ, zero, suc, ◌+◌, ◌*◌, ◌/◌, ◌%◌, ◌<◌, ◌≤◌, Bool, true, false, ◌||◌, List, [], ◌∷◌, ◌++◌, ◌==◌}
-use Rattle.std.specs.List.{flat_map}
+use Rattle.std.specs.Prelude.{◌≡◌, ◌^◌, length, ℕ, zero, suc, ◌+◌, ◌*◌, ◌/◌, ◌%◌, ◌<◌, ◌≤◌, Bool, true, false, ◌||◌, List, [], ◌∷◌, ◌++◌, ◌==◌}
+use Rattle.lu_grammar.specs.Bytes.{IsBytes}
 
 -- so many bits of a number, the lowest first
 unfoldable pub bits : ℕ → ℕ → List Bool
@@ -51,3 +51,15 @@ marking first (suc more) docs = number_of_bits (flags_of first 8 docs) ∷ marki
 abbrev pub AreRising : ℕ → ℕ → List ℕ → Type 0
 AreRising first size [] = Unit {0}
 AreRising first size (d ∷ ds) = (first ≤ d) × (d < size) × AreRising (suc d) size ds
+
+-- the documents that are flagged
+abbrev pub documents_of : List Bool → List ℕ
+documents_of fs = places 0 fs
+
+-- some bytes mark so many documents of so many, and no bit past the last
+pub record AreMarks (size count : ℕ) (bytes : List ℕ) : Type 0 where
+  pub few : size < 2 ^ 31
+  pub long : length bytes ≡ size / 8 + 1
+  pub rise : AreRising 0 size (marked bytes)
+  pub number : length (marked bytes) ≡ count
+  pub fits : IsBytes bytes

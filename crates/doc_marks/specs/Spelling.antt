@@ -8,9 +8,13 @@ use Rattle.doc_marks.specs.Deletions.{sparse_mark, body_bytes}
 abbrev pub marks_of : ℕ → List ℕ → List ℕ
 marks_of size docs = marking 0 (body_bytes size) docs
 
+-- the size of the segment, and how many documents are deleted
+abbrev pub sizes_bytes : ℕ → ℕ → List ℕ
+sizes_bytes size count = spelling int32 (pos size) ++ spelling int32 (pos count)
+
 -- the dense form: the sizes, and all bytes
 abbrev pub dense_bytes : ℕ → List ℕ → List ℕ
-dense_bytes size docs = spelling int32 (pos size) ++ spelling int32 (pos (length docs)) ++ marks_of size docs
+dense_bytes size docs = sizes_bytes size (length docs) ++ marks_of size docs
 
 -- the bytes that are not 0, each after how far its index is past that of the one before
 unfoldable pub pairs_bytes : ℕ → ℕ → List ℕ → List ℕ
@@ -19,7 +23,7 @@ pairs_bytes last index (byte ∷ bytes) = if byte == 0 then pairs_bytes last (su
 
 -- the sparse form: its mark, the sizes, and the pairs
 abbrev pub sparse_bytes : ℕ → List ℕ → List ℕ
-sparse_bytes size docs = spelling int32 sparse_mark ++ spelling int32 (pos size) ++ spelling int32 (pos (length docs)) ++ pairs_bytes 0 0 (marks_of size docs)
+sparse_bytes size docs = spelling int32 sparse_mark ++ (sizes_bytes size (length docs) ++ pairs_bytes 0 0 (marks_of size docs))
 
 -- how many bits a deleted document is reckoned at in the sparse form, by the number of bytes of the dense one
 abbrev pub pair_bits : ℕ → ℕ

@@ -8,9 +8,19 @@ mod form;
 mod heading;
 pub mod laws;
 mod live;
+mod marks;
 mod norms;
+mod pair_walk;
 mod pairs;
 mod segment;
+mod walk;
+mod writing;
 
 pub use live::Live;
+pub use marks::Marks;
+pub use walk::LiveWalk;
+pub use writing::write_del;
 pub use norms::{NormWriter, Norms, check_separate};
+
+#[cfg(test)]
+mod tests;

@@ -1,9 +1,9 @@
 //! Which documents of a segment are live, as its `.del` says (format page, "Deletions").
-ghost use Rattle.std.specs.Prelude.{◌≡◌, true, pos, [], ◌≤◌, length, IfOk};
+ghost use Rattle.std.specs.Prelude.{◌≡◌, true, not, pos, [], ◌≤◌, ◌<◌, ◌^◌, length, IfOk};
 ghost use Rattle.lu_grammar.specs.Plans.{read_plan};
 ghost use Rattle.lu_types.specs.declared.kind.FileKind.TheVariants.{Del};
 ghost use Rattle.doc_marks.specs.Words.{ChecksPlain, GivesInPlain};
-ghost use Rattle.doc_marks.specs.Marking.{is_in, AreRising};
+ghost use Rattle.doc_marks.specs.Marking.{is_in, flags_of, documents_of, AreRising};
 ghost use Rattle.doc_marks.specs.Deletions.{header as header_of, after_header, del_plan};
 ghost use Rattle.doc_marks.specs.Lent.{behind_header, documents_in, IsSound};
 
@@ -11,11 +11,14 @@ use crate::dense::dense_body;
 use crate::faults::spot;
 use crate::form::Form;
 use crate::heading::pass_heading;
+use crate::marks::Marks;
 use crate::pairs::pass_pairs;
 use crate::segment::Segment;
-use lu_prims::Cur;
+use crate::walk::LiveWalk;
+use lu_prims::{Cur, OutOfMemory};
 use lu_types::rules::TRAILING;
 use lu_types::{FileKind, Spot};
+use std::alloc::Global;
 use std::marker::Model;
 
 /// Which documents of a segment are live, lent from its `.del`, which has no fault. Contracts see the size of the segment, and
@@ -82,6 +85,37 @@ impl<'a> Live<'a> {
         ensures { result ≡ length self.now.documents }
     {
         self.segment.count
+    }
+
+    /// A walk that asks for documents that do not fall; a whole pass over the segment is linear.
+    pub fn walk(&self) -> LiveWalk<'a>
+        ensures { result ≡ record { documents = self.now.documents; from = 0 } }
+    {
+        LiveWalk::along(self.form, self.segment)
+    }
+
+    /// Whether a document is live. In a sparse file this walks the pairs; `walk` asks for many documents, `marks` for any.
+    pub fn is_live(&self, doc: u32) -> bool
+        ensures { result ≡ not (is_in doc self.now.documents) }
+    {
+        self.walk().is_live(doc)
+    }
+
+    /// The dense form, a bit a document, for a reader that asks in any order. The segment has fewer than 2^31 documents.
+    pub fn marks(&self, alloc: Global) -> Result<Marks, OutOfMemory>
+        requires { self.now.size < 2 ^ 31 }
+        ensures marks { IfOk result (λ marks. marks ≡ flags_of 0 self.now.size self.now.documents) }
+        ensures documents { IfOk result (λ marks. documents_of marks ≡ self.now.documents) }
+    {
+        let size = self.size();
+        let mut marks = Marks::new(alloc, size)?;
+        let mut walk = self.walk();
+        for doc in 0..size {
+            if !walk.is_live(doc) {
+                marks.set(doc);
+            }
+        }
+        Ok(marks)
     }
 
     /// The same documents, once more.

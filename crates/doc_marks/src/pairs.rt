@@ -74,6 +74,7 @@ fn judge_pair(gap: u32, marks: u8, passed: Passed, segment: Segment) -> Result<u
     ensures some { IfOk result (λ documents. 0 < documents) }
     ensures few { IfOk result (λ documents. passed.documents + documents ≤ segment.count) }
     ensures index { IfOk result (λ _. passed.index + gap ≤ segment.size / 8) }
+    ensures small { IfOk result (λ _. passed.index + gap < 2 ^ 32) }
 {
     if is_wrong_gap(gap, passed, segment.size) {
         return Err(DEL_GAP);
@@ -101,6 +102,7 @@ pub fn next_pair(cur: &mut Cur<'_>, passed: Passed, segment: Segment) -> Result<
     ensures some { IfOk result (λ p. 0 < p.documents) }
     ensures few { IfOk result (λ p. passed.documents + p.documents ≤ segment.count) }
     ensures index { IfOk result (λ p. passed.index + p.gap ≤ segment.size / 8) }
+    ensures small { IfOk result (λ p. passed.index + p.gap < 2 ^ 32) }
 {
     let (gap, marks) = match pair_parts(cur) {
         Ok(parts) => parts,

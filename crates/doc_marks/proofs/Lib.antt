@@ -1,0 +1,15 @@
+pub mod Steps
+pub mod MarkLemmas
+pub mod FlagLemmas
+pub mod DelLemmas
+pub mod PairLemmas
+pub mod FileLemmas
+pub mod WalkLemmas
+pub mod MarksLemmas
+pub mod WriteLemmas
+pub mod DelLaws
+pub mod DelReads
+pub mod NormLemmas
+pub mod NormLaws
+pub mod Rows
+pub mod DelRows

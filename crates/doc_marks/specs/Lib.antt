@@ -1,0 +1,7 @@
+pub mod Words
+pub mod Norms
+pub mod Marking
+pub mod Deletions
+pub mod Spelling
+pub mod Lent
+pub mod Walking

@@ -1,0 +1,46 @@
+-- The parts of a compound file, and the entries of its directory (format page, "Compound files").
+use Rattle.std.specs.Prelude.{◌≡◌, ◌≢◌, ℕ, ◌+◌, ◌-◌, ◌^◌, ◌<◌, ◌≤◌, List, [], ◌∷◌, Option, length, position, find, option_map, slice_range, AllPairs}
+use Rattle.std.specs.Str.{bytes_eq}
+
+-- a part: its name outside a compound file, and its bytes
+pub record NamedPart : Type 0 where
+  pub name : List ℕ
+  pub bytes : List ℕ
+
+-- the bytes of the part with the name; none where no part has it
+abbrev pub part_named : List ℕ → List NamedPart → Option (List ℕ)
+part_named name parts = option_map (λ part. part.bytes) (find (λ part. bytes_eq name part.name) parts)
+
+-- no two parts have one name
+abbrev pub AreApart : List NamedPart → Type 0
+AreApart parts = AllPairs (λ part later. part.name ≢ later.name) parts
+
+-- an entry of the directory: the name of a part, and where its bytes start in the file
+pub record Entry : Type 0 where
+  pub name : List ℕ
+  pub start : ℕ
+
+-- the number of the entry with the name, from 0; none where no entry has it
+abbrev pub number_of : List ℕ → List Entry → Option ℕ
+number_of name entries = position (λ entry. bytes_eq name entry.name) entries
+
+-- where the first part starts; another place where there is none
+abbrev pub first_start : ℕ → List Entry → ℕ
+first_start other [] = other
+first_start other (entry ∷ entries) = entry.start
+
+-- where the last part starts; another place where there is none
+abbrev pub last_start : ℕ → List Entry → ℕ
+last_start other [] = other
+last_start other (entry ∷ entries) = last_start entry.start entries
+
+-- from a place on no part starts before the one in front of it, or after the end
+abbrev pub Rise : ℕ → ℕ → List Entry → Type 0
+Rise from end [] = from ≤ end
+Rise from end (entry ∷ entries) = (from ≤ entry.start) × Rise entry.start end entries
+
+-- the parts that a directory names: the bytes of each reach to the start of the next, and those of the last to the end of the file
+abbrev pub parts_in : List ℕ → List Entry → List NamedPart
+parts_in bytes [] = []
+parts_in bytes (entry ∷ entries) =
+    record { name = entry.name; bytes = slice_range bytes entry.start (first_start (length bytes) entries) } ∷ parts_in bytes entries

@@ -1,0 +1,2 @@
+//! The files of a segment, or of a shared document store, in one: `.cfs` and `.cfx` (format page, "Compound files").
+#![tactic(auto)]

@@ -5,7 +5,7 @@ use Rattle.lu_grammar.specs.Records.{Shape, whole, part, Condition}
 use Rattle.lu_grammar.specs.Plans.{Plan, done, due, and_then, Kind, times}
 use Rattle.lu_types.specs.declared.rules.TheConstants.{CFS_OFFSET, CFS_TWICE, CFS_FIRST}
 use Rattle.compound_file.specs.Words.{in_turn}
-use Rattle.compound_file.specs.Entries.{NamedPart, Entry, number_of, first_start, last_start}
+use Rattle.compound_file.specs.Entries.{NamedPart, Entry, Span, number_of, first_start, last_start, spans}
 
 -- a record of the file: how many parts it has, an entry of the directory, or the bytes of a part
 pub data CfsRecord : Type 0 where
@@ -72,19 +72,9 @@ entry_conditions size count before place _ = []
 abbrev pub entry_kind : ℕ → ℕ → Kind (List Entry) CfsRecord
 entry_kind size count = record { shape = λ _. entry_shape; conditions = entry_conditions size count; after = λ before _ r. with_entry before r }
 
--- how many bytes a part has
-pub record Span : Type 0 where
-  pub name : List ℕ
-  pub count : ℕ
-
--- the parts that a directory names in a file of so many bytes: each reaches to the start of the next, the last to the end
-abbrev pub spans : ℕ → List Entry → List Span
-spans size [] = []
-spans size (e ∷ es) = record { name = e.name; count = first_start size es - e.start } ∷ spans size es
-
 -- the bytes of a part
 abbrev pub part_plan : Span → Plan NamedPart CfsRecord
-part_plan span = due (content_shape span.count) (λ _ _. []) (λ _ r. done (record { name = span.name; bytes = content_of r }))
+part_plan span = due (content_shape (span.end - span.start)) (λ _ _. []) (λ _ r. done (record { name = span.name; bytes = content_of r }))
 
 -- the parts that a directory names, one after another
 abbrev pub parts_plan : ℕ → List Entry → Plan (List NamedPart) CfsRecord

@@ -1,5 +1,5 @@
 -- The parts of a compound file, and the entries of its directory (format page, "Compound files").
-use Rattle.std.specs.Prelude.{◌≡◌, ◌≢◌, ℕ, ◌+◌, ◌-◌, ◌^◌, ◌<◌, ◌≤◌, List, [], ◌∷◌, Option, length, position, find, option_map, slice_range, AllPairs}
+use Rattle.std.specs.Prelude.{◌≡◌, ◌≢◌, ℕ, ◌+◌, ◌-◌, ◌^◌, ◌<◌, ◌≤◌, List, [], ◌∷◌, Option, length, position, find, map, option_map, slice_range, AllPairs}
 use Rattle.std.specs.Str.{bytes_eq}
 
 -- a part: its name outside a compound file, and its bytes
@@ -39,8 +39,21 @@ abbrev pub Rise : ℕ → ℕ → List Entry → Type 0
 Rise from end [] = from ≤ end
 Rise from end (entry ∷ entries) = (from ≤ entry.start) × Rise entry.start end entries
 
--- the parts that a directory names: the bytes of each reach to the start of the next, and those of the last to the end of the file
+-- where a part stands: its name, where its bytes start, and the place just after them
+pub record Span : Type 0 where
+  pub name : List ℕ
+  pub start : ℕ
+  pub end : ℕ
+
+-- where the parts stand that a directory names, in a file of so many bytes: each reaches to the start of the next, the last to the end
+abbrev pub spans : ℕ → List Entry → List Span
+spans size [] = []
+spans size (entry ∷ entries) = record { name = entry.name; start = entry.start; end = first_start size entries } ∷ spans size entries
+
+-- the part that stands there
+abbrev pub part_at : List ℕ → Span → NamedPart
+part_at bytes span = record { name = span.name; bytes = slice_range bytes span.start span.end }
+
+-- the parts that a directory names
 abbrev pub parts_in : List ℕ → List Entry → List NamedPart
-parts_in bytes [] = []
-parts_in bytes (entry ∷ entries) =
-    record { name = entry.name; bytes = slice_range bytes entry.start (first_start (length bytes) entries) } ∷ parts_in bytes entries
+parts_in bytes entries = map (part_at bytes) (spans (length bytes) entries)

@@ -1,2 +1,5 @@
 //! The files of a segment, or of a shared document store, in one: `.cfs` and `.cfx` (format page, "Compound files").
 #![tactic(auto)]
+
+mod directory;
+mod entry;

@@ -2,9 +2,8 @@
 use Rattle.std.specs.Prelude.{ℕ, ◌+◌, ◌-◌, Bool, not, ◌&&◌, ◌||◌, ◌==◌, List, [], ◌∷◌, ◌++◌, length, is_some, ℤ, pos, negsuc, int_lt}
 use Rattle.lu_grammar.specs.Parts.{int64, num, text, bytes as so_many, spelling}
 use Rattle.lu_grammar.specs.Records.{Shape, whole, part, Condition}
-use Rattle.lu_grammar.specs.Plans.{Plan, done, due, and_then, Kind, times}
-use Rattle.lu_types.specs.declared.rules.TheConstants.{CFS_OFFSET, CFS_TWICE, CFS_FIRST}
-use Rattle.compound_file.specs.Words.{in_turn}
+use Rattle.lu_grammar.specs.Plans.{Plan, done, due, and_then, Kind, times, in_turn}
+use Rattle.lu_types.specs.RuleNumbers as rules
 use Rattle.compound_file.specs.Entries.{NamedPart, Entry, Span, number_of, first_start, last_start, spans}
 
 -- a record of the file: how many parts it has, an entry of the directory, or the bytes of a part
@@ -60,8 +59,8 @@ is_apart count before offset after = (length before + 1 == count) && not (first_
 -- what an entry after those before it, and with a place just after it, may not be
 abbrev pub conditions_after : ℕ → ℕ → List Entry → ℕ → ℤ → List ℕ → List Condition
 conditions_after size count before after offset name =
-    record { rule = CFS_OFFSET; broken = is_misplaced size before offset } ∷ record { rule = CFS_TWICE; broken = is_some (number_of name before) }
-    ∷ record { rule = CFS_FIRST; broken = is_apart count before offset after } ∷ []
+    record { rule = rules.cfs_offset; broken = is_misplaced size before offset } ∷ record { rule = rules.cfs_twice; broken = is_some (number_of name before) }
+    ∷ record { rule = rules.cfs_first; broken = is_apart count before offset after } ∷ []
 
 -- the same of a record that is an entry
 abbrev pub entry_conditions : ℕ → ℕ → List Entry → ℕ → CfsRecord → List Condition

@@ -3,3 +3,10 @@
 
 mod directory;
 mod entry;
+mod parts;
+mod reading;
+
+pub use parts::{CfsEntries, split};
+
+#[cfg(test)]
+mod tests;

@@ -1,2 +1,6 @@
 mod Rows
 pub mod EntryLemmas
+pub mod ReadLemmas
+pub mod DirectoryLemmas
+pub mod SplitLemmas
+pub mod NameLemmas

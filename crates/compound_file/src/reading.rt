@@ -1,5 +1,5 @@
 //! Reading the directory of a compound file, entry by entry.
-ghost use Rattle.std.specs.Prelude.{◌≡◌, [], pos, IfOk, OnOk};
+ghost use Rattle.std.specs.Prelude.{◌≡◌, ◌<◌, [], length, pos, IfOk, OnOk};
 ghost use Rattle.lu_grammar.specs.Answers.{Gives};
 ghost use Rattle.lu_grammar.specs.Bytes.{IsBytes};
 ghost use Rattle.lu_grammar.specs.Records.{first_broken, read_shape, record_at};
@@ -49,6 +49,7 @@ fn is_misplaced(size: usize, before: &Directory<'_>, offset: i64) -> bool
 
 /// Whether an entry is the last, and the first part does not start just after it.
 fn is_apart(count: u32, before: &Directory<'_>, start: usize, after: usize) -> bool
+    requires { length before.now < count }
     ensures { result ≡ is_apart_after count before.now (pos start) after }
 {
     before.count() + 1 == count as usize && before.first_start(start) != after
@@ -62,6 +63,7 @@ fn entry_broken(
     name: &str,
     after: usize,
 ) -> Option<u16>
+    requires { length before.now < bounds.count }
     ensures { result ≡ first_broken (conditions_after bounds.size bounds.count before.now after offset name.now) }
 {
     if is_misplaced(bounds.size, before, offset) {
@@ -82,7 +84,8 @@ fn next_entry<'a>(
     before: &Directory<'a>,
     bounds: Bounds,
 ) -> Result<DirectoryEntry<'a>, u16>
-    requires { IsBytes cur.old.rest }
+    requires more { length before.now < bounds.count }
+    requires bytes { IsBytes cur.old.rest }
     ensures gives { Gives (λ e. entry_record (pos e.start) e.name.now)
         (record_at entry_shape (entry_conditions bounds.size bounds.count before.now cur.old.place) cur.old) cur.new result }
     ensures good { IfOk result (λ e. IsGoodEntry bounds.size bounds.count before.now (entry_of e) cur.new.place) }
@@ -110,6 +113,7 @@ pub fn read_directory<'a>(
 ) -> Result<Directory<'a>, CodecFault>
     requires { IsBytes cur.old.rest }
     ensures gives { GivesIn kind (λ d. d) (read_plan (times (entry_kind bounds.size bounds.count) bounds.count []) cur.old) cur.new result }
+    ensures count { IfOk result (λ d. length d ≡ bounds.count) }
     ensures good { IfOk result (λ d. AreGoodEntries bounds.size bounds.count d cur.new.place) }
 {
     let mut directory = Directory::new(alloc);

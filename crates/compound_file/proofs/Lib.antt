@@ -4,3 +4,4 @@ pub mod ReadLemmas
 pub mod DirectoryLemmas
 pub mod SplitLemmas
 pub mod NameLemmas
+pub mod PackLemmas

@@ -3,9 +3,11 @@
 
 mod directory;
 mod entry;
+mod packing;
 mod parts;
 mod reading;
 
+pub use packing::{PackFault, pack};
 pub use parts::{CfsEntries, split};
 
 #[cfg(test)]

@@ -5,3 +5,4 @@ pub mod DirectoryLemmas
 pub mod SplitLemmas
 pub mod NameLemmas
 pub mod PackLemmas
+pub mod KindLemmas

@@ -20,7 +20,7 @@ Rise-first from end [] rise = (rise, omega arith)
 Rise-first from end (x ∷ xs) rise = (rise.0, let later = Rise-first x.start end xs rise.1 in omega arith)
 
 -- the first of all is the first of those before, or the new one
-first_start-push : (other : ℕ) (entries : List Entry) (e : Entry) → first_start other (entries ++ e ∷ []) ≡ first_start e.start entries
+pub first_start-push : (other : ℕ) (entries : List Entry) (e : Entry) → first_start other (entries ++ e ∷ []) ≡ first_start e.start entries
 first_start-push other [] e = refl
 first_start-push other (x ∷ xs) e = refl
 

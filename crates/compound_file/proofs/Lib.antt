@@ -6,3 +6,4 @@ pub mod SplitLemmas
 pub mod NameLemmas
 pub mod PackLemmas
 pub mod KindLemmas
+pub mod WrittenLemmas

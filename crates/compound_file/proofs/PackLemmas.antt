@@ -53,12 +53,14 @@ module _ (parts : List Packed) (i : ℕ) (item : Packed) (within : i < length pa
 
 -- ---- the whole
 
+pub length-entry : (start : ℕ) (part : NamedPart) → length (spelling int64 (pos start) ++ spelling text part.name) ≡ entry_size part
+length-entry start part = length-append (spelling int64 (pos start)) (spelling text part.name)
+
 length-entries_bytes : (start : ℕ) (parts : List NamedPart) → length (entries_bytes start parts) ≡ sum_by entry_size parts
 length-entries_bytes start [] = refl
 length-entries_bytes start (p ∷ ps) =
     let tail = entries_bytes (start + length p.bytes) ps in
-    let offset : length (spelling int64 (pos start)) ≡ 8 = refl in
-    omega (arith, length-append (spelling int64 (pos start) ++ spelling text p.name) tail, length-append (spelling int64 (pos start)) (spelling text p.name), offset, length-entries_bytes (start + length p.bytes) ps, sum_by-cons entry_size p ps)
+    omega (arith, length-append (spelling int64 (pos start) ++ spelling text p.name) tail, length-entry start p, length-entries_bytes (start + length p.bytes) ps, sum_by-cons entry_size p ps)
 
 pub length-cfs_bytes : (parts : List NamedPart) → length (cfs_bytes parts) ≡ directory_size parts + contents_size parts
 length-cfs_bytes parts =

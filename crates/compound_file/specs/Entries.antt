@@ -1,5 +1,7 @@
 -- The parts of a compound file, and the entries of its directory (format page, "Compound files").
-use Rattle.std.specs.Prelude.{◌≡◌, ◌≢◌, ℕ, ◌+◌, ◌-◌, ◌^◌, ◌<◌, ◌≤◌, List, [], ◌∷◌, Option, length, position, find, map, option_map, slice_range, AllPairs}
+use Rattle.std.specs.Prelude.{◌≡◌, ◌≢◌, ℕ, ◌+◌, ◌-◌, ◌^◌, ◌<◌, ◌≤◌, List, [], ◌∷◌, Option, length, position, find, map, option_map, slice_range, All, AllPairs}
+use Rattle.lu_grammar.specs.Bytes.{IsBytes}
+use Rattle.lu_grammar.specs.Parts.{text, IsValue}
 use Rattle.std.specs.Str.{bytes_eq}
 
 -- a part: its name outside a compound file, and its bytes
@@ -11,9 +13,12 @@ pub record NamedPart : Type 0 where
 abbrev pub part_named : List ℕ → List NamedPart → Option (List ℕ)
 part_named name parts = option_map (λ part. part.bytes) (find (λ part. bytes_eq name part.name) parts)
 
--- no two parts have one name
-abbrev pub AreApart : List NamedPart → Type 0
-AreApart parts = AllPairs (λ part later. part.name ≢ later.name) parts
+-- these parts can be in one file: there are fewer than 2^31, each name is a text that a file can hold, no two are one, and what they hold is bytes
+pub record AreParts (parts : List NamedPart) : Type 0 where
+  pub few : length parts < 2 ^ 31
+  pub named : All (λ part. IsValue text part.name) parts
+  pub apart : AllPairs (λ name later. name ≢ later) (map (λ part. part.name) parts)
+  pub bytes : All (λ part. IsBytes part.bytes) parts
 
 -- an entry of the directory: the name of a part, and where its bytes start in the file
 pub record Entry : Type 0 where

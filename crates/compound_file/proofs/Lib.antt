@@ -7,3 +7,4 @@ pub mod NameLemmas
 pub mod PackLemmas
 pub mod KindLemmas
 pub mod WrittenLemmas
+pub mod PackedLemmas

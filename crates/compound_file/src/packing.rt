@@ -1,5 +1,6 @@
 //! Packing the files of a segment into one (format page, "Compound files").
-ghost use Rattle.std.specs.Prelude.{◌≡◌, ◌≢◌, ◌+◌, ◌-◌, ◌<◌, ◌≤◌, ◌^◌, ◌++◌, length, map, All, AllPairs, IfOk, OnOk, option_map};
+ghost use Rattle.std.specs.Prelude.{◌≡◌, ◌≢◌, ◌+◌, ◌-◌, ◌<◌, ◌≤◌, ◌^◌, ◌++◌, length, map, All, AllPairs, IfOk, IfSome, OnOk, option_map, string_bytes};
+ghost use Rattle.lu_grammar.specs.Bytes.{IsBytes};
 ghost use Rattle.lu_grammar.specs.Meaning.{Reads};
 ghost use Rattle.lu_types.specs.Names.{IsPart};
 ghost use Rattle.compound_file.specs.Cfs.{cfs_plan};
@@ -56,6 +57,19 @@ pub struct Packed<'a> {
     bytes: &'a [u8],
 }
 
+impl<'a> Packed<'a> {
+    /// The part with a name and these bytes.
+    fn new(name: String, bytes: &'a [u8]) -> Packed<'a>
+        ensures part { part_of result ≡ record { name = string_bytes name; bytes = bytes.entry.now } }
+        ensures bytes { IsBytes result.bytes.now }
+    {
+        Packed {
+            name: Text::new(name),
+            bytes,
+        }
+    }
+}
+
 /// Whether two kinds are one.
 fn is_same(a: FileKind, b: FileKind) -> bool
     ensures { result ≡ is_one a b }
@@ -83,16 +97,14 @@ fn part_of_kind<'a>(
     kind: FileKind,
 ) -> Result<Option<Packed<'a>>, OutOfMemory>
     requires { IsPart kind }
-    ensures { IfOk result (λ part. option_map part_of part ≡ option_map (packed_in segment.now) (file_in files.entry.now kind)) }
+    ensures part { IfOk result (λ part. option_map part_of part ≡ option_map (packed_in segment.now) (file_in files.entry.now kind)) }
+    ensures bytes { IfOk result (λ part. IfSome part (λ p. IsBytes p.bytes.now)) }
 {
     match file_of(files, kind) {
         None => Ok(None),
         Some(file) => {
             let name = part_name(alloc, segment, kind)?;
-            Ok(Some(Packed {
-                name: Text::new(name),
-                bytes: file.bytes.as_slice(),
-            }))
+            Ok(Some(Packed::new(name, file.bytes.as_slice())))
         }
     }
 }
@@ -105,6 +117,7 @@ fn parts_of<'a>(
 ) -> Result<Vec<Packed<'a>>, OutOfMemory>
     ensures parts { IfOk result (λ parts. map part_of parts.items ≡ packed_parts number files.entry.now) }
     ensures few { IfOk result (λ parts. length parts.items < 128) }
+    ensures bytes { IfOk result (λ parts. All (λ part. IsBytes part.bytes.now) parts.items) }
 {
     let segment = segment_name(alloc, number)?;
     let mut parts = Vec::new(alloc);
@@ -227,5 +240,6 @@ pub fn pack(
     ensures reads { IfOk result (λ bytes. Reads (cfs_plan (length bytes.items)) bytes.items (packed_parts number files.now)) }
 {
     let parts = parts_of(alloc, files, number)?;
-    pack_parts(alloc, &parts, limit)
+    let out = pack_parts(alloc, &parts, limit)?;
+    Ok(out)
 }

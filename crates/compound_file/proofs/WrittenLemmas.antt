@@ -15,7 +15,7 @@ use Rattle.lu_grammar.specs.Parts.{int64, num, text, bytes as so_many, IsValue, 
 use Rattle.lu_grammar.specs.Records.{Spells, first_broken}
 use Rattle.lu_grammar.specs.Plans.{one, and_then, times, each, gather, read_file}
 use Rattle.lu_grammar.specs.Meaning.{Reads}
-use Rattle.lu_grammar.proofs.Codecs.{Writes, read_file-Writes, Writes-due, Writes-done, Writes-and_then, Writes-none, Reads-from, IsBytes-append}
+use Rattle.lu_grammar.proofs.Codecs.{Writes, read_file-Writes, Writes-due, Writes-done, Writes-and_then, Writes-none, Reads-from, IsBytes-nil, IsBytes-append, IsBytes-flat_map, IsBytes-spelling}
 use Rattle.compound_file.specs.Entries.{NamedPart, AreParts, Entry, Span, number_of, first_start, last_start, spans}
 use Rattle.compound_file.specs.Cfs.{header, entry, content, header_shape, entry_shape, content_shape, count_of, content_of, with_entry, after_entry, is_misplaced, is_apart, entry_conditions, entry_kind, part_plan, parts_plan, cfs_plan}
 use Rattle.compound_file.specs.Packing.{entry_size, directory_size, entries_bytes, contents, contents_size, cfs_bytes}
@@ -132,6 +132,16 @@ module _ (size count : ℕ) (small : size < 2 ^ 63) where
 
 -- ---- the whole file
 
+-- entries are bytes
+entries-fit : (start : ℕ) (parts : List NamedPart) → start + contents_size parts < 2 ^ 63 → All (λ part. IsValue text part.name) parts → IsBytes (entries_bytes start parts)
+entries-fit start [] room named = IsBytes-nil
+entries-fit start (p ∷ ps) room named =
+    let sizes : contents_size (p ∷ ps) ≡ length p.bytes + contents_size ps = sum_by-cons (λ q. length q.bytes) p ps in
+    let small : start < 2 ^ 63 = omega (arith, room, sizes) in
+    IsBytes-append (spelling int64 (pos start) ++ spelling text p.name) (entries_bytes (start + length p.bytes) ps)
+    (IsBytes-append (spelling int64 (pos start)) (spelling text p.name) (IsBytes-spelling int64 (pos start) (omega arith)) (IsBytes-spelling text p.name (named 0 p (omega arith))))
+    (entries-fit (start + length p.bytes) ps (omega (arith, room, sizes)) (λ k d within. named (suc k) d (omega arith)))
+
 module _ (parts : List NamedPart) (are : AreParts parts) (small : length (cfs_bytes parts) < 2 ^ 63) where
   written : read_file (cfs_plan (length (cfs_bytes parts))) (cfs_bytes parts) ≡ Ok parts
   written =
@@ -150,5 +160,11 @@ module _ (parts : List NamedPart) (are : AreParts parts) (small : length (cfs_by
       (count, [], are.few, sym (append-nil front), (refl, refl)) refl
       (Writes-and_then (times (entry_kind size count) count []) (parts_plan size) (0 + length front) (entries_bytes start parts) (contents parts) (entries_of start parts) parts entries all))
 
-  pub cfs-reads : IsBytes (cfs_bytes parts) → Reads (cfs_plan (length (cfs_bytes parts))) (cfs_bytes parts) parts
-  cfs-reads fits = Reads-from (cfs_plan (length (cfs_bytes parts))) (cfs_bytes parts) parts fits written
+  fit : IsBytes (cfs_bytes parts)
+  fit =
+      IsBytes-append (spelling num (length parts) ++ entries_bytes (directory_size parts) parts) (contents parts)
+      (IsBytes-append (spelling num (length parts)) (entries_bytes (directory_size parts) parts) (IsBytes-spelling num (length parts) are.few) (entries-fit (directory_size parts) parts (omega (arith, length-cfs_bytes parts)) are.named))
+      (IsBytes-flat_map (λ (p : NamedPart). p.bytes) parts are.bytes)
+
+  pub cfs-reads : Reads (cfs_plan (length (cfs_bytes parts))) (cfs_bytes parts) parts
+  cfs-reads = Reads-from (cfs_plan (length (cfs_bytes parts))) (cfs_bytes parts) parts fit written

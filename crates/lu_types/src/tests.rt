@@ -309,6 +309,8 @@ fn lists_and_texts_are_given_back(rt: HostRuntime) -> Result<(), Fail> {
     let text = Text::from_str(rt.alloc(), "aa")?;
     assert_eq!(rt; text.as_str(), "aa");
     assert_eq!(rt; text.into_string().as_str(), "aa");
+    let fitted = Text::fitted(letters(rt.alloc(), 2)?);
+    assert_eq!(rt; fitted.as_str(), "aa");
     let stored = Stored::Binary(Bytes::new(letters(rt.alloc(), 2)?.into_bytes()));
     assert_eq!(rt; stored.as_bytes(), b"aa".as_slice());
     let bytes = Bytes::fitted(letters(rt.alloc(), 3)?.into_bytes());

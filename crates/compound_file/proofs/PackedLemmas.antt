@@ -68,8 +68,7 @@ text-name : (number : ℕ) (kind : FileKind) → number < 2 ^ 31 → IsPart kind
 text-name number kind small part =
     let mark = IsUtf8-from_is_utf8 (codes "_") (single tt).0 in
     let dot = IsUtf8-from_is_utf8 (codes ".") (single tt).1 in
-    let segment = IsUtf8-append (codes "_") (base36 number) mark (IsUtf8-from_ascii (base36 number) (ascii-number number)) in
-    (
+    let segment = IsUtf8-append (codes "_") (base36 number) mark (IsUtf8-from_ascii (base36 number) (ascii-number number)) in (
       (let s = short-name number kind small part in omega arith),
       IsUtf8-append (segment_name number ++ codes ".") (extension kind) (IsUtf8-append (segment_name number) (codes ".") segment dot) (IsUtf8-from_is_utf8 (extension kind) (ascii-extension kind part)),
     )

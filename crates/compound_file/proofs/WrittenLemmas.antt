@@ -47,9 +47,9 @@ new-name : (before : List Entry) (name : List ℕ) (later : List (List ℕ)) →
 new-name before name later apart =
     let many : length (names_of before) ≡ length before = length-map before (λ (e : Entry). e.name) in
     number_of-none name before no_entry (λ k lt same.
-      let within : k < length (names_of before) = omega (arith, many) in
-      let at : get_or (names_of before ++ name ∷ later) k [] ≡ name = get_or-append (names_of before) (name ∷ later) [] k within ∙ get_or-map (λ (e : Entry). e.name) before k no_entry [] lt ∙ same in
-      apart k (length (names_of before)) [] within (omega (arith, length-append (names_of before) (name ∷ later))) (at ∙ sym (get_or-append_seam (names_of before) name later [])))
+    let within : k < length (names_of before) = omega (arith, many) in
+    let at : get_or (names_of before ++ name ∷ later) k [] ≡ name = get_or-append (names_of before) (name ∷ later) [] k within ∙ get_or-map (λ (e : Entry). e.name) before k no_entry [] lt ∙ same in
+    apart k (length (names_of before)) [] within (omega (arith, length-append (names_of before) (name ∷ later))) (at ∙ sym (get_or-append_seam (names_of before) name later [])))
 
 -- ---- entries
 

@@ -3,6 +3,7 @@
 
 mod directory;
 mod entry;
+pub mod laws;
 mod packing;
 mod parts;
 mod reading;

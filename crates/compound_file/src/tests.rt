@@ -1,9 +1,13 @@
 //! Compound files, split and packed: bytes that come from the format, and not from this crate.
-use crate::split;
+ghost use Rattle.std.specs.Prelude.{◌≡◌, IfOk};
+
+use crate::{PackFault, pack, split};
+use lu_prims::OutOfMemory;
 use lu_types::rules::{
     CFS_FIRST, CFS_OFFSET, CFS_TWICE, ENDS, LONG_NUMBER, NOT_UTF8, TOO_GREAT, TRAILING,
 };
-use lu_types::{CodecFault, FileKind, Spot};
+use lu_types::{Bytes, CodecFault, FileKind, NamedFile, Spot};
+use std::alloc::Global;
 use std::test::Fail;
 
 /// A `.cfs` of one part, a `.fnm` of nine bytes.
@@ -92,5 +96,45 @@ fn a_good_file_is_split(rt: HostRuntime) -> Result<(), Fail> {
     let two = split(rt.alloc(), FileKind::Cfx, TWO_PARTS)?;
     assert_eq!(rt; two.get("a"), Some(b"xy".as_slice()));
     assert_eq!(rt; two.get("b"), Some(b"z".as_slice()));
+    Ok(())
+}
+
+/// A file of this kind, with these bytes.
+fn file(alloc: Global, kind: FileKind, bytes: &[u8]) -> Result<NamedFile, OutOfMemory>
+    ensures { IfOk result (λ file. (file.kind ≡ kind) × (file.bytes ≡ bytes.now)) }
+{
+    let items = Vec::from_slice(alloc, bytes)?;
+    Ok(NamedFile {
+        kind,
+        bytes: Bytes::new(items),
+    })
+}
+
+#[test]
+fn files_are_packed_in_the_order_of_checks(rt: HostRuntime) -> Result<(), Fail> {
+    let fnm = b"\xfe\xff\xff\xff\x0f\x01\x01a\x01";
+    let alone = [file(rt.alloc(), FileKind::Fnm, fnm)?];
+    let one = pack(rt.alloc(), &alone, 0, 25)?;
+    assert_eq!(rt; one.as_slice(), ONE_PART);
+    assert_eq!(rt;
+        pack(rt.alloc(), &alone, 0, 24).err(),
+        Some(PackFault::TooLarge)
+    );
+    let pair = [
+        file(rt.alloc(), FileKind::Tii, b"xy")?,
+        file(rt.alloc(), FileKind::Fdt, b"z")?,
+    ];
+    assert_eq!(rt;
+        pack(rt.alloc(), &pair, 71, 10).err(),
+        Some(PackFault::TooLarge)
+    );
+    let both = pack(rt.alloc(), &pair, 71, 1000)?;
+    let packed =
+        b"\x02\x00\x00\x00\x00\x00\x00\x00\x21\x07_1z.fdt\x00\x00\x00\x00\x00\x00\x00\x22\x07_1z.tiizxy";
+    assert_eq!(rt; both.as_slice(), packed.as_slice());
+    let parts = split(rt.alloc(), FileKind::Cfs, both.as_slice())?;
+    assert_eq!(rt; parts.get("_1z.tii"), Some(b"xy".as_slice()));
+    let none = pack(rt.alloc(), &[], 0, 1)?;
+    assert_eq!(rt; none.as_slice(), b"\x00".as_slice());
     Ok(())
 }

@@ -17,7 +17,7 @@ loop-part-preserved c =
     let short : length item.name < 128 = subst (λ (p : Packed). length p.name < 128) (sym c.part-item.is) (c.requires.short c.loop-part.part-index item c.loop-part-test.true) in
     let next = entries_left c.args.parts.now c.loop-part.part-index item c.loop-part-test.true c.part-item.is in
     let size = entry_size-short (part_of item) short in
-    rw c.as_str.ensures (record {
+    rw c.as_str.ensures.same (record {
       left = omega (arith, next, size, c.loop-part.invariant.left);
       small = omega (arith, short, c.loop-part.invariant.small);
     })

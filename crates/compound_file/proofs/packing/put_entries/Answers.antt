@@ -16,7 +16,7 @@ loop-part-preserved c =
     record {
       left = ap (λ (t : List ℕ). t ++ rest) c.in_ok-put_text.ensures.ok
           ∙ ap (λ (t : List ℕ). t ++ spelling text c.as_str.result.now ++ rest) offset
-          ∙ ap (λ (t : List ℕ). (c.loop-part.out.items ++ spelling int64 (pos c.loop-part.next)) ++ spelling text t ++ rest) c.as_str.ensures
+          ∙ ap (λ (t : List ℕ). (c.loop-part.out.items ++ spelling int64 (pos c.loop-part.next)) ++ spelling text t ++ rest) c.as_str.ensures.same
           ∙ entries_bytes-left c.args.parts.now c.loop-part.part-index item c.loop-part-test.true c.part-item.is c.loop-part.out.items c.loop-part.next
           ∙ c.loop-part.invariant.left;
       room = omega (arith, next, c.loop-part.invariant.room);

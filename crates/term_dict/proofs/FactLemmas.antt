@@ -22,7 +22,7 @@ use Rattle.lu_grammar.proofs.Plans.{ok_of}
 use Rattle.lu_grammar.proofs.Loops.{then_ok, times-keeps, read_plan-and_then}
 use Rattle.lu_grammar.proofs.Records.{ok_pair, same_pair}
 use Rattle.lu_prims.proofs.Units.{text_order}
-use Rattle.lu_types.specs.declared.rules.TheConstants.{TERM_PREFIX, TERM_UTF8, TERM_FIELD, TERM_ORDER, DOC_FREQ, TERM_PLACE}
+use Rattle.lu_types.specs.RuleNumbers as number
 use Rattle.lu_types.specs.Tables.{TableField}
 use Rattle.term_dict.specs.Headings.{header, heading_conditions, numbers_of, Line, heading_of, on_entry, entry}
 use Rattle.term_dict.specs.Entries.{Entry, entry_shape, field_number}
@@ -134,7 +134,7 @@ good_more : (fields : List TableField) (documents interval place : ℕ) (s : Pro
     → first_broken (term_conditions (within fields documents) s.terms e) ≡ None → AreGoodSoFar fields documents interval (with_term s place e)
 good_more fields documents interval place s c e d h read good =
     let t = term_after (last_term s.terms) e in
-    let all = six (ltb (length (last_term s.terms).text) e.prefix) (not (is_utf8 t.text)) (not (is_indexed fields t.info.field)) (not (is_above fields s.terms t)) (eqb t.info.doc_freq 0 || ltb documents t.info.doc_freq) (is_past t) TERM_PREFIX TERM_UTF8 TERM_FIELD TERM_ORDER DOC_FREQ TERM_PLACE good in
+    let all = six (ltb (length (last_term s.terms).text) e.prefix) (not (is_utf8 t.text)) (not (is_indexed fields t.info.field)) (not (is_above fields s.terms t)) (eqb t.info.doc_freq 0 || ltb documents t.info.doc_freq) (is_past t) number.term_prefix number.term_utf8 number.term_field number.term_order number.doc_freq number.term_place good in
     let indexed = holds (is_indexed fields t.info.field) all.2 in
     let docs = neither (eqb t.info.doc_freq 0) (ltb documents t.info.doc_freq) all.4 in
     let past = neither (leb (2 ^ 31) t.info.freq) (leb (2 ^ 31) t.info.prox) all.5 in

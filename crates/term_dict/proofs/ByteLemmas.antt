@@ -6,8 +6,8 @@ use Rattle.std.proofs.Math.Nat.{pow-suc, div-add-mod}
 use Rattle.lu_grammar.specs.Bytes.{IsBytes}
 use Rattle.lu_grammar.specs.Parts.{int32, int64, num, vint, vlong, groups, spelling}
 use Rattle.lu_types.specs.declared.term.TermNumbers.{TermNumbers}
-use Rattle.term_dict.specs.Entries.{Entry}
-use Rattle.term_dict.specs.Canonical.{skip_bytes, entry_bytes, header_bytes}
+use Rattle.term_dict.specs.Entries.{TermRecord}
+use Rattle.term_dict.specs.Canonical.{skip_delta_bytes, term_record_bytes, header_bytes}
 
 no_bytes : IsBytes []
 no_bytes i = omega arith
@@ -72,7 +72,7 @@ header_bytes-bytes numbers count =
     bytes-append a (b ++ (c ++ (d ++ e))) format-bytes (bytes-append b (c ++ (d ++ e)) (int64-bytes count) (bytes-append c (d ++ e) (int32-bytes numbers.index_interval) (bytes-append d e (int32-bytes numbers.skip_interval) (int32-bytes numbers.max_levels))))
 
 -- the bytes of an entry whose numbers are small
-pub record IsSmallEntry (e : Entry) : Type 0 where
+pub record IsSmallEntry (e : TermRecord) : Type 0 where
   pub prefix : e.prefix < 2 ^ 32
   pub count : length e.suffix < 2 ^ 32
   pub suffix : IsBytes e.suffix
@@ -82,16 +82,16 @@ pub record IsSmallEntry (e : Entry) : Type 0 where
   pub prox : e.prox < 2 ^ 63
   pub skip : e.skip < 2 ^ 32
 
-skip_bytes-bytes : (interval : ℕ) (e : Entry) → e.skip < 2 ^ 32 → IsBytes (skip_bytes interval e)
-skip_bytes-bytes interval e lt = go (leb interval e.doc_freq)
+skip_delta_bytes-bytes : (interval : ℕ) (e : TermRecord) → e.skip < 2 ^ 32 → IsBytes (skip_delta_bytes interval e)
+skip_delta_bytes-bytes interval e lt = go (leb interval e.doc_freq)
   where
     go : (b : Bool) → IsBytes (if b then spelling num e.skip else [])
     go true = vint-bytes e.skip lt
     go false = no_bytes
 
-pub entry_bytes-bytes : (interval : ℕ) (e : Entry) (more : List ℕ) → IsSmallEntry e → IsBytes more → IsBytes (entry_bytes interval e more)
-entry_bytes-bytes interval e more h rest =
-    let i = skip_bytes interval e ++ more in
+pub term_record_bytes-bytes : (interval : ℕ) (e : TermRecord) (more : List ℕ) → IsSmallEntry e → IsBytes more → IsBytes (term_record_bytes interval e more)
+term_record_bytes-bytes interval e more h rest =
+    let i = skip_delta_bytes interval e ++ more in
     let g = spelling vlong e.prox ++ i in
     let f = spelling vlong e.freq ++ g in
     let d = spelling num e.doc_freq ++ f in
@@ -100,4 +100,4 @@ entry_bytes-bytes interval e more h rest =
     let a = spelling num (length e.suffix) ++ b in
     bytes-append (spelling num e.prefix) a (vint-bytes e.prefix h.prefix) (bytes-append (spelling num (length e.suffix)) b (vint-bytes (length e.suffix) h.count) (bytes-append e.suffix c h.suffix
     (bytes-append (spelling vint e.field) d (vint-bytes e.field h.field) (bytes-append (spelling num e.doc_freq) f (vint-bytes e.doc_freq h.doc_freq) (bytes-append (spelling vlong e.freq) g (vlong-bytes e.freq h.freq)
-    (bytes-append (spelling vlong e.prox) i (vlong-bytes e.prox h.prox) (bytes-append (skip_bytes interval e) more (skip_bytes-bytes interval e h.skip) rest)))))))
+    (bytes-append (spelling vlong e.prox) i (vlong-bytes e.prox h.prox) (bytes-append (skip_delta_bytes interval e) more (skip_delta_bytes-bytes interval e h.skip) rest)))))))

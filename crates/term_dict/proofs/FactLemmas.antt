@@ -22,13 +22,13 @@ use Rattle.lu_grammar.proofs.Plans.{ok_of}
 use Rattle.lu_grammar.proofs.Loops.{then_ok, times-keeps, read_plan-and_then}
 use Rattle.lu_grammar.proofs.Records.{ok_pair, same_pair}
 use Rattle.lu_prims.proofs.Units.{text_order}
-use Rattle.lu_types.specs.declared.rules.TheConstants.{TERM_PREFIX, TERM_UTF8, TERM_FIELD, TERM_ORDER, DOC_FREQ, TERM_PLACE}
+use Rattle.lu_types.specs.RuleNumbers as number
 use Rattle.lu_types.specs.Tables.{TableField}
 use Rattle.term_dict.specs.Headings.{header, heading_conditions, numbers_of, Line, heading_of, on_entry, entry}
-use Rattle.term_dict.specs.Entries.{Entry, entry_shape, field_number}
-use Rattle.term_dict.specs.Terms.{Term, no_term, last_term, term_after, no_field, field_of, is_indexed, is_above, term_cmp}
-use Rattle.term_dict.specs.Dictionary.{Dictionary, Progress, no_terms, with_term, within, is_past, place_conditions, against, term_conditions, term_kind, terms_plan, dictionary_plan, tis_plan}
-use Rattle.term_dict.specs.Facts.{IsGoodTerm, AreGoodTerms}
+use Rattle.term_dict.specs.Entries.{TermRecord, entry_shape, field_number}
+use Rattle.term_dict.specs.Terms.{DictionaryTerm, no_term, last_term, term_after, no_field, field_of, is_indexed, is_above, term_cmp}
+use Rattle.term_dict.specs.Dictionary.{Dictionary, Progress, no_terms, with_term, within, is_past_files, term_place_conditions, against, term_conditions, term_kind, terms_plan, dictionary_plan, tis_plan}
+use Rattle.term_dict.specs.Facts.{IsTermOfSegment, AreGoodTerms}
 use Rattle.term_dict.proofs.FileLemmas.{finish, dictionary_of}
 use Rattle.term_dict.proofs.WalkLemmas.{good_entry, grows, was_ended}
 
@@ -36,7 +36,7 @@ use Rattle.term_dict.proofs.WalkLemmas.{good_entry, grows, was_ended}
 
 pub term_order : (fields : List TableField) → IsTotalOrder (term_cmp fields)
 term_order fields =
-    then_total (on_total (λ (t : Term). (field_of fields t.info.field).name) text_order) (on_total (λ (t : Term). t.text) text_order)
+    then_total (on_total (λ (t : DictionaryTerm). (field_of fields t.info.field).name) text_order) (on_total (λ (t : DictionaryTerm). t.text) text_order)
 
 -- ---- one term more
 
@@ -60,14 +60,14 @@ was_lt Equal e = cc
 was_lt Greater e = cc
 
 -- a term that is above the last of some terms that rise is above each of them
-above_all : (fields : List TableField) (before : List Term) (t : Term) → AllPairs (λ a b. term_cmp fields a b ≡ Less) before → is_above fields before t ≡ true → All (λ a. term_cmp fields a t ≡ Less) before
+above_all : (fields : List TableField) (before : List DictionaryTerm) (t : DictionaryTerm) → AllPairs (λ a b. term_cmp fields a b ≡ Less) before → is_above fields before t ≡ true → All (λ a. term_cmp fields a t ≡ Less) before
 above_all fields before t rise above = λ i d lt.
     let last = length before - 1 in
     let least : term_cmp fields (last_term before) t ≡ Less = was_lt _ (some_are (eqb (length before) 0) (is_lt (term_cmp fields (last_term before) t)) refl (λ none. omega (arith, none, lt)) above) in
     let here : get_or before last d ≡ last_term before = get_or_default before last d no_term (omega (arith, lt)) in
     elim (cases_eq i last) [
-      | inl e ↦ subst (λ (a : Term). term_cmp fields a t ≡ Less) (sym (ap (λ (k : ℕ). get_or before k d) e ∙ here)) least
-      | inr ne ↦ (term_order fields).trans (get_or before i d) (last_term before) t (subst (λ (a : Term). term_cmp fields (get_or before i d) a ≡ Less) here (rise i last d (omega (arith, lt, ne)) (omega (arith, lt)))) least
+      | inl e ↦ subst (λ (a : DictionaryTerm). term_cmp fields a t ≡ Less) (sym (ap (λ (k : ℕ). get_or before k d) e ∙ here)) least
+      | inr ne ↦ (term_order fields).trans (get_or before i d) (last_term before) t (subst (λ (a : DictionaryTerm). term_cmp fields (get_or before i d) a ≡ Less) here (rise i last d (omega (arith, lt, ne)) (omega (arith, lt)))) least
     ]
   where
     some_are : (none above : Bool) → none ≡ eqb (length before) 0 → (length before ≡ 0 → ⊥) → (none || above) ≡ true → above ≡ true
@@ -102,19 +102,19 @@ is_there fields number is = elim (cases_lt number (length fields)) [
 ]
 
 -- an entry of these parts
-abbrev entry_made : ℕ → List ℕ → ℕ → ℕ → ℕ → ℕ → Option ℕ → Entry
+abbrev entry_made : ℕ → List ℕ → ℕ → ℕ → ℕ → ℕ → Option ℕ → TermRecord
 entry_made prefix suffix field doc_freq freq prox skip = record { prefix = prefix; suffix = suffix; field = field; doc_freq = doc_freq; freq = freq; prox = prox; skip = unwrap_or skip 0 }
 
 -- SkipDelta is 0 where it does not stand
-skip_made : (interval prefix : ℕ) (suffix : List ℕ) (field doc_freq freq prox : ℕ) (c : Cursor) (e : Entry) (d : Cursor) (b : Bool) → leb interval doc_freq ≡ b
+skip_made : (interval prefix : ℕ) (suffix : List ℕ) (field doc_freq freq prox : ℕ) (c : Cursor) (e : TermRecord) (d : Cursor) (b : Bool) → leb interval doc_freq ≡ b
     → read_shape (optional b (part num (λ n. whole n)) (λ skip. whole (entry_made prefix suffix field doc_freq freq prox skip))) c ≡ ok_pair e d → e.doc_freq < interval → e.skip ≡ 0
-skip_made interval prefix suffix field doc_freq freq prox c e d false test read few = ap (λ (x : Entry). x.skip) (sym (same_pair (entry_made prefix suffix field doc_freq freq prox None) e c d read).0)
+skip_made interval prefix suffix field doc_freq freq prox c e d false test read few = ap (λ (x : TermRecord). x.skip) (sym (same_pair (entry_made prefix suffix field doc_freq freq prox None) e c d read).0)
 skip_made interval prefix suffix field doc_freq freq prox c e d true test read few =
     let x = then_ok (read_part num c) (λ y. read_shape (whole (entry_made prefix suffix field doc_freq freq prox (Some y.0))) y.1) (e, d) read in
     let same = (same_pair (entry_made prefix suffix field doc_freq freq prox (Some x.0.0)) e x.0.1 d x.2).0 in
-    absurd (omega (arith, few, ap (λ (y : Entry). y.doc_freq) same, leb-true _ _ test))
+    absurd (omega (arith, few, ap (λ (y : TermRecord). y.doc_freq) same, leb-true _ _ test))
 
-no_skip : (interval : ℕ) (c : Cursor) (e : Entry) (d : Cursor) → read_shape (entry_shape false interval) c ≡ ok_pair e d → e.doc_freq < interval → e.skip ≡ 0
+no_skip : (interval : ℕ) (c : Cursor) (e : TermRecord) (d : Cursor) → read_shape (entry_shape false interval) c ≡ ok_pair e d → e.doc_freq < interval → e.skip ≡ 0
 no_skip interval c e d read =
     let prefix = then_ok (read_part num c) _ (e, d) read in
     let count = then_ok (read_part num prefix.0.1) _ (e, d) prefix.2 in
@@ -127,19 +127,19 @@ no_skip interval c e d read =
 
 -- what is so of some terms, and where each starts
 pub record AreGoodSoFar (fields : List TableField) (documents interval : ℕ) (s : Progress) : Type 0 where
-  pub each : All (IsGoodTerm fields documents interval) s.terms
+  pub each : All (IsTermOfSegment fields documents interval) s.terms
   pub rise : AllPairs (λ a b. term_cmp fields a b ≡ Less) s.terms
 
-good_more : (fields : List TableField) (documents interval place : ℕ) (s : Progress) (c : Cursor) (e : Entry) (d : Cursor) → AreGoodSoFar fields documents interval s → read_shape (entry_shape false interval) c ≡ ok_pair e d
+good_more : (fields : List TableField) (documents interval place : ℕ) (s : Progress) (c : Cursor) (e : TermRecord) (d : Cursor) → AreGoodSoFar fields documents interval s → read_shape (entry_shape false interval) c ≡ ok_pair e d
     → first_broken (term_conditions (within fields documents) s.terms e) ≡ None → AreGoodSoFar fields documents interval (with_term s place e)
 good_more fields documents interval place s c e d h read good =
     let t = term_after (last_term s.terms) e in
-    let all = six (ltb (length (last_term s.terms).text) e.prefix) (not (is_utf8 t.text)) (not (is_indexed fields t.info.field)) (not (is_above fields s.terms t)) (eqb t.info.doc_freq 0 || ltb documents t.info.doc_freq) (is_past t) TERM_PREFIX TERM_UTF8 TERM_FIELD TERM_ORDER DOC_FREQ TERM_PLACE good in
+    let all = six (ltb (length (last_term s.terms).text) e.prefix) (not (is_utf8 t.text)) (not (is_indexed fields t.info.field)) (not (is_above fields s.terms t)) (eqb t.info.doc_freq 0 || ltb documents t.info.doc_freq) (is_past_files t) number.term_prefix number.term_utf8 number.term_field number.term_order number.doc_freq number.term_place good in
     let indexed = holds (is_indexed fields t.info.field) all.2 in
     let docs = neither (eqb t.info.doc_freq 0) (ltb documents t.info.doc_freq) all.4 in
     let past = neither (leb (2 ^ 31) t.info.freq) (leb (2 ^ 31) t.info.prox) all.5 in
     record {
-      each = All-push (IsGoodTerm fields documents interval) s.terms t h.each (record {
+      each = All-push (IsTermOfSegment fields documents interval) s.terms t h.each (record {
         field = is_there fields t.info.field indexed;
         indexed = indexed;
         text = IsUtf8-from_is_utf8 t.text (holds (is_utf8 t.text) all.1);
@@ -152,12 +152,12 @@ good_more fields documents interval place s c e d h read good =
       rise = AllPairs-push (λ a b. term_cmp fields a b ≡ Less) s.terms t h.rise (above_all fields s.terms t h.rise (holds (is_above fields s.terms t) all.3));
     }
 
-good_line : (fields : List TableField) (documents interval : ℕ) (s : Progress) (c : Cursor) (line : Line Entry) (d : Cursor) → AreGoodSoFar fields documents interval s
+good_line : (fields : List TableField) (documents interval : ℕ) (s : Progress) (c : Cursor) (line : Line TermRecord) (d : Cursor) → AreGoodSoFar fields documents interval s
     → record_at ((term_kind (within fields documents) interval).shape s) ((term_kind (within fields documents) interval).conditions s c.place) c ≡ Ok (line, d)
     → AreGoodSoFar fields documents interval ((term_kind (within fields documents) interval).after s c.place line)
 good_line fields documents interval s c line d h read =
     let good = good_entry (within fields documents) interval s c line d read in
-    subst (λ (l : Line Entry). AreGoodSoFar fields documents interval (on_entry s (with_term s c.place) l)) (sym good.2) (good_more fields documents interval c.place s c good.0 d h good.1.read good.1.good)
+    subst (λ (l : Line TermRecord). AreGoodSoFar fields documents interval (on_entry s (with_term s c.place) l)) (sym good.2) (good_more fields documents interval c.place s c good.0 d h good.1.read good.1.good)
 
 -- ---- the whole file
 
@@ -168,7 +168,7 @@ good-terms fields documents bytes d reads =
     let c = start_of bytes in
     let standing = within fields documents in
     let file = then_ok (read_plan (dictionary_plan standing size) c) ended d (read_file-Reads (tis_plan fields documents size) bytes d reads) in
-    let head = then_ok (broken_at 0 (record_at (header {E = Entry}) (λ line. heading_conditions (heading_of line)) c)) (λ x. read_plan (terms_plan standing size (numbers_of (heading_of x.0))) x.1) file.0 file.1 in
+    let head = then_ok (broken_at 0 (record_at (header {E = TermRecord}) (λ line. heading_conditions (heading_of line)) c)) (λ x. read_plan (terms_plan standing size (numbers_of (heading_of x.0))) x.1) file.0 file.1 in
     let n = numbers_of (heading_of head.0.0) in
     let body = then_ok (read_plan (times (term_kind standing n.skip_interval) n.count no_terms) head.0.1) (λ x. read_plan (finish n size x.0) x.1) file.0
     (sym (read_plan-and_then (times (term_kind standing n.skip_interval) n.count no_terms) (finish n size) head.0.1) ∙ head.2) in

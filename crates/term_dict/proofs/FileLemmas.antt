@@ -5,7 +5,7 @@ use Rattle.std.specs.Str.{is_utf8}
 use Rattle.lu_types.specs.RuleNumbers as number
 use Rattle.std.proofs.lemmas.Bool.{eq-eqb, ne_eqb}
 use Rattle.lu_grammar.specs.Bytes.{IsBytes, Cursor, start_of}
-use Rattle.lu_grammar.specs.Reading.{◌>>=◌}
+use Rattle.lu_grammar.specs.Reading.{◌>>=◌, value_or}
 use Rattle.lu_grammar.specs.Records.{Shape, Condition, first_broken, read_shape, record_at, judged, unless_broken}
 use Rattle.lu_grammar.specs.declared.bad.Bad.{Bad}
 use Rattle.lu_grammar.specs.Plans.{Plan, done, Broken, broken_at, one, each, times, read_plan, ended, read_file}
@@ -18,11 +18,11 @@ use Rattle.lu_types.specs.declared.fault.CodecFault.TheVariants.{Spot, OutOfMemo
 use Rattle.lu_types.specs.declared.kind.FileKind.{FileKind}
 use Rattle.lu_types.specs.declared.term.TermNumbers.{TermNumbers}
 use Rattle.term_dict.specs.Headings.{header, heading_conditions, numbers_of, Line, heading, entry, heading_of, on_entry}
-use Rattle.term_dict.specs.Entries.{Entry}
-use Rattle.term_dict.specs.Terms.{Term, last_term, term_after}
-use Rattle.term_dict.specs.Dictionary.{Dictionary, Standing, anywhere, Progress, no_terms, place_conditions, against, term_conditions, term_kind, terms_plan, dictionary_plan}
+use Rattle.term_dict.specs.Entries.{TermRecord}
+use Rattle.term_dict.specs.Terms.{DictionaryTerm, last_term, term_after}
+use Rattle.term_dict.specs.Dictionary.{Dictionary, Standing, anywhere, Progress, no_terms, term_place_conditions, against, term_conditions, term_kind, terms_plan, dictionary_plan}
 use Rattle.term_dict.specs.Checks.{IsHeader, IsBrokenSo, IsFaultOf}
-use Rattle.term_dict.specs.Content.{content, no_dictionary, or_else}
+use Rattle.term_dict.specs.Content.{dictionary_in, no_dictionary}
 
 -- ---- from the parts of a file to the whole
 
@@ -40,7 +40,7 @@ abbrev pub dictionary_of : TermNumbers → ℕ → Progress → Dictionary
 dictionary_of numbers size s = record { numbers = numbers; terms = s.terms; starts = s.starts; size = size }
 
 -- nothing more after the terms
-abbrev pub finish : TermNumbers → ℕ → Progress → Plan Dictionary (Line Entry)
+abbrev pub finish : TermNumbers → ℕ → Progress → Plan Dictionary (Line TermRecord)
 finish numbers size s = done (dictionary_of numbers size s)
 
 pub terms-read : (standing : Standing) (size : ℕ) (numbers : TermNumbers) (c d : Cursor) (s : Progress) → read_plan (times (term_kind standing numbers.skip_interval) numbers.count no_terms) c ≡ Ok (s, d)
@@ -87,11 +87,11 @@ good-front true b rule other x y less good = cc
 good-front false true rule other x y less good = cc
 good-front false false rule other x y less good = less good
 
-good-anywhere : (standing : Standing) (before : List Term) (e : Entry) (t : Term) → first_broken (against standing before e t) ≡ None → first_broken (against anywhere before e t) ≡ None
+good-anywhere : (standing : Standing) (before : List DictionaryTerm) (e : TermRecord) (t : DictionaryTerm) → first_broken (against standing before e t) ≡ None → first_broken (against anywhere before e t) ≡ None
 good-anywhere standing before e t good =
-    good-front (ltb (length (last_term before).text) e.prefix) (not (is_utf8 t.text)) number.term_prefix number.term_utf8 (first_broken (standing before t ++ place_conditions t)) (first_broken (place_conditions t)) (good-back (standing before t) (place_conditions t)) good
+    good-front (ltb (length (last_term before).text) e.prefix) (not (is_utf8 t.text)) number.term_prefix number.term_utf8 (first_broken (standing before t ++ term_place_conditions t)) (first_broken (term_place_conditions t)) (good-back (standing before t) (term_place_conditions t)) good
 
-line-anywhere : (standing : Standing) (before : List Term) (line : Line Entry) → first_broken (on_entry [] (term_conditions standing before) line) ≡ None → first_broken (on_entry [] (term_conditions anywhere before) line) ≡ None
+line-anywhere : (standing : Standing) (before : List DictionaryTerm) (line : Line TermRecord) → first_broken (on_entry [] (term_conditions standing before) line) ≡ None → first_broken (on_entry [] (term_conditions anywhere before) line) ≡ None
 line-anywhere standing before (heading h) good = refl
 line-anywhere standing before (entry e) good = good-anywhere standing before e (term_after (last_term before) e) good
 
@@ -134,11 +134,11 @@ unfolding read_plan
 file-anywhere standing size bytes v e =
     let c = start_of bytes in
     let whole = then_ok (read_plan (dictionary_plan standing size) c) ended v e in
-    let head = then_ok (broken_at 0 (record_at (header {E = Entry}) (λ line. heading_conditions (heading_of line)) c)) (λ x. read_plan (terms_plan standing size (numbers_of (heading_of x.0))) x.1) whole.0 whole.1 in
+    let head = then_ok (broken_at 0 (record_at (header {E = TermRecord}) (λ line. heading_conditions (heading_of line)) c)) (λ x. read_plan (terms_plan standing size (numbers_of (heading_of x.0))) x.1) whole.0 whole.1 in
     let numbers = numbers_of (heading_of head.0.0) in
     let body = then_ok (read_plan (times (term_kind standing numbers.skip_interval) numbers.count no_terms) head.0.1) (λ x. read_plan (finish numbers size x.0) x.1) whole.0
     (sym (read_plan-and_then (times (term_kind standing numbers.skip_interval) numbers.count no_terms) (finish numbers size) head.0.1) ∙ head.2) in
-    ap (λ (r : Result (Line Entry × Cursor) Broken). (r >>= λ x. read_plan (terms_plan anywhere size (numbers_of (heading_of x.0))) x.1) >>= ended) head.1
+    ap (λ (r : Result (Line TermRecord × Cursor) Broken). (r >>= λ x. read_plan (terms_plan anywhere size (numbers_of (heading_of x.0))) x.1) >>= ended) head.1
     ∙ ap (λ (r : Result (Dictionary × Cursor) Broken). r >>= ended)
     (read_plan-and_then (times (term_kind anywhere numbers.skip_interval) numbers.count no_terms) (finish numbers size) head.0.1
     ∙ ap (λ (r : Result (Progress × Cursor) Broken). r >>= λ x. read_plan (finish numbers size x.0) x.1) (times-anywhere standing numbers.skip_interval numbers.count no_terms head.0.1 body.0 body.1)
@@ -146,5 +146,5 @@ file-anywhere standing size bytes v e =
     ∙ whole.2
 
 -- and so the bytes stand for what they stand for in a segment
-pub content-is : (standing : Standing) (bytes : List ℕ) (v : Dictionary) → read_file (dictionary_plan standing (length bytes)) bytes ≡ ok_of v → content bytes ≡ v
-content-is standing bytes v e = ap (λ (r : Result Dictionary Broken). or_else no_dictionary r) (file-anywhere standing (length bytes) bytes v e)
+pub dictionary_in-is : (standing : Standing) (bytes : List ℕ) (v : Dictionary) → read_file (dictionary_plan standing (length bytes)) bytes ≡ ok_of v → dictionary_in bytes ≡ v
+dictionary_in-is standing bytes v e = ap (λ (r : Result Dictionary Broken). value_or no_dictionary r) (file-anywhere standing (length bytes) bytes v e)

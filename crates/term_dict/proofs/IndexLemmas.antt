@@ -6,20 +6,20 @@ use Rattle.std.proofs.lemmas.Nat.{div-add-mod'}
 use Rattle.std.proofs.Math.Nat.{add-div_right, mul-add-div_right, div-eq_of_lt, mod-lt, le-div_iff_mul-le, suc-mul, le-mul_of_pos_right}
 use Rattle.std.proofs.lemmas.List.{take-append-le, get_or_append_left}
 use Rattle.lu_types.specs.declared.term.TermInfo.{TermInfo}
-use Rattle.term_dict.specs.Terms.{Term, no_term, last_term}
+use Rattle.term_dict.specs.Terms.{DictionaryTerm, no_term, last_term}
 use Rattle.term_dict.specs.Index.{blank, point_after}
-use Rattle.term_dict.specs.Canonical.{Point, begun, terms_bytes, start_of_term, point_before, point_bytes, points_bytes}
+use Rattle.term_dict.specs.Canonical.{TermPoint, intervals_begun, terms_bytes, start_of_term, point_before, point_bytes, points_bytes}
 use Rattle.term_dict.specs.Writing.{term_before}
 
--- ---- how many intervals have begun
+-- ---- how many intervals have intervals_begun
 
-pub begun-next : (interval n : ℕ) → 1 ≤ interval → begun interval (n + 1) ≡ n / interval + 1
-begun-next interval n some =
+pub intervals_begun-next : (interval n : ℕ) → 1 ≤ interval → intervals_begun interval (n + 1) ≡ n / interval + 1
+intervals_begun-next interval n some =
     ap (λ (m : ℕ). m / interval) (let e : n + 1 + (interval - 1) ≡ n + interval = omega arith in e) ∙ add-div_right n (omega arith)
 
 -- where the number is a multiple
-pub begun-at : (interval n : ℕ) → 1 ≤ interval → n % interval ≡ 0 → (begun interval n ≡ n / interval) × (n / interval * interval ≡ n)
-begun-at interval n some none =
+pub intervals_begun-at : (interval n : ℕ) → 1 ≤ interval → n % interval ≡ 0 → (intervals_begun interval n ≡ n / interval) × (n / interval * interval ≡ n)
+intervals_begun-at interval n some none =
     let q = n / interval in
     let whole : q * interval ≡ n = omega (arith, div-add-mod' n interval, none) in (
       ap (λ (m : ℕ). m / interval) (let e : n + (interval - 1) ≡ q * interval + (interval - 1) = omega (arith, whole) in e)
@@ -28,8 +28,8 @@ begun-at interval n some none =
     )
 
 -- and where it is not
-pub begun-inside : (interval n : ℕ) → 1 ≤ interval → (n % interval ≡ 0 → ⊥) → begun interval n ≡ n / interval + 1
-begun-inside interval n some more =
+pub intervals_begun-inside : (interval n : ℕ) → 1 ≤ interval → (n % interval ≡ 0 → ⊥) → intervals_begun interval n ≡ n / interval + 1
+intervals_begun-inside interval n some more =
     let q = n / interval in
     let r = n % interval in
     let low : r < interval = mod-lt n (omega arith) in
@@ -37,61 +37,61 @@ begun-inside interval n some more =
     ap (λ (m : ℕ). m / interval) split ∙ mul-add-div_right (omega arith) q ((r - 1) + interval)
     ∙ ap (λ (m : ℕ). q + m) (add-div_right (r - 1) (omega arith) ∙ ap (λ (m : ℕ). m + 1) (div-eq_of_lt (omega (arith, low)))) ∙ omega arith
 
--- an interval that has begun has its first term
-pub begun-first : (interval n i : ℕ) → 1 ≤ interval → i < begun interval n → i * interval < n
-begun-first interval n i some lt =
+-- an interval that has intervals_begun has its first term
+pub intervals_begun-first : (interval n i : ℕ) → 1 ≤ interval → i < intervals_begun interval n → i * interval < n
+intervals_begun-first interval n i some lt =
     let above : 0 < interval = omega arith in
     let whole : suc i * interval ≤ n + (interval - 1) = (le-div_iff_mul-le above).0 (omega arith) in
     omega (arith, whole, suc-mul i interval)
 
 -- ---- one term more
 
-pub point_after-push : (ts : List Term) (t : Term) (n : ℕ) → n ≤ length ts → point_after (ts ++ t ∷ []) n ≡ point_after ts n
+pub point_after-push : (ts : List DictionaryTerm) (t : DictionaryTerm) (n : ℕ) → n ≤ length ts → point_after (ts ++ t ∷ []) n ≡ point_after ts n
 point_after-push ts t zero le = refl
 point_after-push ts t (suc n) le = get_or_append_left ts (t ∷ []) no_term n (omega arith)
 
-start_of_term-push : (interval : ℕ) (ts : List Term) (t : Term) (n : ℕ) → n ≤ length ts → start_of_term interval (ts ++ t ∷ []) n ≡ start_of_term interval ts n
-start_of_term-push interval ts t n le = ap (λ (us : List Term). 24 + length (terms_bytes interval no_term us)) (take-append-le n ts (t ∷ []) le)
+start_of_term-push : (interval : ℕ) (ts : List DictionaryTerm) (t : DictionaryTerm) (n : ℕ) → n ≤ length ts → start_of_term interval (ts ++ t ∷ []) n ≡ start_of_term interval ts n
+start_of_term-push interval ts t n le = ap (λ (us : List DictionaryTerm). 24 + length (terms_bytes interval no_term us)) (take-append-le n ts (t ∷ []) le)
 
-abbrev pub point_of : Term → ℕ → Point
-point_of t place = record { term = t; place = place }
+abbrev pub index_point_of : DictionaryTerm → ℕ → TermPoint
+index_point_of t place = record { term = t; place = place }
 
-pub point_before-push : (index_interval interval : ℕ) (ts : List Term) (t : Term) (i : ℕ) → 1 ≤ index_interval → i ≤ begun index_interval (length ts) → point_before index_interval interval (ts ++ t ∷ []) i ≡ point_before index_interval interval ts i
+pub point_before-push : (index_interval interval : ℕ) (ts : List DictionaryTerm) (t : DictionaryTerm) (i : ℕ) → 1 ≤ index_interval → i ≤ intervals_begun index_interval (length ts) → point_before index_interval interval (ts ++ t ∷ []) i ≡ point_before index_interval interval ts i
 point_before-push index_interval interval ts t zero some le = refl
 point_before-push index_interval interval ts t (suc i) some le =
-    let inside : i * index_interval ≤ length ts = omega (arith, begun-first index_interval (length ts) i some (omega (arith, le))) in
-    ap (λ (x : Term). point_of x (start_of_term interval (ts ++ t ∷ []) (i * index_interval))) (point_after-push ts t (i * index_interval) inside)
-    ∙ ap (point_of (point_after ts (i * index_interval))) (start_of_term-push interval ts t (i * index_interval) inside)
+    let inside : i * index_interval ≤ length ts = omega (arith, intervals_begun-first index_interval (length ts) i some (omega (arith, le))) in
+    ap (λ (x : DictionaryTerm). index_point_of x (start_of_term interval (ts ++ t ∷ []) (i * index_interval))) (point_after-push ts t (i * index_interval) inside)
+    ∙ ap (index_point_of (point_after ts (i * index_interval))) (start_of_term-push interval ts t (i * index_interval) inside)
 
-pub points_bytes-push : (index_interval interval : ℕ) (ts : List Term) (t : Term) (i : ℕ) → 1 ≤ index_interval → i ≤ begun index_interval (length ts) → points_bytes index_interval interval (ts ++ t ∷ []) i ≡ points_bytes index_interval interval ts i
+pub points_bytes-push : (index_interval interval : ℕ) (ts : List DictionaryTerm) (t : DictionaryTerm) (i : ℕ) → 1 ≤ index_interval → i ≤ intervals_begun index_interval (length ts) → points_bytes index_interval interval (ts ++ t ∷ []) i ≡ points_bytes index_interval interval ts i
 points_bytes-push index_interval interval ts t zero some le = refl
 points_bytes-push index_interval interval ts t (suc i) some le =
     let us = ts ++ t ∷ [] in
     ap (λ (b : List ℕ). b ++ point_bytes interval (point_before index_interval interval us i) (point_before index_interval interval us (suc i))) (points_bytes-push index_interval interval ts t i some (omega (arith, le)))
-    ∙ ap (λ (p : Point). points_bytes index_interval interval ts i ++ point_bytes interval p (point_before index_interval interval us (suc i))) (point_before-push index_interval interval ts t i some (omega (arith, le)))
-    ∙ ap (λ (p : Point). points_bytes index_interval interval ts i ++ point_bytes interval (point_before index_interval interval ts i) p) (point_before-push index_interval interval ts t (suc i) some le)
+    ∙ ap (λ (p : TermPoint). points_bytes index_interval interval ts i ++ point_bytes interval p (point_before index_interval interval us (suc i))) (point_before-push index_interval interval ts t i some (omega (arith, le)))
+    ∙ ap (λ (p : TermPoint). points_bytes index_interval interval ts i ++ point_bytes interval (point_before index_interval interval ts i) p) (point_before-push index_interval interval ts t (suc i) some le)
 
-abbrev with_info : List ℕ → TermInfo → Term
+abbrev with_info : List ℕ → TermInfo → DictionaryTerm
 with_info text info = record { text = text; info = info }
 
 -- the last of so many terms is what the next entry stands for
-pub term_before-is : (ts : List Term) → term_before (length ts) (last_term ts) ≡ point_after ts (length ts)
+pub term_before-is : (ts : List DictionaryTerm) → term_before (length ts) (last_term ts) ≡ point_after ts (length ts)
 term_before-is [] = refl
 term_before-is (t ∷ ts) =
     ap (λ (k : ℕ). term_before (suc (length ts)) (get_or (t ∷ ts) k no_term)) (let e : length (t ∷ ts) - 1 ≡ length ts = omega arith in e) ∙ same (get_or (t ∷ ts) (length ts) no_term)
   where
-    same : (x : Term) → term_before (suc (length ts)) x ≡ x
+    same : (x : DictionaryTerm) → term_before (suc (length ts)) x ≡ x
     same x = let f : eqb (suc (length ts)) 0 ≡ false = ne_eqb _ _ (λ e. absurd (omega (arith, e))) in ap (λ (b : Bool). with_info x.text (if b then blank.info else x.info)) f
 
--- no more intervals have begun than there are terms
+-- no more intervals have intervals_begun than there are terms
 abbrev pub begun_by : ℕ → ℕ → ℕ
-begun_by n interval = begun interval n
+begun_by n interval = intervals_begun interval n
 
-pub begun-few : (interval n : ℕ) → 1 ≤ interval → begun interval n ≤ n
-begun-few interval n some = elim (cases_lt n (begun interval n)) [
+pub intervals_begun-few : (interval n : ℕ) → 1 ≤ interval → intervals_begun interval n ≤ n
+intervals_begun-few interval n some = elim (cases_lt n (intervals_begun interval n)) [
   | inl lt ↦ absurd (omega (arith, below lt))
   | inr le ↦ le
 ]
   where
-    below : n < begun interval n → n < n
-    below lt = let above : 0 < interval = omega (arith, some) in let first = begun-first interval n n some lt in omega (arith, first, le-mul_of_pos_right n above)
+    below : n < intervals_begun interval n → n < n
+    below lt = let above : 0 < interval = omega (arith, some) in let first = intervals_begun-first interval n n some lt in omega (arith, first, le-mul_of_pos_right n above)

@@ -17,12 +17,12 @@ use Rattle.lu_types.specs.Tables.{TableField}
 use Rattle.term_dict.specs.declared.heading.Heading.{Heading}
 use Rattle.lu_types.specs.declared.term.TermNumbers.{TermNumbers}
 use Rattle.term_dict.specs.Headings.{heading_conditions, header, numbers_of, heading, heading_of}
-use Rattle.term_dict.specs.Terms.{Term, no_term, last_term, term_after}
-use Rattle.term_dict.specs.Dictionary.{Dictionary, no_terms, within, place_conditions, against, term_conditions, term_kind, terms_plan, dictionary_plan, tis_plan}
-use Rattle.term_dict.specs.Canonical.{shared, entry_between, terms_bytes, entry_bytes, header_bytes, canonical_tis}
-use Rattle.term_dict.specs.Writing.{Written, numbers_written, Follows, IsSpellable, AreSpellable}
+use Rattle.term_dict.specs.Terms.{DictionaryTerm, no_term, last_term, term_after}
+use Rattle.term_dict.specs.Dictionary.{Dictionary, no_terms, within, term_place_conditions, against, term_conditions, term_kind, terms_plan, dictionary_plan, tis_plan}
+use Rattle.term_dict.specs.Canonical.{shared, entry_between, terms_bytes, term_record_bytes, header_bytes, canonical_tis}
+use Rattle.term_dict.specs.Writing.{TermsWritten, numbers_written, FollowsTerm, IsSpellable, AreSpellable}
 use Rattle.term_dict.specs.Laws.{IsReadable, dictionary_written}
-use Rattle.term_dict.proofs.ByteLemmas.{IsSmallEntry, entry_bytes-bytes, header_bytes-bytes, bytes-append}
+use Rattle.term_dict.proofs.ByteLemmas.{IsSmallEntry, term_record_bytes-bytes, header_bytes-bytes, bytes-append}
 use Rattle.term_dict.proofs.ConditionLemmas.{against-text, first_broken-after}
 use Rattle.term_dict.proofs.FileLemmas.{finish, dictionary_of}
 use Rattle.term_dict.proofs.WriteLemmas.{entry_at, spelled, spellable-at, last_after-last, entry_between-again, shared-within}
@@ -83,24 +83,24 @@ header-good numbers count c i s m =
 -- ---- the terms
 
 -- a term that can stand is good
-term-good : (fields : List TableField) (documents : ℕ) (w : Written) (k : ℕ) → IsReadable fields documents w → k < length w.terms → first_broken (term_conditions (within fields documents) (take k w.terms) (entry_at w.terms k)) ≡ None
+term-good : (fields : List TableField) (documents : ℕ) (w : TermsWritten) (k : ℕ) → IsReadable fields documents w → k < length w.terms → first_broken (term_conditions (within fields documents) (take k w.terms) (entry_at w.terms k)) ≡ None
 term-good fields documents w k h lt =
     let ts = w.terms in
     let before = last_term (take k ts) in
     let t = slice_index_or ts k no_term in
     let at = spellable-at w.skip_interval no_term ts k h.spellable lt in
-    let follows : Follows before.info t.info = subst (λ (b : Term). Follows b.info t.info) (last_after-last (take k ts)) at.follows in
+    let follows : FollowsTerm before.info t.info = subst (λ (b : DictionaryTerm). FollowsTerm b.info t.info) (last_after-last (take k ts)) at.follows in
     let e = entry_between before t in
     let again : term_after before e ≡ t = entry_between-again before t follows.freq follows.prox in
     let stands = h.stands k lt in
     let text = against-text (within fields documents) (take k ts) e t (shared-within before.text t.text).0 (is_utf8-from_IsUtf8 t.text at.here.text) in
     let f1 : leb (2 ^ 31) t.info.freq ≡ false = lt-leb _ _ stands.1 in
     let f2 : leb (2 ^ 31) t.info.prox ≡ false = lt-leb _ _ stands.2 in
-    let place : first_broken (place_conditions t) ≡ None = rw (f1, f2) refl in
-    ap (λ (x : Term). first_broken (against (within fields documents) (take k ts) e x)) again ∙ text ∙ first_broken-after (within fields documents (take k ts) t) (place_conditions t) stands.0 ∙ place
+    let place : first_broken (term_place_conditions t) ≡ None = rw (f1, f2) refl in
+    ap (λ (x : DictionaryTerm). first_broken (against (within fields documents) (take k ts) e x)) again ∙ text ∙ first_broken-after (within fields documents (take k ts) t) (term_place_conditions t) stands.0 ∙ place
 
 -- the bytes of terms
-small-entry : (interval : ℕ) (before t : Term) → IsSpellable interval t → Follows before.info t.info → IsSmallEntry (entry_between before t)
+small-entry : (interval : ℕ) (before t : DictionaryTerm) → IsSpellable interval t → FollowsTerm before.info t.info → IsSmallEntry (entry_between before t)
 small-entry interval before t here follows = record {
   prefix = omega (arith, (shared-within before.text t.text).1, here.small);
   count = omega (arith, length-drop (shared before.text t.text) t.text, here.small);
@@ -112,13 +112,13 @@ small-entry interval before t here follows = record {
   skip = omega (arith, follows.skip);
 }
 
-terms_bytes-bytes : (interval : ℕ) (before : Term) (ts : List Term) → AreSpellable interval before ts → IsBytes (terms_bytes interval before ts)
+terms_bytes-bytes : (interval : ℕ) (before : DictionaryTerm) (ts : List DictionaryTerm) → AreSpellable interval before ts → IsBytes (terms_bytes interval before ts)
 terms_bytes-bytes interval before [] h = λ i. omega arith
 terms_bytes-bytes interval before (t ∷ ts) h =
-    bytes-append (entry_bytes interval (entry_between before t) []) (terms_bytes interval t ts) (entry_bytes-bytes interval (entry_between before t) [] (small-entry interval before t h.0 h.1) (λ i. omega arith)) (terms_bytes-bytes interval t ts h.2)
+    bytes-append (term_record_bytes interval (entry_between before t) []) (terms_bytes interval t ts) (term_record_bytes-bytes interval (entry_between before t) [] (small-entry interval before t h.0 h.1) (λ i. omega arith)) (terms_bytes-bytes interval t ts h.2)
 
 -- the file of terms
-pub tis-reads : (fields : List TableField) (documents : ℕ) (w : Written) → IsReadable fields documents w
+pub tis-reads : (fields : List TableField) (documents : ℕ) (w : TermsWritten) → IsReadable fields documents w
     → Reads (tis_plan fields documents (length (canonical_tis (numbers_written w) w.terms))) (canonical_tis (numbers_written w) w.terms) (dictionary_written w)
 tis-reads fields documents w h =
     let ts = w.terms in
@@ -138,9 +138,9 @@ tis-reads fields documents w h =
     Writes-due header (λ place line. heading_conditions (heading_of line)) (λ place line. terms_plan standing size (numbers_of (heading_of line))) 0 (heading (heading_written numbers (length ts))) (header_bytes numbers (length ts)) (terms_bytes k no_term ts) v
     (header-spells numbers (length ts) (omega (arith, h.few)) h.intervals.index_interval.1 h.intervals.skip_interval.1 h.intervals.max_levels.1)
     (header-good numbers (length ts) h.few h.intervals.index_interval.0 h.intervals.skip_interval.0 h.intervals.max_levels.0) whole_body in
-    let value : v ≡ dictionary_written w = ap (λ (xs : List Term). made numbers xs s.starts size) (done_terms.terms ∙ all) ∙ ap (λ (ns : List ℕ). made numbers ts ns size) done_terms.starts in
+    let value : v ≡ dictionary_written w = ap (λ (xs : List DictionaryTerm). made numbers xs s.starts size) (done_terms.terms ∙ all) ∙ ap (λ (ns : List ℕ). made numbers ts ns size) done_terms.starts in
     let fits : IsBytes bytes = bytes-append (header_bytes numbers (length ts)) (terms_bytes k no_term ts) (header_bytes-bytes numbers (length ts)) (terms_bytes-bytes k no_term ts h.spellable) in
     Reads-from (dictionary_plan standing size) bytes (dictionary_written w) fits (read_file-Writes (dictionary_plan standing size) bytes v file ∙ ap (λ (d : Dictionary). Ok d) value)
   where
-    made : TermNumbers → List Term → List ℕ → ℕ → Dictionary
+    made : TermNumbers → List DictionaryTerm → List ℕ → ℕ → Dictionary
     made numbers terms starts size = record { numbers = numbers; terms = terms; starts = starts; size = size }

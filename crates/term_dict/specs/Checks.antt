@@ -10,8 +10,8 @@ use Rattle.lu_types.specs.declared.kind.FileKind.{FileKind}
 use Rattle.term_dict.specs.declared.heading.Heading.{Heading}
 use Rattle.lu_types.specs.declared.term.TermNumbers.{TermNumbers}
 use Rattle.term_dict.specs.Headings.{header, heading_conditions, numbers_of, Line, heading, entry, heading_of}
-use Rattle.term_dict.specs.Entries.{Entry}
-use Rattle.term_dict.specs.Terms.{Term, no_term, last_term, term_after}
+use Rattle.term_dict.specs.Entries.{TermRecord}
+use Rattle.term_dict.specs.Terms.{DictionaryTerm, no_term, last_term, term_after}
 use Rattle.term_dict.specs.Dictionary.{Standing, Progress, term_kind}
 
 -- the fault is that of a file of the kind which is read by the plan; want of memory may come at any time
@@ -41,14 +41,14 @@ pub record AreBounded (numbers : TermNumbers) : Type 0 where
 
 -- the numbers of a good header between two places, which are within their limits; or the rule is broken first
 abbrev pub IsHeader : Cursor → Cursor → Result TermNumbers ℕ → Type 0
-IsHeader old new (Ok numbers) = (h : Heading) × (record_at {R = Line Entry} header (λ line. heading_conditions (heading_of line)) old ≡ Ok (heading h, new)) × (numbers ≡ numbers_of h) × AreBounded numbers
-IsHeader old new (Err rule) = record_at {R = Line Entry} header (λ line. heading_conditions (heading_of line)) old ≡ Err rule
+IsHeader old new (Ok numbers) = (h : Heading) × (record_at {R = Line TermRecord} header (λ line. heading_conditions (heading_of line)) old ≡ Ok (heading h, new)) × (numbers ≡ numbers_of h) × AreBounded numbers
+IsHeader old new (Err rule) = record_at {R = Line TermRecord} header (λ line. heading_conditions (heading_of line)) old ≡ Err rule
 
 -- after these terms the entry of this last one stands between two places and is good; or the rule is broken first
-abbrev pub IsNext : Standing → ℕ → Progress → Cursor → Cursor → Term → Option ℕ → Type 0
-IsNext standing interval s old new last None = (e : Entry) × (record_of (term_kind standing interval) s old ≡ Ok (entry e, new)) × (last ≡ term_after (last_term s.terms) e)
-IsNext standing interval s old new last (Some rule) = record_of (term_kind standing interval) s old ≡ Err rule
+abbrev pub IsNextTerm : Standing → ℕ → Progress → Cursor → Cursor → DictionaryTerm → Option ℕ → Type 0
+IsNextTerm standing interval s old new last None = (e : TermRecord) × (record_of (term_kind standing interval) s old ≡ Ok (entry e, new)) × (last ≡ term_after (last_term s.terms) e)
+IsNextTerm standing interval s old new last (Some rule) = record_of (term_kind standing interval) s old ≡ Err rule
 
 -- no text is longer
-abbrev pub AreWithin : ℕ → List Term → Type 0
+abbrev pub AreWithin : ℕ → List DictionaryTerm → Type 0
 AreWithin longest terms = (i : ℕ) → length (slice_index_or terms i no_term).text ≤ longest

@@ -8,7 +8,7 @@ use Rattle.lu_grammar.specs.Records.{Shape, whole, part, followed, optional, rea
 use Rattle.term_dict.specs.declared.entry.TermEntry.{TermEntry}
 
 -- what the record says
-pub record Entry : Type 0 where
+pub record TermRecord : Type 0 where
   pub prefix : ℕ
   pub suffix : List ℕ
   pub field : ℕ
@@ -23,15 +23,15 @@ field_number true = part vint (λ n. whole n)
 field_number false = part num (λ n. whole n)
 
 -- its parts, given whether any number of a field may stand, and the interval of skip data: SkipDelta stands exactly where DocFreq reaches the interval
-abbrev pub entry_shape : Bool → ℕ → Shape Entry
+abbrev pub entry_shape : Bool → ℕ → Shape TermRecord
 entry_shape any interval =
     part num (λ prefix. part num (λ count. part (bytes count) (λ suffix. followed (field_number any) (λ field. part num (λ doc_freq. part vlong (λ freq. part vlong (λ prox.
     optional (nat_le interval doc_freq) (part num (λ n. whole n)) (λ skip.
     whole (record { prefix = prefix; suffix = suffix; field = field; doc_freq = doc_freq; freq = freq; prox = prox; skip = unwrap_or skip 0 })))))))))
 
 -- what an entry of the program says
-abbrev pub entry_of : TermEntry → Entry
-entry_of e = record { prefix = e.prefix; suffix = e.suffix.now; field = e.field; doc_freq = e.doc_freq; freq = e.freq; prox = e.prox; skip = e.skip }
+abbrev pub term_record_of : TermEntry → TermRecord
+term_record_of e = record { prefix = e.prefix; suffix = e.suffix.now; field = e.field; doc_freq = e.doc_freq; freq = e.freq; prox = e.prox; skip = e.skip }
 
 -- the numbers of an entry are within their limits
 pub record IsBounded (e : TermEntry) : Type 0 where
@@ -40,8 +40,3 @@ pub record IsBounded (e : TermEntry) : Type 0 where
   pub freq : e.freq < 2 ^ 63
   pub prox : e.prox < 2 ^ 63
   pub skip : e.skip < 2 ^ 31
-
--- the value, seen as the record, stood at the old place and the new one is behind it; or its first part without a spelling is wrong so
-abbrev pub TakesShape : {X R : Type 0} → Shape R → (X → R) → Cursor → Cursor → Result X Bad → Type 0
-TakesShape shape view old new (Ok x) = read_shape shape old ≡ Ok (view x, new)
-TakesShape shape view old new (Err bad) = read_shape shape old ≡ Err bad

@@ -10,34 +10,34 @@ use Rattle.lu_types.specs.RuleNumbers as number
 use Rattle.term_dict.specs.declared.heading.Heading.{Heading}
 use Rattle.lu_types.specs.declared.term.TermNumbers.{TermNumbers}
 use Rattle.term_dict.specs.Headings.{header, is_other_format, Line, entry, heading_of, on_entry}
-use Rattle.term_dict.specs.Entries.{Entry, entry_shape}
-use Rattle.term_dict.specs.Terms.{Term, no_term, term_after}
+use Rattle.term_dict.specs.Entries.{TermRecord, entry_shape}
+use Rattle.term_dict.specs.Terms.{DictionaryTerm, no_term, term_after}
 use Rattle.term_dict.specs.Dictionary.{Dictionary}
 
 -- the record of an entry: a term, and how far the place is above that of the entry before
 pub record IndexEntry : Type 0 where
-  pub term : Entry
+  pub term : TermRecord
   pub step : ℕ
 
 -- its parts
 abbrev pub index_shape : ℕ → Shape IndexEntry
 index_shape interval = followed (entry_shape true interval) (λ e. part vlong (λ step. whole (record { term = e; step = step })))
 
--- how many entries there are: one for each interval of terms that has begun
+-- how many entries there are: one for each interval of terms that has intervals_begun
 abbrev pub entry_count : TermNumbers → ℕ
 entry_count numbers = (numbers.count + (numbers.index_interval - 1)) / numbers.index_interval
 
 -- what entry 0 stands for: no text, field -1, no document, and both places 0
-abbrev pub blank : Term
+abbrev pub blank : DictionaryTerm
 blank = record { text = []; info = record { field = 4294967295; doc_freq = 0; freq = 0; prox = 0; skip = 0 } }
 
 -- the last of so many terms, and of none the blank one
-abbrev pub point_after : List Term → ℕ → Term
+abbrev pub point_after : List DictionaryTerm → ℕ → DictionaryTerm
 point_after terms zero = blank
 point_after terms (suc n) = slice_index_or terms n no_term
 
 -- what an entry stands for: the term before each interval of terms begins
-abbrev pub indexed_term : Dictionary → ℕ → Term
+abbrev pub indexed_term : Dictionary → ℕ → DictionaryTerm
 indexed_term d i = point_after d.terms (i * d.numbers.index_interval)
 
 -- where this interval of terms starts
@@ -48,13 +48,13 @@ indexed_place d i = slice_index d.starts (i * d.numbers.index_interval)
 abbrev pub same_info : TermInfo → TermInfo → Bool
 same_info a b = a.field == b.field && a.doc_freq == b.doc_freq && a.freq == b.freq && a.prox == b.prox && a.skip == b.skip
 
-abbrev pub same_term : Term → Term → Bool
+abbrev pub same_term : DictionaryTerm → DictionaryTerm → Bool
 same_term a b = bytes_eq a.text b.text && same_info a.info b.info
 
 -- how many entries were passed, the term of the last, and its place
 pub record IndexProgress : Type 0 where
   pub passed : ℕ
-  pub last : Term
+  pub last : DictionaryTerm
   pub place : ℕ
 
 -- before the first entry
@@ -78,7 +78,7 @@ index_heading_conditions numbers h =
     []
 
 -- the conditions against an entry after this last term and place, which is to stand for the wanted term and place
-abbrev pub index_against : Term → ℕ → IndexEntry → Term → ℕ → List Condition
+abbrev pub index_against : DictionaryTerm → ℕ → IndexEntry → DictionaryTerm → ℕ → List Condition
 index_against last place e wanted wanted_place =
     record { rule = number.tii_prefix; broken = nat_lt (length last.text) e.term.prefix } ∷
     record { rule = number.tii_term; broken = not (same_term (term_after last e.term) wanted) } ∷

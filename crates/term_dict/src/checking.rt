@@ -4,8 +4,8 @@ ghost use Rattle.lu_grammar.specs.Plans.{read_plan, times, read_file};
 ghost use Rattle.lu_types.specs.declared.kind.FileKind.TheVariants.{Tis};
 ghost use Rattle.term_dict.specs.Terms.{last_term, no_term};
 ghost use Rattle.term_dict.specs.Dictionary.{Dictionary, Progress, within, term_kind, no_terms, tis_plan};
-ghost use Rattle.term_dict.specs.Last.{term_of, IsSound};
-ghost use Rattle.term_dict.specs.Checks.{IsHeader, IsNext, AreBounded, AreWithin, IsBrokenSo, broken_so};
+ghost use Rattle.term_dict.specs.Last.{term_of_last, IsSoundTerm};
+ghost use Rattle.term_dict.specs.Checks.{IsHeader, IsNextTerm, AreBounded, AreWithin, IsBrokenSo, broken_so};
 
 use crate::entry::entry_at;
 use crate::heading::{heading_at, numbers_of};
@@ -35,10 +35,10 @@ fn next_term(
     fields: &FieldTable<'_>,
     documents: u32,
 ) -> Result<Option<u16>, OutOfMemory>
-    requires { IsSound (term_of last.old) }
-    ensures next { (s : Progress) → last_term s.terms ≡ term_of last.old → first ≡ (length s.terms == 0)
-        → IfOk result (IsNext (within fields.now documents) skip_interval s cur.old cur.new (term_of last.new)) }
-    ensures sound { IfOk result (λ rule. rule ≡ None → IsSound (term_of last.new)) }
+    requires { IsSoundTerm (term_of_last last.old) }
+    ensures next { (s : Progress) → last_term s.terms ≡ term_of_last last.old → first ≡ (length s.terms == 0)
+        → IfOk result (IsNextTerm (within fields.now documents) skip_interval s cur.old cur.new (term_of_last last.new)) }
+    ensures sound { IfOk result (λ rule. rule ≡ None → IsSoundTerm (term_of_last last.new)) }
 {
     match entry_at(cur, false, skip_interval) {
         Err(bad) => Ok(Some(rule_of(bad))),
@@ -66,7 +66,7 @@ fn check_terms(
     fields: &FieldTable<'_>,
     documents: u32,
 ) -> Result<usize, CodecFault>
-    requires { term_of last.old ≡ no_term }
+    requires { term_of_last last.old ≡ no_term }
     ensures ok { IfOk result (λ longest. (s : Progress)
         × (read_plan (times (term_kind (within fields.now documents) numbers.now.skip_interval) numbers.now.count no_terms) cur.old ≡ Ok (s, cur.new))
         × AreWithin longest s.terms) }

@@ -1,9 +1,9 @@
 //! A walk over the terms of a file (format page, "Terms").
 ghost use Rattle.std.specs.Prelude.{◌≡◌, ℕ, ◌+◌, ◌<◌, ◌≤◌, length, IfOk, IfSome, is_some, if◌then◌else◌, slice_get, option_map, vec_capacity};
-ghost use Rattle.term_dict.specs.Terms.{Term, term_after};
+ghost use Rattle.term_dict.specs.Terms.{DictionaryTerm, term_after};
 ghost use Rattle.term_dict.specs.Dictionary.{Dictionary};
-ghost use Rattle.term_dict.specs.Content.{content, IsRead};
-ghost use Rattle.term_dict.specs.Walk.{Walk, walk_of, walk_to, term_passed, next_place, passed_on};
+ghost use Rattle.term_dict.specs.Content.{dictionary_in, IsRead};
+ghost use Rattle.term_dict.specs.Walk.{TermWalk, walk_of, walk_to, term_passed, next_place, passed_on};
 ghost use Rattle.term_dict.specs.Shared.{next_after};
 
 use crate::entry::entry_at;
@@ -37,15 +37,15 @@ pub struct TermCursor<'a> {
 
 impl<'a> Model for TermCursor<'a> {
     ghost use Rattle.std.specs.Prelude.{vec_capacity};
-    ghost use Rattle.term_dict.specs.Content.{content, IsRead};
-    ghost use Rattle.term_dict.specs.Last.{term_of};
-    ghost use Rattle.term_dict.specs.Walk.{Walk, IsAt, walk_in};
+    ghost use Rattle.term_dict.specs.Content.{dictionary_in, IsRead};
+    ghost use Rattle.term_dict.specs.Last.{term_of_last};
+    ghost use Rattle.term_dict.specs.Walk.{TermWalk, IsAt, walk_in};
 
-    ghost Value = { Walk };
+    ghost Value = { TermWalk };
 
     ghost view = { λ c. walk_in c.tis.now c.passed };
 
-    ghost invariant = { λ c. IsRead c.tis.now c.numbers (vec_capacity c.last.text) × IsAt c.tis.now c.numbers c.passed c.place (term_of c.last) };
+    ghost invariant = { λ c. IsRead c.tis.now c.numbers (vec_capacity c.last.text) × IsAt c.tis.now c.numbers c.passed c.place (term_of_last c.last) };
 }
 
 impl<'a> TermCursor<'a> {
@@ -57,7 +57,7 @@ impl<'a> TermCursor<'a> {
         longest: usize,
     ) -> Result<TermCursor<'a>, OutOfMemory>
         requires { IsRead tis.now numbers longest }
-        ensures { IfOk result (λ cursor. cursor ≡ walk_of (content tis.entry.now)) }
+        ensures { IfOk result (λ cursor. cursor ≡ walk_of (dictionary_in tis.entry.now)) }
     {
         Ok(TermCursor {
             tis,

@@ -1,5 +1,7 @@
 ghost use Rattle.std.specs.Prelude.{IfOk};
-ghost use Rattle.term_dict.specs.Entries.{entry_shape, entry_of, IsBounded, TakesShape};
+ghost use Rattle.lu_grammar.specs.Answers.{Gives};
+ghost use Rattle.lu_grammar.specs.Records.{read_shape};
+ghost use Rattle.term_dict.specs.Entries.{entry_shape, term_record_of, IsBounded};
 
 use lu_prims::{Bad, Cur};
 
@@ -24,7 +26,7 @@ pub fn entry_at<'a>(
     any_field: bool,
     skip_interval: u32,
 ) -> Result<TermEntry<'a>, Bad>
-    ensures takes { TakesShape (entry_shape any_field skip_interval) entry_of cur.old cur.new result }
+    ensures takes { Gives term_record_of (read_shape (entry_shape any_field skip_interval) cur.old) cur.new result }
     ensures bounded { IfOk result IsBounded }
 {
     let prefix = cur.num()?;

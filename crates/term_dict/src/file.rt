@@ -24,11 +24,11 @@ pub struct TermFile<'a> {
 
 impl<'a> Model for TermFile<'a> {
     ghost use Rattle.term_dict.specs.Dictionary.{Dictionary};
-    ghost use Rattle.term_dict.specs.Content.{content, IsRead};
+    ghost use Rattle.term_dict.specs.Content.{dictionary_in, IsRead};
 
     ghost Value = { Dictionary };
 
-    ghost view = { λ f. content f.tis.now };
+    ghost view = { λ f. dictionary_in f.tis.now };
 
     ghost invariant = { λ f. IsRead f.tis.now f.numbers f.longest };
 }

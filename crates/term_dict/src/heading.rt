@@ -1,7 +1,7 @@
 ghost use Rattle.std.specs.Prelude.{◌≡◌, MatchResult, Some, None};
-ghost use Rattle.lu_grammar.specs.Records.{first_broken};
+ghost use Rattle.lu_grammar.specs.Answers.{Gives};
+ghost use Rattle.lu_grammar.specs.Records.{first_broken, read_shape};
 ghost use Rattle.term_dict.specs.Headings.{heading_shape, heading_conditions, numbers_of};
-ghost use Rattle.term_dict.specs.Entries.{TakesShape};
 ghost use Rattle.term_dict.specs.Checks.{AreBounded, IsHeader};
 
 use lu_prims::{Bad, Cur};
@@ -26,7 +26,7 @@ pub struct Heading {
 
 /// The header that stands at the cursor, which moves behind it; or what is wrong with its first part that has no spelling.
 pub fn heading_at(cur: &mut Cur<'_>) -> Result<Heading, Bad>
-    ensures { TakesShape heading_shape (λ h. h) cur.old cur.new result }
+    ensures { Gives (λ h. h) (read_shape heading_shape cur.old) cur.new result }
 {
     let format = cur.i32()?;
     let count = cur.i64()?;

@@ -3,10 +3,10 @@ ghost use Rattle.std.specs.Prelude.{◌≡◌, ◌+◌, ◌^◌, ◌<◌, ◌≤
 ghost use Rattle.std.specs.Str.{IsUtf8, is_utf8};
 ghost use Rattle.lu_grammar.specs.Records.{first_broken};
 ghost use Rattle.term_dict.specs.Canonical.{shared};
-ghost use Rattle.term_dict.specs.Entries.{entry_of, IsBounded};
-ghost use Rattle.term_dict.specs.Terms.{Term, no_term, last_term, term_after, is_above};
-ghost use Rattle.term_dict.specs.Dictionary.{within, place_conditions, term_conditions};
-ghost use Rattle.term_dict.specs.Last.{term_of, IsSound, Fits};
+ghost use Rattle.term_dict.specs.Entries.{term_record_of, IsBounded};
+ghost use Rattle.term_dict.specs.Terms.{DictionaryTerm, no_term, last_term, term_after, is_above};
+ghost use Rattle.term_dict.specs.Dictionary.{within, term_place_conditions, term_conditions};
+ghost use Rattle.term_dict.specs.Last.{term_of_last, IsSoundTerm, Fits};
 
 use crate::entry::TermEntry;
 use crate::order::{is_indexed, names_cmp, tail_cmp};
@@ -84,7 +84,7 @@ pub(crate) fn place_after(before: u32, step: u64) -> Option<u32>
 impl LastTerm {
     /// What the first term follows: no text, and both places 0. Takes no memory.
     pub(crate) fn new(alloc: Global) -> LastTerm
-        ensures { term_of result ≡ no_term }
+        ensures { term_of_last result ≡ no_term }
     {
         LastTerm {
             text: Vec::new(alloc),
@@ -94,7 +94,7 @@ impl LastTerm {
 
     /// The same, with room for texts of so many bytes.
     pub(crate) fn with_room(alloc: Global, longest: usize) -> Result<LastTerm, OutOfMemory>
-        ensures term { IfOk result (λ last. term_of last ≡ no_term) }
+        ensures term { IfOk result (λ last. term_of_last last ≡ no_term) }
         ensures room { IfOk result (λ last. longest ≤ vec_capacity last.text) }
     {
         let mut last = LastTerm::new(alloc);
@@ -104,7 +104,7 @@ impl LastTerm {
 
     /// Makes it what the first term follows, and keeps the room.
     pub(crate) fn reset(&mut self)
-        ensures term { term_of self.new ≡ no_term }
+        ensures term { term_of_last self.new ≡ no_term }
         ensures room { vec_capacity self.old.text ≤ vec_capacity self.new.text }
     {
         self.text.clear();
@@ -113,7 +113,7 @@ impl LastTerm {
 
     /// Makes room for a text of so many bytes. The term stays.
     pub(crate) fn make_room(&mut self, length: usize) -> Result<(), OutOfMemory>
-        ensures term { term_of self.new ≡ term_of self.old }
+        ensures term { term_of_last self.new ≡ term_of_last self.old }
         ensures room { OnOk result (length ≤ vec_capacity self.new.text) }
     {
         self.text.reserve(length)?;
@@ -123,7 +123,7 @@ impl LastTerm {
     /// Makes it the term with this text, for which there is room, and of which this is said.
     pub(crate) fn set(&mut self, text: &[u8], info: &TermInfo)
         requires { length text.now ≤ vec_capacity self.old.text }
-        ensures term { term_of self.new ≡ record { text = text.now; info = info.now } }
+        ensures term { term_of_last self.new ≡ record { text = text.now; info = info.now } }
         ensures room { vec_capacity self.old.text ≤ vec_capacity self.new.text }
     {
         if follow(&mut self.text, 0, text).is_err() {
@@ -135,7 +135,7 @@ impl LastTerm {
     /// How many bytes the text of an entry that is good after the term begins with, which this text begins with too.
     pub(crate) fn shared_with(&self, entry: &TermEntry<'_>) -> usize
         requires { entry.now.prefix ≤ length self.now.text.items }
-        ensures { result ≡ shared (term_of self.now).text (term_after (term_of self.now) (entry_of entry.now)).text }
+        ensures { result ≡ shared (term_of_last self.now).text (term_after (term_of_last self.now) (term_record_of entry.now)).text }
     {
         let kept = entry.prefix as usize;
         kept + shared_len(self.text.as_slice().split_at(kept).1, entry.suffix)
@@ -143,9 +143,9 @@ impl LastTerm {
 
     /// Makes the term that of an entry which is good after it, where there is room for the text.
     pub(crate) fn advance(&mut self, entry: &TermEntry<'_>)
-        requires fits { Fits (term_of self.old) (entry_of entry.now) }
+        requires fits { Fits (term_of_last self.old) (term_record_of entry.now) }
         requires room { entry.now.prefix + length entry.now.suffix.now ≤ vec_capacity self.old.text }
-        ensures term { term_of self.new ≡ term_after (term_of self.old) (entry_of entry.now) }
+        ensures term { term_of_last self.new ≡ term_after (term_of_last self.old) (term_record_of entry.now) }
         ensures room { vec_capacity self.old.text ≤ vec_capacity self.new.text }
     {
         if follow(&mut self.text, entry.prefix as usize, entry.suffix).is_err() {
@@ -164,9 +164,9 @@ impl LastTerm {
     fn is_below(&self, entry: &TermEntry<'_>, first: bool, fields: &FieldTable<'_>) -> bool
         requires prefix { entry.now.prefix ≤ length self.now.text.items }
         requires text { IsUtf8 self.now.text.items }
-        ensures { (before : List Term) → last_term before ≡ term_of self.now → first ≡ (length before == 0)
+        ensures { (before : List DictionaryTerm) → last_term before ≡ term_of_last self.now → first ≡ (length before == 0)
             → IsUtf8 (take entry.now.prefix self.now.text.items ++ entry.now.suffix.now)
-            → result ≡ is_above fields.now before (term_after (term_of self.now) (entry_of entry.now)) }
+            → result ≡ is_above fields.now before (term_after (term_of_last self.now) (term_record_of entry.now)) }
     {
         if first {
             return true;
@@ -197,8 +197,8 @@ impl LastTerm {
         requires prox { self.old.info.prox < 2 ^ 31 }
         requires bounded { IsBounded entry.now }
         ensures text { self.new.text ≡ self.old.text }
-        ensures rule { result ≡ first_broken (place_conditions (term_after (term_of self.old) (entry_of entry.now))) }
-        ensures good { result ≡ None → (self.new.info ≡ (term_after (term_of self.old) (entry_of entry.now)).info)
+        ensures rule { result ≡ first_broken (term_place_conditions (term_after (term_of_last self.old) (term_record_of entry.now))) }
+        ensures good { result ≡ None → (self.new.info ≡ (term_after (term_of_last self.old) (term_record_of entry.now)).info)
             × (self.new.info.freq < 2 ^ 31) × (self.new.info.prox < 2 ^ 31) }
     {
         let Some(freq) = place_after(self.info.freq, entry.freq) else {
@@ -226,11 +226,11 @@ impl LastTerm {
         fields: &FieldTable<'_>,
         documents: u32,
     ) -> Result<Option<u16>, OutOfMemory>
-        requires sound { IsSound (term_of self.old) }
+        requires sound { IsSoundTerm (term_of_last self.old) }
         requires bounded { IsBounded entry.now }
-        ensures rule { (before : List Term) → last_term before ≡ term_of self.old → first ≡ (length before == 0)
-            → IfOk result (λ rule. rule ≡ first_broken (term_conditions (within fields.now documents) before (entry_of entry.now))) }
-        ensures good { IfOk result (λ rule. rule ≡ None → (term_of self.new ≡ term_after (term_of self.old) (entry_of entry.now)) × IsSound (term_of self.new)) }
+        ensures rule { (before : List DictionaryTerm) → last_term before ≡ term_of_last self.old → first ≡ (length before == 0)
+            → IfOk result (λ rule. rule ≡ first_broken (term_conditions (within fields.now documents) before (term_record_of entry.now))) }
+        ensures good { IfOk result (λ rule. rule ≡ None → (term_of_last self.new ≡ term_after (term_of_last self.old) (term_record_of entry.now)) × IsSoundTerm (term_of_last self.new)) }
     {
         if entry.prefix as usize > self.text.len() {
             return Ok(Some(TERM_PREFIX));
@@ -254,7 +254,7 @@ fn standing_rule(
     fields: &FieldTable<'_>,
     documents: u32,
 ) -> Option<u16>
-    ensures { (before : List Term) (t : Term) → t.info.field ≡ entry.now.field → t.info.doc_freq ≡ entry.now.doc_freq
+    ensures { (before : List DictionaryTerm) (t : DictionaryTerm) → t.info.field ≡ entry.now.field → t.info.doc_freq ≡ entry.now.doc_freq
         → above ≡ is_above fields.now before t → result ≡ first_broken (within fields.now documents before t) }
 {
     if !is_indexed(fields, entry.field) {

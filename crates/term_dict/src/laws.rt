@@ -6,18 +6,18 @@ ghost use Rattle.term_dict.specs.Dictionary.{Dictionary, tis_plan};
 ghost use Rattle.term_dict.specs.Facts.{AreGoodTerms};
 ghost use Rattle.term_dict.specs.Index.{tii_plan};
 ghost use Rattle.term_dict.specs.Canonical.{canonical_tis, canonical_tii};
-ghost use Rattle.term_dict.specs.Writing.{Written, numbers_written};
+ghost use Rattle.term_dict.specs.Writing.{TermsWritten, numbers_written};
 ghost use Rattle.term_dict.specs.Laws.{IsReadable, IsIndexable, dictionary_written};
 
 /// The file that a writer gives for some terms is read as exactly these terms, in each segment in which they can stand.
 pub fn written_is_read()
-    ensures { (fields : List TableField) (documents : ℕ) (w : Written) → IsReadable fields documents w
+    ensures { (fields : List TableField) (documents : ℕ) (w : TermsWritten) → IsReadable fields documents w
         → Reads (tis_plan fields documents (length (canonical_tis (numbers_written w) w.terms))) (canonical_tis (numbers_written w) w.terms) (dictionary_written w) }
 {}
 
 /// The index that a writer gives for some terms is read as the index of these terms.
 pub fn written_index_is_read()
-    ensures { (w : Written) → IsIndexable w → Reads (tii_plan (dictionary_written w)) (canonical_tii (numbers_written w) w.terms) tt }
+    ensures { (w : TermsWritten) → IsIndexable w → Reads (tii_plan (dictionary_written w)) (canonical_tii (numbers_written w) w.terms) tt }
 {}
 
 /// Every term of a file that was read in a segment is good there: its field is one of the segment's and indexed, its text is

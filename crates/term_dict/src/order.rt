@@ -5,6 +5,7 @@ ghost use Rattle.term_dict.specs.Terms.{bytes_cmp, field_of, is_indexed};
 
 use lu_prims::utf16_cmp;
 use lu_types::FieldTable;
+use lu_types::bits::{INDEXED, has_bit};
 use std::cmp::Ordering;
 
 /// Where a byte of UTF-8 stands in the order of UTF-16 units: the lead bytes EE and EF, of U+E000 to U+FFFF, come after all
@@ -58,7 +59,7 @@ pub(crate) fn is_indexed(fields: &FieldTable<'_>, number: u32) -> bool
     ensures { result ≡ is_indexed fields.now number }
 {
     match fields.field(number) {
-        Some(field) => field.bits % 2 == 1,
+        Some(field) => has_bit(INDEXED, field.bits),
         None => false,
     }
 }

@@ -1,9 +1,9 @@
 //! The records of terms, appended to a file (format page, "Terms").
 ghost use Rattle.std.specs.Prelude.{◌≡◌, ◌++◌, ◌<◌, ◌≤◌, ◌^◌, [], length, take, OnOk, OnErr, vec_len};
-ghost use Rattle.term_dict.specs.Canonical.{shared, entry_between, entry_bytes, skip_bytes, header_bytes};
-ghost use Rattle.term_dict.specs.Entries.{entry_of, IsBounded};
-ghost use Rattle.term_dict.specs.Last.{term_of};
-ghost use Rattle.term_dict.specs.Writing.{Follows};
+ghost use Rattle.term_dict.specs.Canonical.{shared, entry_between, term_record_bytes, skip_delta_bytes, header_bytes};
+ghost use Rattle.term_dict.specs.Entries.{term_record_of, IsBounded};
+ghost use Rattle.term_dict.specs.Last.{term_of_last};
+ghost use Rattle.term_dict.specs.Writing.{FollowsTerm};
 
 use crate::entry::TermEntry;
 use crate::last::LastTerm;
@@ -27,9 +27,9 @@ pub(crate) fn shared_len(a: &[u8], b: &[u8]) -> usize
 
 /// The entry of a term after the last one, whose places are not above its own.
 pub(crate) fn entry_between<'a>(last: &LastTerm, text: &'a [u8], info: &TermInfo) -> TermEntry<'a>
-    requires follows { Follows last.now.info info.now }
+    requires follows { FollowsTerm last.now.info info.now }
     requires small { length text.now < 2 ^ 31 }
-    ensures entry { entry_of result ≡ entry_between (term_of last.now) (record { text = text.entry.now; info = info.now }) }
+    ensures entry { term_record_of result ≡ entry_between (term_of_last last.now) (record { text = text.entry.now; info = info.now }) }
     ensures bounded { IsBounded result × (length result.suffix.now < 2 ^ 31) }
     ensures places { (info.now.freq < 2 ^ 32) × (info.now.prox < 2 ^ 32) }
 {
@@ -53,7 +53,7 @@ pub(crate) fn push_entry(
 ) -> Result<(), OutOfMemory>
     requires bounded { IsBounded entry.now }
     requires small { length entry.now.suffix.now < 2 ^ 31 }
-    ensures ok { OnOk result (out.new.items ≡ out.old.items ++ entry_bytes skip_interval (entry_of entry.now) []) }
+    ensures ok { OnOk result (out.new.items ≡ out.old.items ++ term_record_bytes skip_interval (term_record_of entry.now) []) }
     ensures err { OnErr result (take (vec_len out.old) out.new.items ≡ out.old.items) }
 {
     put_vint(out, entry.prefix)?;
@@ -73,7 +73,7 @@ fn push_skip(
     entry: &TermEntry<'_>,
     skip_interval: u32,
 ) -> Result<(), OutOfMemory>
-    ensures ok { OnOk result (out.new.items ≡ out.old.items ++ skip_bytes skip_interval (entry_of entry.now)) }
+    ensures ok { OnOk result (out.new.items ≡ out.old.items ++ skip_delta_bytes skip_interval (term_record_of entry.now)) }
     ensures err { OnErr result (out.new.items ≡ out.old.items) }
 {
     if entry.doc_freq >= skip_interval {

@@ -1,11 +1,11 @@
 //! A writer of terms and of their index (format page, "Terms" and "Term index").
 ghost use Rattle.std.specs.Prelude.{pos, ◌≡◌, ℕ, ◌+◌, ◌-◌, ◌%◌, ◌++◌, ◌<◌, ◌≤◌, ◌^◌, [], ◌∷◌, length, take, drop, OnOk, OnErr, IfOk, vec_len, vec_capacity};
 ghost use Rattle.lu_grammar.specs.Parts.{spelling, vlong as a_vlong};
-ghost use Rattle.term_dict.specs.Canonical.{Point, entry_between, entry_bytes, point_bytes, canonical_tis, canonical_tii, header_bytes};
-ghost use Rattle.term_dict.specs.Entries.{entry_of, IsBounded};
-ghost use Rattle.term_dict.specs.Last.{term_of};
+ghost use Rattle.term_dict.specs.Canonical.{TermPoint, entry_between, term_record_bytes, point_bytes, canonical_tis, canonical_tii, header_bytes};
+ghost use Rattle.term_dict.specs.Entries.{term_record_of, IsBounded};
+ghost use Rattle.term_dict.specs.Last.{term_of_last};
 ghost use Rattle.term_dict.specs.Terms.{no_term, last_term};
-ghost use Rattle.term_dict.specs.Writing.{Written, Follows, IsSame, IsEntered, IsPassed, AreIntervals, AreSpellable, no_terms_written, with_written, last_point, numbers_written, numbers_of};
+ghost use Rattle.term_dict.specs.Writing.{TermsWritten, FollowsTerm, IsSame, IsEntered, IsPassed, AreIntervals, AreSpellable, no_terms_written, with_written, last_point, numbers_written, numbers_of};
 ghost use Rattle.term_dict.specs.Index.{blank};
 
 use crate::cursor::HEADER_BYTES;
@@ -43,8 +43,8 @@ fn append_term(
     skip_interval: u32,
 ) -> Result<(), OutOfMemory>
     requires small { length text.now < 2 ^ 31 }
-    requires follows { Follows last.now.info info.now }
-    ensures ok { OnOk result (out.new.items ≡ out.old.items ++ entry_bytes skip_interval (entry_between (term_of last.now) (record { text = text.now; info = info.now })) []) }
+    requires follows { FollowsTerm last.now.info info.now }
+    ensures ok { OnOk result (out.new.items ≡ out.old.items ++ term_record_bytes skip_interval (entry_between (term_of_last last.now) (record { text = text.now; info = info.now })) []) }
     ensures err { OnErr result (out.new.items ≡ out.old.items) }
     ensures places { (info.now.freq < 2 ^ 32) × (info.now.prox < 2 ^ 32) }
 {
@@ -68,9 +68,9 @@ fn append_point(
     step: u64,
 ) -> Result<(), OutOfMemory>
     requires small { length text.now < 2 ^ 31 }
-    requires follows { Follows last.now.info info.now }
+    requires follows { FollowsTerm last.now.info info.now }
     requires step { step < 2 ^ 63 }
-    ensures ok { OnOk result (out.new.items ≡ out.old.items ++ entry_bytes skip_interval (entry_between (term_of last.now) (record { text = text.now; info = info.now })) (spelling a_vlong step)) }
+    ensures ok { OnOk result (out.new.items ≡ out.old.items ++ term_record_bytes skip_interval (entry_between (term_of_last last.now) (record { text = text.now; info = info.now })) (spelling a_vlong step)) }
     ensures err { OnErr result (out.new.items ≡ out.old.items) }
 {
     let before = out.len();
@@ -92,7 +92,7 @@ impl IndexOutput {
         skip_interval: u32,
     ) -> Result<(), OutOfMemory>
         requires small { length text.now < 2 ^ 31 }
-        requires follows { Follows self.old.point.info info.now }
+        requires follows { FollowsTerm self.old.point.info info.now }
         requires above { self.old.place ≤ place }
         requires place { place < 2 ^ 63 }
         ensures ok { OnOk result (IsEntered skip_interval self.old self.new (record { term = record { text = text.now; info = info.now }; place = place })) }
@@ -124,11 +124,11 @@ impl IndexOutput {
     ) -> Result<(), OutOfMemory>
         requires interval { 1 ≤ index_interval }
         requires small { length last.now.text.items < 2 ^ 31 }
-        requires first { number ≡ 0 → Follows self.old.point.info blank.info }
-        requires later { Follows self.old.point.info last.now.info }
+        requires first { number ≡ 0 → FollowsTerm self.old.point.info blank.info }
+        requires later { FollowsTerm self.old.point.info last.now.info }
         requires above { self.old.place ≤ place }
         requires place { place < 2 ^ 63 }
-        ensures ok { OnOk result (IsPassed number index_interval skip_interval self.old self.new (term_of last.now) place) }
+        ensures ok { OnOk result (IsPassed number index_interval skip_interval self.old self.new (term_of_last last.now) place) }
         ensures err { OnErr result (IsSame self.old self.new) }
     {
         if number % u64::from(index_interval) != 0 {
@@ -155,14 +155,14 @@ pub struct TermWriter {
 }
 
 impl Model for TermWriter {
-    ghost use Rattle.term_dict.specs.Last.{term_of};
-    ghost use Rattle.term_dict.specs.Writing.{Written, IsWritten, written_in, last_point};
+    ghost use Rattle.term_dict.specs.Last.{term_of_last};
+    ghost use Rattle.term_dict.specs.Writing.{TermsWritten, IsWritten, terms_written_in, last_point};
 
-    ghost Value = { Written };
+    ghost Value = { TermsWritten };
 
-    ghost view = { λ w. written_in w.index_interval w.skip_interval w.max_levels w.count w.tis.items };
+    ghost view = { λ w. terms_written_in w.index_interval w.skip_interval w.max_levels w.count w.tis.items };
 
-    ghost invariant = { λ w. IsWritten (written_in w.index_interval w.skip_interval w.max_levels w.count w.tis.items) w.tis.items (term_of w.last) w.index.bytes.items (last_point w.index) w.count };
+    ghost invariant = { λ w. IsWritten (terms_written_in w.index_interval w.skip_interval w.max_levels w.count w.tis.items) w.tis.items (term_of_last w.last) w.index.bytes.items (last_point w.index) w.count };
 }
 
 /// Room for a header, which is written when the terms are counted.
@@ -203,7 +203,7 @@ impl TermWriter {
     pub fn add(&mut self, text: &str, info: &TermInfo) -> Result<(), OutOfMemory>
         requires small { length text.now < 2 ^ 31 }
         requires field { info.now.field < 2 ^ 31 }
-        requires follows { Follows (last_term self.old.terms).info info.now }
+        requires follows { FollowsTerm (last_term self.old.terms).info info.now }
         requires no_skip { info.now.doc_freq < self.old.skip_interval → info.now.skip ≡ 0 }
         ensures ok { OnOk result (self.new ≡ with_written self.old (record { text = text.now; info = info.now })) }
         ensures err { OnErr result (self.new ≡ self.old) }

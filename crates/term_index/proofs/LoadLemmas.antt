@@ -20,10 +20,10 @@ use Rattle.lu_grammar.proofs.Plans.{ok_of, err_of, err_is_not_ok}
 use Rattle.lu_grammar.proofs.Loops.{then_ok, each-none, times-again, times-more, read_plan-and_then, read_shape-followed}
 use Rattle.lu_grammar.proofs.Records.{ok_pair, same_pair}
 use Rattle.term_dict.specs.declared.heading.Heading.{Heading}
-use Rattle.term_dict.specs.declared.numbers.TermNumbers.{TermNumbers}
+use Rattle.lu_types.specs.declared.term.TermNumbers.{TermNumbers}
 use Rattle.term_dict.specs.Headings.{Line, heading, entry, header, heading_of, heading_shape, on_entry}
-use Rattle.term_dict.specs.Entries.{Entry}
-use Rattle.term_dict.specs.Terms.{Term, no_term, term_after, field_of, term_cmp}
+use Rattle.term_dict.specs.Entries.{TermRecord}
+use Rattle.term_dict.specs.Terms.{DictionaryTerm, no_term, term_after, field_of, term_cmp}
 use Rattle.term_dict.specs.Dictionary.{Dictionary}
 use Rattle.term_dict.specs.Index.{IndexEntry, IndexProgress, index_shape, index_kind, index_against, index_conditions, index_heading_conditions, indexed_term, indexed_place, no_entries, entry_count, entries_plan, tii_plan, point_after}
 use Rattle.term_dict.proofs.FileLemmas.{record_at-was}
@@ -31,7 +31,7 @@ use Rattle.term_dict.proofs.WalkLemmas.{was_ok}
 use Rattle.term_index.specs.declared.mark.Mark.{Mark}
 use Rattle.term_index.specs.Points.{progress}
 use Rattle.term_index.specs.Seeking.{Searched, searched, name_of, names_of, AreChecked}
-use Rattle.term_index.specs.InnerSearch.{IsSearchable, IndexMark, HasEntry, mark_of, mark_at, marks_to, terms_cmp}
+use Rattle.term_index.specs.InnerSearch.{IsSearchable, IndexMark, HasEntry, index_mark_of, mark_at, marks_to, terms_cmp}
 use Rattle.term_index.proofs.EntryLemmas.{good_entry}
 use Rattle.term_index.proofs.PointLoop.{finish, interval_begins}
 
@@ -76,18 +76,18 @@ header-start d tii c new h reads at read =
 -- ---- the entries
 
 -- so many entries were read, the last is this one, and the entries behind entry 0 are kept
-pub record IsLoading (s : Searched) (start : Cursor) (n : ℕ) (here : Cursor) (last : Term) (place : ℕ) (marks : List Mark) : Type 0 where
+pub record IsLoading (s : Searched) (start : Cursor) (n : ℕ) (here : Cursor) (last : DictionaryTerm) (place : ℕ) (marks : List Mark) : Type 0 where
   pub read : read_plan (times (index_kind s.dictionary) n no_entries) start ≡ Ok (progress n last place, here)
-  pub kept : map mark_of marks ≡ marks_to s (n - 1)
+  pub kept : map index_mark_of marks ≡ marks_to s (n - 1)
 
-pub IsLoading-none : (s : Searched) (start : Cursor) (last : Term) (place : ℕ) (marks : List Mark) → last ≡ no_term → place ≡ 0 → marks ≡ [] → IsLoading s start 0 start last place marks
+pub IsLoading-none : (s : Searched) (start : Cursor) (last : DictionaryTerm) (place : ℕ) (marks : List Mark) → last ≡ no_term → place ≡ 0 → marks ≡ [] → IsLoading s start 0 start last place marks
 IsLoading-none s start last place marks is none empty = record {
-  read = each-none (one (index_kind s.dictionary)) no_entries start ∙ ap (λ (t : Term). Ok (progress 0 t 0, start)) (sym is) ∙ ap (λ (p : ℕ). Ok (progress 0 last p, start)) (sym none);
-  kept = ap (map mark_of) empty;
+  read = each-none (one (index_kind s.dictionary)) no_entries start ∙ ap (λ (t : DictionaryTerm). Ok (progress 0 t 0, start)) (sym is) ∙ ap (λ (p : ℕ). Ok (progress 0 last p, start)) (sym none);
+  kept = ap (map index_mark_of) empty;
 }
 
 -- the next entry is good, and stands for what it should
-pub record IsNextEntry (d : Dictionary) (start : Cursor) (n : ℕ) (here : Cursor) (last : Term) (place : ℕ) : Type 0 where
+pub record IsNextEntry (d : Dictionary) (start : Cursor) (n : ℕ) (here : Cursor) (last : DictionaryTerm) (place : ℕ) : Type 0 where
   pub e : IndexEntry
   pub new : Cursor
   pub read : read_shape (index_shape d.numbers.skip_interval) here ≡ ok_pair e new
@@ -101,7 +101,7 @@ line-was k c line d e =
     let same = same_pair (entry x.0.0) line x.0.1 d x.2 in
     (x.0.0, x.1 ∙ ap (λ (f : Cursor). ok_pair x.0.0 f) same.1, sym same.0)
 
-pub next_entry_is : (d : Dictionary) (start : Cursor) (n : ℕ) (here : Cursor) (last : Term) (place : ℕ) (z : IndexProgress × Cursor) → read_plan (times (index_kind d) (entry_count d.numbers) no_entries) start ≡ ok_of z → n < entry_count d.numbers
+pub next_entry_is : (d : Dictionary) (start : Cursor) (n : ℕ) (here : Cursor) (last : DictionaryTerm) (place : ℕ) (z : IndexProgress × Cursor) → read_plan (times (index_kind d) (entry_count d.numbers) no_entries) start ≡ ok_of z → n < entry_count d.numbers
     → read_plan (times (index_kind d) n no_entries) start ≡ Ok (progress n last place, here) → IsNextEntry d start n here last place
 next_entry_is d start n here last place z all lt read =
     let s = progress n last place in
@@ -120,11 +120,11 @@ next_entry_is d start n here last place z all lt read =
       place_is = is.1;
       more =
           times-more (index_kind d) n no_entries start s here (entry x.0) turn.1 read whole_record
-          ∙ ap (λ (t : Term). Ok (progress (n + 1) t (place + x.0.step), turn.1)) is.0 ∙ ap (λ (p : ℕ). Ok (progress (n + 1) (indexed_term d n) p, turn.1)) is.1;
+          ∙ ap (λ (t : DictionaryTerm). Ok (progress (n + 1) t (place + x.0.step), turn.1)) is.0 ∙ ap (λ (p : ℕ). Ok (progress (n + 1) (indexed_term d n) p, turn.1)) is.1;
     }
 
 -- what an entry of a good index stands for is within the limits
-pub record IsWithin (t : Term) (place : ℕ) : Type 0 where
+pub record IsWithin (t : DictionaryTerm) (place : ℕ) : Type 0 where
   pub freq : t.info.freq < 2 ^ 31
   pub prox : t.info.prox < 2 ^ 31
   pub place_in : place < 2 ^ 31
@@ -137,29 +137,29 @@ indexed-within s n h lt =
     let t = term-within d.terms k h.freqs h.proxs (omega (arith, begins, h.count)) in
     record { freq = t.0; prox = t.1; place_in = h.places k 0 (omega (arith, begins, h.starts)) }
   where
-    term-within : (terms : List Term) (k : ℕ) → All (λ t. t.info.freq < 2 ^ 31) terms → All (λ t. t.info.prox < 2 ^ 31) terms → k ≤ length terms → ((point_after terms k).info.freq < 2 ^ 31) × ((point_after terms k).info.prox < 2 ^ 31)
+    term-within : (terms : List DictionaryTerm) (k : ℕ) → All (λ t. t.info.freq < 2 ^ 31) terms → All (λ t. t.info.prox < 2 ^ 31) terms → k ≤ length terms → ((point_after terms k).info.freq < 2 ^ 31) × ((point_after terms k).info.prox < 2 ^ 31)
     term-within terms zero freqs proxs le = (omega arith, omega arith)
     term-within terms (suc k) freqs proxs le = (freqs k no_term (omega (arith, le)), proxs k no_term (omega (arith, le)))
 
-pub HasEntry-there : (s : Searched) (start : Cursor) (n : ℕ) (here : Cursor) (last : Term) (place interval : ℕ) → IsSearchable s → n < entry_count s.dictionary.numbers → interval ≡ s.dictionary.numbers.skip_interval → IsNextEntry s.dictionary start n here last place
+pub HasEntry-there : (s : Searched) (start : Cursor) (n : ℕ) (here : Cursor) (last : DictionaryTerm) (place interval : ℕ) → IsSearchable s → n < entry_count s.dictionary.numbers → interval ≡ s.dictionary.numbers.skip_interval → IsNextEntry s.dictionary start n here last place
     → HasEntry interval last place here
 HasEntry-there s start n here last place interval h lt same next =
     let w = indexed-within s n h lt in record {
       e = next.e;
       new = next.new;
       read = ap (λ (k : ℕ). read_shape (index_shape k) here) same ∙ next.read;
-      freq = omega (arith, ap (λ (t : Term). t.info.freq) next.term, w.freq);
-      prox = omega (arith, ap (λ (t : Term). t.info.prox) next.term, w.prox);
+      freq = omega (arith, ap (λ (t : DictionaryTerm). t.info.freq) next.term, w.freq);
+      prox = omega (arith, ap (λ (t : DictionaryTerm). t.info.prox) next.term, w.prox);
       place_after = omega (arith, next.place_is, w.place_in);
     }
 
 -- what was read is that entry
-pub record IsEntryRead (d : Dictionary) (start : Cursor) (n : ℕ) (new : Cursor) (last : Term) (place : ℕ) : Type 0 where
+pub record IsEntryRead (d : Dictionary) (start : Cursor) (n : ℕ) (new : Cursor) (last : DictionaryTerm) (place : ℕ) : Type 0 where
   pub read : read_plan (times (index_kind d) (n + 1) no_entries) start ≡ Ok (progress (n + 1) last place, new)
   pub term : last ≡ indexed_term d n
   pub place_is : place ≡ indexed_place d n
 
-pub entry_read : (d : Dictionary) (start : Cursor) (n : ℕ) (here new : Cursor) (last : Term) (place : ℕ) (last_new : Term) (place_new interval : ℕ) (e : IndexEntry) → interval ≡ d.numbers.skip_interval → IsNextEntry d start n here last place
+pub entry_read : (d : Dictionary) (start : Cursor) (n : ℕ) (here new : Cursor) (last : DictionaryTerm) (place : ℕ) (last_new : DictionaryTerm) (place_new interval : ℕ) (e : IndexEntry) → interval ≡ d.numbers.skip_interval → IsNextEntry d start n here last place
     → read_shape (index_shape interval) here ≡ Ok (e, new) → last_new ≡ term_after last e.term → place_new ≡ place + e.step → IsEntryRead d start n new last_new place_new
 entry_read d start n here new last place last_new place_new interval e k next read is at =
     let same = same_pair next.e e next.new new (sym next.read ∙ ap (λ (i : ℕ). read_shape (index_shape i) here) (sym k) ∙ read) in
@@ -167,13 +167,13 @@ entry_read d start n here new last place last_new place_new interval e k next re
     let there : place_new ≡ indexed_place d n = at ∙ ap (λ (x : IndexEntry). place + x.step) (sym same.0) ∙ next.place_is in
     record {
       read = next.more ∙ ap (λ (c : Cursor). Ok (progress (n + 1) (indexed_term d n) (indexed_place d n), c)) same.1
-          ∙ ap (λ (t : Term). Ok (progress (n + 1) t (indexed_place d n), new)) (sym term) ∙ ap (λ (p : ℕ). Ok (progress (n + 1) last_new p, new)) (sym there);
+          ∙ ap (λ (t : DictionaryTerm). Ok (progress (n + 1) t (indexed_place d n), new)) (sym term) ∙ ap (λ (p : ℕ). Ok (progress (n + 1) last_new p, new)) (sym there);
       term = term;
       place_is = there;
     }
 
 -- entry 0 is not kept
-pub IsLoading-first : (s : Searched) (start : Cursor) (n : ℕ) (here new : Cursor) (last last_new : Term) (place place_new : ℕ) (marks : List Mark) → IsLoading s start n here last place marks → IsEntryRead s.dictionary start n new last_new place_new → (0 < n → ⊥)
+pub IsLoading-first : (s : Searched) (start : Cursor) (n : ℕ) (here new : Cursor) (last last_new : DictionaryTerm) (place place_new : ℕ) (marks : List Mark) → IsLoading s start n here last place marks → IsEntryRead s.dictionary start n new last_new place_new → (0 < n → ⊥)
     → IsLoading s start (n + 1) new last_new place_new marks
 IsLoading-first s start n here new last last_new place place_new marks h r none = record {
   read = r.read;
@@ -181,20 +181,20 @@ IsLoading-first s start n here new last last_new place place_new marks h r none 
 }
 
 -- each behind it is
-pub IsLoading-more : (s : Searched) (start : Cursor) (n : ℕ) (here new : Cursor) (last last_new : Term) (place place_new : ℕ) (marks more : List Mark) (m : Mark) → IsLoading s start n here last place marks → IsEntryRead s.dictionary start n new last_new place_new → 0 < n
-    → mark_of m ≡ record { name = name_of s.names last_new.info.field; term = last_new; place = place_new } → more ≡ marks ++ m ∷ [] → IsLoading s start (n + 1) new last_new place_new more
+pub IsLoading-more : (s : Searched) (start : Cursor) (n : ℕ) (here new : Cursor) (last last_new : DictionaryTerm) (place place_new : ℕ) (marks more : List Mark) (m : Mark) → IsLoading s start n here last place marks → IsEntryRead s.dictionary start n new last_new place_new → 0 < n
+    → index_mark_of m ≡ record { name = name_of s.names last_new.info.field; term = last_new; place = place_new } → more ≡ marks ++ m ∷ [] → IsLoading s start (n + 1) new last_new place_new more
 IsLoading-more s start n here new last last_new place place_new marks more m h r some is to =
     let d = s.dictionary in
-    let at : mark_of m ≡ mark_at s n = is ∙ ap (λ (t : Term). mark_with (name_of s.names t.info.field) t place_new) r.term ∙ ap (mark_with (name_of s.names (indexed_term d n).info.field) (indexed_term d n)) r.place_is in
+    let at : index_mark_of m ≡ mark_at s n = is ∙ ap (λ (t : DictionaryTerm). mark_with (name_of s.names t.info.field) t place_new) r.term ∙ ap (mark_with (name_of s.names (indexed_term d n).info.field) (indexed_term d n)) r.place_is in
     let number : suc (n - 1) ≡ n = omega (arith, some) in
     record {
       read = r.read;
       kept =
-          ap (map mark_of) to ∙ map-append mark_of marks (m ∷ []) ∙ ap (λ (ms : List IndexMark). ms ++ mark_of m ∷ []) h.kept ∙ ap (λ (x : IndexMark). marks_to s (n - 1) ++ x ∷ []) (at ∙ ap (mark_at s) (sym number))
+          ap (map index_mark_of) to ∙ map-append index_mark_of marks (m ∷ []) ∙ ap (λ (ms : List IndexMark). ms ++ index_mark_of m ∷ []) h.kept ∙ ap (λ (x : IndexMark). marks_to s (n - 1) ++ x ∷ []) (at ∙ ap (mark_at s) (sym number))
           ∙ ap (marks_to s) (number ∙ (let e : n ≡ n + 1 - 1 = omega arith in e));
     }
   where
-    mark_with : List ℕ → Term → ℕ → IndexMark
+    mark_with : List ℕ → DictionaryTerm → ℕ → IndexMark
     mark_with name term place = record { name = name; term = term; place = place }
 
 -- the text of each term that an entry stands for is UTF-8
@@ -204,7 +204,7 @@ indexed-text s n h lt =
     let begins = interval_begins d.numbers n h.bounded lt in
     text-within d.terms (n * d.numbers.index_interval) h.texts (omega (arith, begins, h.count))
   where
-    text-within : (terms : List Term) (k : ℕ) → All (λ t. IsUtf8 t.text) terms → k ≤ length terms → IsUtf8 (point_after terms k).text
+    text-within : (terms : List DictionaryTerm) (k : ℕ) → All (λ t. IsUtf8 t.text) terms → k ≤ length terms → IsUtf8 (point_after terms k).text
     text-within terms zero texts le = IsUtf8-nil
     text-within terms (suc k) texts le = texts k no_term (omega (arith, le))
 
@@ -215,7 +215,7 @@ name_of-names [] n = refl
 name_of-names (f ∷ fs) zero = refl
 name_of-names (f ∷ fs) (suc n) = name_of-names fs n
 
-terms_cmp-is : (fields : List TableField) (a b : Term) → terms_cmp (names_of fields) a b ≡ term_cmp fields a b
+terms_cmp-is : (fields : List TableField) (a b : DictionaryTerm) → terms_cmp (names_of fields) a b ≡ term_cmp fields a b
 terms_cmp-is fields a b =
     ap (λ (n : List ℕ). ordering_then (text_cmp n (name_of (names_of fields) b.info.field)) (text_cmp a.text b.text)) (name_of-names fields a.info.field)
     ∙ ap (λ (n : List ℕ). ordering_then (text_cmp (field_of fields a.info.field).name n) (text_cmp a.text b.text)) (name_of-names fields b.info.field)

@@ -7,15 +7,15 @@ use Rattle.std.proofs.lemmas.Bool.{cases_lt, cases_eq, lt-ltb, le-ltb}
 use Rattle.std.proofs.lemmas.List.{length-append, length-map, get_or_append_left, get_or_push}
 use Rattle.std.proofs.lemmas.Option.{slice_get-map, get_or_from_slice_get, slice_get_within}
 use Rattle.std.proofs.Math.Nat.{le-div_iff_mul-le, suc-mul}
-use Rattle.term_dict.specs.Terms.{Term, no_term, last_term}
+use Rattle.term_dict.specs.Terms.{DictionaryTerm, no_term, last_term}
 use Rattle.term_dict.specs.Dictionary.{Dictionary}
 use Rattle.term_dict.specs.Index.{entry_count, indexed_term, indexed_place, point_after}
-use Rattle.term_dict.specs.Walk.{Walk, walk_to, term_passed, next_place}
+use Rattle.term_dict.specs.Walk.{TermWalk, walk_to, term_passed, next_place}
 use Rattle.term_dict.proofs.JumpLemmas.{last_term-take}
 use Rattle.term_index.specs.declared.mark.Mark.{Mark}
 use Rattle.term_index.specs.declared.search.Sought.{Sought}
 use Rattle.term_index.specs.Seeking.{Searched, sought_cmp, rank, digits, interval_of, read_up_to, terms_read, seek_steps, most_steps, ticked}
-use Rattle.term_index.specs.InnerSearch.{IsSearchable, IndexMark, AreBelow, mark_of, mark_at, marks_to, mark_cmp}
+use Rattle.term_index.specs.InnerSearch.{IsSearchable, IndexMark, AreBelow, index_mark_of, mark_at, marks_to, mark_cmp}
 use Rattle.term_index.proofs.DigitLemmas.{digits-below, ticked-add, ticked-below}
 use Rattle.term_index.proofs.PointLoop.{interval_begins, place_of_walk}
 use Rattle.term_index.proofs.RankLemmas.{below-is, rank-few}
@@ -33,14 +33,14 @@ get_or-marks_to s (suc n) i d lt = elim (cases_eq i n) [
   | inr ne ↦ get_or_append_left (marks_to s n) (mark_at s (suc n) ∷ []) d i (omega (arith, length-marks_to s n, lt, ne)) ∙ get_or-marks_to s n i d (omega (arith, lt, ne))
 ]
 
-pub marks-count : (s : Searched) (n : ℕ) (marks : List Mark) → map mark_of marks ≡ marks_to s n → length marks ≡ n
-marks-count s n marks kept = sym (length-map marks mark_of) ∙ ap length kept ∙ length-marks_to s n
+pub marks-count : (s : Searched) (n : ℕ) (marks : List Mark) → map index_mark_of marks ≡ marks_to s n → length marks ≡ n
+marks-count s n marks kept = sym (length-map marks index_mark_of) ∙ ap length kept ∙ length-marks_to s n
 
-mark-is : (s : Searched) (n i : ℕ) (marks : List Mark) (m : Mark) → map mark_of marks ≡ marks_to s n → slice_get marks i ≡ Some m → mark_of m ≡ mark_at s (suc i)
+mark-is : (s : Searched) (n i : ℕ) (marks : List Mark) (m : Mark) → map index_mark_of marks ≡ marks_to s n → slice_get marks i ≡ Some m → index_mark_of m ≡ mark_at s (suc i)
 mark-is s n i marks m kept at =
     let lt = slice_get_within marks i m at in
-    let there : slice_get (marks_to s n) i ≡ Some (mark_of m) = ap (λ (ms : List IndexMark). slice_get ms i) (sym kept) ∙ slice_get-map mark_of marks i ∙ ap (option_map mark_of) at in
-    sym (get_or_from_slice_get (marks_to s n) i (mark_of m) (mark_of m) there) ∙ get_or-marks_to s n i (mark_of m) (omega (arith, lt, marks-count s n marks kept))
+    let there : slice_get (marks_to s n) i ≡ Some (index_mark_of m) = ap (λ (ms : List IndexMark). slice_get ms i) (sym kept) ∙ slice_get-map index_mark_of marks i ∙ ap (option_map index_mark_of) at in
+    sym (get_or_from_slice_get (marks_to s n) i (index_mark_of m) (index_mark_of m) there) ∙ get_or-marks_to s n i (index_mark_of m) (omega (arith, lt, marks-count s n marks kept))
 
 -- ---- what an entry leads to
 
@@ -73,9 +73,9 @@ interval-is s number h some lt =
 pub record LeadsTo (d : Dictionary) (k : ℕ) (m : Mark) : Type 0 where
   pub inside : k < length d.terms
   pub place : m.place ≡ next_place (walk_to d k)
-  pub term : (mark_of m).term ≡ term_passed (walk_to d k)
+  pub term : (index_mark_of m).term ≡ term_passed (walk_to d k)
 
-pub leads : (d : Dictionary) (names : List (List ℕ)) (marks : List Mark) (number at k : ℕ) (m : Mark) → IsSearchable (record { dictionary = d; names = names }) → map mark_of marks ≡ marks_to (record { dictionary = d; names = names }) (entry_count d.numbers - 1)
+pub leads : (d : Dictionary) (names : List (List ℕ)) (marks : List Mark) (number at k : ℕ) (m : Mark) → IsSearchable (record { dictionary = d; names = names }) → map index_mark_of marks ≡ marks_to (record { dictionary = d; names = names }) (entry_count d.numbers - 1)
     → 0 < number → number ≤ length marks → at ≡ number - 1 → slice_get marks at ≡ Some m → k ≡ number * d.numbers.index_interval → LeadsTo d k m
 leads d names marks number at k m h kept some le here there is =
     let s : Searched = record { dictionary = d; names = names } in
@@ -113,7 +113,7 @@ within i a b lt = elim (cases_lt i a) [
   | inr ge ↦ le-ltb i a ge ∙ sym (le-ltb i (min a b) (omega (arith, ge)))
 ]
 
-pub below-marks : (s : Searched) (sought : Sought) (marks : List Mark) → IsSearchable s → map mark_of marks ≡ marks_to s (entry_count s.dictionary.numbers - 1)
+pub below-marks : (s : Searched) (sought : Sought) (marks : List Mark) → IsSearchable s → map index_mark_of marks ≡ marks_to s (entry_count s.dictionary.numbers - 1)
     → AreBelow sought marks (interval_of s.dictionary (rank s sought.field.now sought.text.now))
 below-marks s sought marks h kept = record {
   few = omega (arith, few);
@@ -122,7 +122,7 @@ below-marks s sought marks h kept = record {
       let w = interval-is s (suc i) h (omega arith) (omega (arith, lt, few)) in
       let same = mark-is s (entry_count d.numbers - 1) i marks m kept at in
       ap (λ (x : IndexMark). is_lt (mark_cmp sought x)) same
-      ∙ ap (λ (t : Term). is_lt (sought_cmp s.names field text t)) w.term
+      ∙ ap (λ (t : DictionaryTerm). is_lt (sought_cmp s.names field text t)) w.term
       ∙ below-is s field text (suc i * d.numbers.index_interval - 1) h (omega (arith, w.inside, w.some))
       ∙ split_at (suc i * d.numbers.index_interval - 1) i (rank s field text) d.numbers.index_interval (omega (arith, h.bounded.index_interval.0)) refl
       ∙ within i (rank s field text / d.numbers.index_interval) (entry_count d.numbers - 1) (omega (arith, lt, few));
@@ -191,7 +191,7 @@ steps-few s field text count new h is =
     let halved = digits-below (entry_count s.dictionary.numbers - 1) (entry_count s.dictionary.numbers) (omega arith) in
     omega (arith, is, ticked-below (seek_steps s field text) count, few, halved)
 
-pub steps-all : (s : Searched) (field text : List ℕ) (marks : List Mark) (first between last number passed : ℕ) → map mark_of marks ≡ marks_to s (entry_count s.dictionary.numbers - 1) → number ≡ interval_of s.dictionary (rank s field text)
+pub steps-all : (s : Searched) (field text : List ℕ) (marks : List Mark) (first between last number passed : ℕ) → map index_mark_of marks ≡ marks_to s (entry_count s.dictionary.numbers - 1) → number ≡ interval_of s.dictionary (rank s field text)
     → passed ≡ number * s.dictionary.numbers.index_interval → between ≡ ticked (digits (length marks)) first → last ≡ ticked (read_up_to s.dictionary (rank s field text) - passed) between → last ≡ ticked (seek_steps s field text) first
 steps-all s field text marks first between last number passed kept is at begun_at ended_at =
     let d = s.dictionary in
@@ -201,7 +201,7 @@ steps-all s field text marks first between last number passed kept is at begun_a
     ∙ sym (ticked-add (digits (entry_count d.numbers - 1)) (terms_read d (rank s field text)) first)
 
 -- there are few entries
-pub number-fits : (d : Dictionary) (names : List (List ℕ)) (marks : List Mark) (number : ℕ) → IsSearchable (record { dictionary = d; names = names }) → map mark_of marks ≡ marks_to (record { dictionary = d; names = names }) (entry_count d.numbers - 1) → number ≤ length marks
+pub number-fits : (d : Dictionary) (names : List (List ℕ)) (marks : List Mark) (number : ℕ) → IsSearchable (record { dictionary = d; names = names }) → map index_mark_of marks ≡ marks_to (record { dictionary = d; names = names }) (entry_count d.numbers - 1) → number ≤ length marks
     → number < 2 ^ 32
 number-fits d names marks number h kept le =
     let few = marks-count (record { dictionary = d; names = names }) (entry_count d.numbers - 1) marks kept in

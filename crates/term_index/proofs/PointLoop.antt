@@ -13,10 +13,10 @@ use Rattle.lu_grammar.proofs.Loops.{read_plan-and_then, each-none, times-more, t
 use Rattle.term_dict.specs.declared.heading.Heading.{Heading}
 use Rattle.lu_types.specs.declared.term.TermNumbers.{TermNumbers}
 use Rattle.term_dict.specs.Headings.{Line, header, heading, entry, heading_shape, heading_of}
-use Rattle.term_dict.specs.Terms.{Term, no_term}
+use Rattle.term_dict.specs.Terms.{DictionaryTerm, no_term}
 use Rattle.term_dict.specs.Dictionary.{Dictionary}
 use Rattle.term_dict.specs.Index.{IndexEntry, IndexProgress, index_kind, no_entries, entry_count, indexed_term, indexed_place, index_heading_conditions, point_after, entries_plan, tii_plan}
-use Rattle.term_dict.specs.Walk.{Walk, term_passed, next_place, walk_to}
+use Rattle.term_dict.specs.Walk.{TermWalk, term_passed, next_place, walk_to}
 use Rattle.term_dict.specs.Checks.{AreBounded}
 use Rattle.term_dict.proofs.LineLemmas.{line_at-good, line_at-broken, line_at-unread}
 use Rattle.term_index.specs.Points.{progress, IsNextPoint, IsIndexHeader}
@@ -36,33 +36,33 @@ header-unread numbers old new bad rule e is = line_at-unread heading_shape headi
 -- ---- the entries
 
 -- so many entries are read between two places, and the walk has passed the terms before the interval of the last
-pub record HasPoints (d : Dictionary) (start : Cursor) (n : ℕ) (here : Cursor) (last : Term) (place : ℕ) (w : Walk) : Type 0 where
+pub record HasPoints (d : Dictionary) (start : Cursor) (n : ℕ) (here : Cursor) (last : DictionaryTerm) (place : ℕ) (w : TermWalk) : Type 0 where
   pub read : read_plan (times (index_kind d) n no_entries) start ≡ Ok (progress n last place, here)
   pub walk : w ≡ walk_to d ((n - 1) * d.numbers.index_interval)
   pub text : last.text ≡ (term_passed w).text
 
-pub HasPoints-none : (start : Cursor) (last : Term) (place : ℕ) (w : Walk) → w.passed ≡ 0 → last ≡ no_term → place ≡ 0 → HasPoints w.dictionary start 0 start last place w
+pub HasPoints-none : (start : Cursor) (last : DictionaryTerm) (place : ℕ) (w : TermWalk) → w.passed ≡ 0 → last ≡ no_term → place ≡ 0 → HasPoints w.dictionary start 0 start last place w
 HasPoints-none start last place w at is none =
     let walk : w ≡ walk_to w.dictionary 0 = ap (walk_to w.dictionary) at in
     record {
-      read = each-none (one (index_kind w.dictionary)) no_entries start ∙ ap (λ (t : Term). Ok (progress 0 t 0, start)) (sym is) ∙ ap (λ (p : ℕ). Ok (progress 0 last p, start)) (sym none);
+      read = each-none (one (index_kind w.dictionary)) no_entries start ∙ ap (λ (t : DictionaryTerm). Ok (progress 0 t 0, start)) (sym is) ∙ ap (λ (p : ℕ). Ok (progress 0 last p, start)) (sym none);
       walk = walk ∙ ap (walk_to w.dictionary) (let e : 0 ≡ (0 - 1) * w.dictionary.numbers.index_interval = omega arith in e);
-      text = ap (λ (t : Term). t.text) is ∙ ap (λ (x : Walk). (term_passed x).text) (sym walk);
+      text = ap (λ (t : DictionaryTerm). t.text) is ∙ ap (λ (x : TermWalk). (term_passed x).text) (sym walk);
     }
 
-pub HasPoints-more : (d : Dictionary) (start : Cursor) (n : ℕ) (here : Cursor) (last : Term) (place : ℕ) (w : Walk) (new : Cursor) (next : Term) (next_at : ℕ) (after : Walk) → HasPoints d start n here last place w
+pub HasPoints-more : (d : Dictionary) (start : Cursor) (n : ℕ) (here : Cursor) (last : DictionaryTerm) (place : ℕ) (w : TermWalk) (new : Cursor) (next : DictionaryTerm) (next_at : ℕ) (after : TermWalk) → HasPoints d start n here last place w
     → IsNextPoint d (progress n last place) here new None → next ≡ indexed_term d n → next_at ≡ indexed_place d n → after ≡ walk_to d (n * d.numbers.index_interval) → next.text ≡ (term_passed after).text
     → HasPoints d start (n + 1) new next next_at after
 HasPoints-more d start n here last place w new next next_at after h (e, good, to) is at walk text = record {
   read =
       times-more (index_kind d) n no_entries start (progress n last place) here (entry e) new h.read good
       ∙ ap (λ (s : IndexProgress). Ok (s, new)) to
-      ∙ ap (λ (t : Term). Ok (progress (n + 1) t (indexed_place d n), new)) (sym is) ∙ ap (λ (p : ℕ). Ok (progress (n + 1) next p, new)) (sym at);
+      ∙ ap (λ (t : DictionaryTerm). Ok (progress (n + 1) t (indexed_place d n), new)) (sym is) ∙ ap (λ (p : ℕ). Ok (progress (n + 1) next p, new)) (sym at);
   walk = walk ∙ ap (λ (k : ℕ). walk_to d (k * d.numbers.index_interval)) (let e : n ≡ n + 1 - 1 = omega arith in e);
   text = text;
 }
 
-pub HasPoints-fault : (d : Dictionary) (start : Cursor) (n m : ℕ) (here : Cursor) (last : Term) (place : ℕ) (w : Walk) (new : Cursor) (rule : ℕ) → HasPoints d start n here last place w → n < m
+pub HasPoints-fault : (d : Dictionary) (start : Cursor) (n m : ℕ) (here : Cursor) (last : DictionaryTerm) (place : ℕ) (w : TermWalk) (new : Cursor) (rule : ℕ) → HasPoints d start n here last place w → n < m
     → IsNextPoint d (progress n last place) here new (Some rule) → read_plan (times (index_kind d) m no_entries) start ≡ Err (record { offset = here.place; rule = rule })
 HasPoints-fault d start n m here last place w new rule h lt broken = times-fault (index_kind d) n m no_entries start (progress n last place) here rule lt h.read broken
 
@@ -75,23 +75,23 @@ interval_begins numbers n bounded lt =
     omega (arith, whole, suc-mul n k, some)
 
 -- where a term starts is the place of the walk
-pub place_of_walk : (d : Dictionary) (n : ℕ) (w : Walk) → w ≡ walk_to d n → n < length d.starts → next_place w ≡ slice_index d.starts n
+pub place_of_walk : (d : Dictionary) (n : ℕ) (w : TermWalk) → w ≡ walk_to d n → n < length d.starts → next_place w ≡ slice_index d.starts n
 place_of_walk d n w is lt = ap next_place is ∙ get_or_default d.starts n d.size 0 lt
 
 -- what one turn of the loop shows of the walk
-pub record IsTurn (d : Dictionary) (n : ℕ) (w : Walk) (wanted : Term) : Type 0 where
+pub record IsTurn (d : Dictionary) (n : ℕ) (w : TermWalk) (wanted : DictionaryTerm) : Type 0 where
   pub walk : w ≡ walk_to d (n * d.numbers.index_interval)
   pub wanted_is : wanted ≡ indexed_term d n
   pub place_is : next_place w ≡ indexed_place d n
 
-pub turn : (d : Dictionary) (numbers : TermNumbers) (n k : ℕ) (w after : Walk) (wanted : Term) → numbers ≡ d.numbers → AreBounded numbers → length d.starts ≡ numbers.count → n < entry_count numbers → w ≡ walk_to d k
+pub turn : (d : Dictionary) (numbers : TermNumbers) (n k : ℕ) (w after : TermWalk) (wanted : DictionaryTerm) → numbers ≡ d.numbers → AreBounded numbers → length d.starts ≡ numbers.count → n < entry_count numbers → w ≡ walk_to d k
     → after ≡ walk_to w.dictionary (n * numbers.index_interval) → wanted ≡ point_after w.dictionary.terms (n * numbers.index_interval) → IsTurn d n after wanted
 turn d numbers n k w after wanted same bounded starts lt walk to is =
     let interval : n * numbers.index_interval ≡ n * d.numbers.index_interval = ap (λ (m : TermNumbers). n * m.index_interval) same in
-    let here : after ≡ walk_to d (n * d.numbers.index_interval) = to ∙ ap (λ (x : Walk). walk_to x.dictionary (n * numbers.index_interval)) walk ∙ ap (walk_to d) interval in
+    let here : after ≡ walk_to d (n * d.numbers.index_interval) = to ∙ ap (λ (x : TermWalk). walk_to x.dictionary (n * numbers.index_interval)) walk ∙ ap (walk_to d) interval in
     record {
       walk = here;
-      wanted_is = is ∙ ap (λ (x : Walk). point_after x.dictionary.terms (n * numbers.index_interval)) walk ∙ ap (point_after d.terms) interval;
+      wanted_is = is ∙ ap (λ (x : TermWalk). point_after x.dictionary.terms (n * numbers.index_interval)) walk ∙ ap (point_after d.terms) interval;
       place_is = place_of_walk d (n * d.numbers.index_interval) after here (omega (arith, interval, starts, interval_begins numbers n bounded lt));
     }
 

@@ -13,7 +13,7 @@ use Rattle.std.proofs.lemmas.List.{get_or_default}
 use Rattle.std.proofs.lemmas.Slice.Eq.{bytes_eq-Decides}
 use Rattle.lu_prims.specs.Order.{text_cmp}
 use Rattle.lu_prims.proofs.Units.{text_order, level_same}
-use Rattle.term_dict.specs.Terms.{Term, no_term}
+use Rattle.term_dict.specs.Terms.{DictionaryTerm, no_term}
 use Rattle.term_dict.specs.Dictionary.{Dictionary}
 use Rattle.term_dict.proofs.OrderLemmas.{text_cmp-same}
 use Rattle.term_index.specs.Seeking.{Searched, name_of, is_sought, sought_cmp, rank}
@@ -31,18 +31,18 @@ key_cmp a b = ordering_then (text_cmp a.0 b.0) (text_cmp a.1 b.1)
 key_order : IsTotalOrder key_cmp
 key_order = then_total (on_total (λ (k : Key). k.0) text_order) (on_total (λ (k : Key). k.1) text_order)
 
-abbrev key_of : List (List ℕ) → Term → Key
+abbrev key_of : List (List ℕ) → DictionaryTerm → Key
 key_of names t = (name_of names t.info.field, t.text)
 
 -- what is before a term that is below is below
-less_back : (names : List (List ℕ)) (field text : List ℕ) (a b : Term) → terms_cmp names a b ≡ Less → sought_cmp names field text b ≡ Less → sought_cmp names field text a ≡ Less
+less_back : (names : List (List ℕ)) (field text : List ℕ) (a b : DictionaryTerm) → terms_cmp names a b ≡ Less → sought_cmp names field text b ≡ Less → sought_cmp names field text a ≡ Less
 less_back names field text a b ab b_less = key_order.trans (key_of names a) (key_of names b) (field, text) ab b_less
 
 reversed : (o p : Ordering) → o ≡ ordering_reverse p → p ≡ Less → o ≡ Greater
 reversed o p e is = e ∙ ap ordering_reverse is
 
 -- what is behind a term that is level or above is above
-above_later : (names : List (List ℕ)) (field text : List ℕ) (a b : Term) (o : Ordering) → sought_cmp names field text a ≡ o → is_lt o ≡ false → terms_cmp names a b ≡ Less → sought_cmp names field text b ≡ Greater
+above_later : (names : List (List ℕ)) (field text : List ℕ) (a b : DictionaryTerm) (o : Ordering) → sought_cmp names field text a ≡ o → is_lt o ≡ false → terms_cmp names a b ≡ Less → sought_cmp names field text b ≡ Greater
 above_later names field text a b Less here not_below ab = cc
 above_later names field text a b Equal here not_below ab =
     reversed (sought_cmp names field text b) (key_cmp (field, text) (key_of names b)) (key_order.antisymm (key_of names b) (field, text)) (sym (key_order.congr (key_of names a) (field, text) (key_of names b) here) ∙ ab)
@@ -73,7 +73,7 @@ prefix_stops {X} p (x ∷ xs) d lt = go (λ less. prefix_stops p xs d less) (p x
 pub rank-few : (s : Searched) (field text : List ℕ) → rank s field text ≤ length s.dictionary.terms
 rank-few s field text = few (λ t. is_lt (sought_cmp s.names field text t)) s.dictionary.terms
   where
-    few : (p : Term → Bool) (xs : List Term) → prefix_len p xs ≤ length xs
+    few : (p : DictionaryTerm → Bool) (xs : List DictionaryTerm) → prefix_len p xs ≤ length xs
     few p [] = omega arith
     few p (x ∷ xs) = go (p x) (few p xs)
       where
@@ -112,7 +112,7 @@ below-is s field text i h lt = elim (cases_lt i (rank s field text)) [
 -- ---- the term that is sought
 
 -- one that is sought is level
-level : (names : List (List ℕ)) (field text : List ℕ) (t : Term) → is_sought names field text t ≡ true → sought_cmp names field text t ≡ Equal
+level : (names : List (List ℕ)) (field text : List ℕ) (t : DictionaryTerm) → is_sought names field text t ≡ true → sought_cmp names field text t ≡ Equal
 level names field text t e =
     let both = and_parts (bytes_eq (name_of names t.info.field) field) (bytes_eq t.text text) e in
     let name = (bytes_eq-Decides (name_of names t.info.field) field).0 both.0 in
@@ -122,21 +122,21 @@ level names field text t e =
     ap (λ (o : Ordering). ordering_then o (text_cmp t.text text)) first ∙ second
 
 -- one that is not level is not sought
-not_sought : (names : List (List ℕ)) (field text : List ℕ) (t : Term) → (sought_cmp names field text t ≡ Equal → ⊥) → is_sought names field text t ≡ false
+not_sought : (names : List (List ℕ)) (field text : List ℕ) (t : DictionaryTerm) → (sought_cmp names field text t ≡ Equal → ⊥) → is_sought names field text t ≡ false
 not_sought names field text t apart = go (is_sought names field text t) refl
   where
     go : (b : Bool) → is_sought names field text t ≡ b → b ≡ false
     go true e = absurd (apart (level names field text t e))
     go false e = refl
 
-find-at : (p : Term → Bool) (xs : List Term) (k : ℕ) → k < length xs → ((i : ℕ) → i < k → p (get_or xs i no_term) ≡ false) → p (get_or xs k no_term) ≡ true → find p xs ≡ Some (get_or xs k no_term)
+find-at : (p : DictionaryTerm → Bool) (xs : List DictionaryTerm) (k : ℕ) → k < length xs → ((i : ℕ) → i < k → p (get_or xs i no_term) ≡ false) → p (get_or xs k no_term) ≡ true → find p xs ≡ Some (get_or xs k no_term)
 find-at p [] k lt before here = absurd (omega (arith, lt))
 find-at p (x ∷ xs) zero lt before here = rw here refl
 find-at p (x ∷ xs) (suc k) lt before here =
     let first : p x ≡ false = before 0 (omega arith) in
     rw first (find-at p xs k (omega (arith, lt)) (λ i less. before (suc i) (omega (arith, less))) here)
 
-find-none : (p : Term → Bool) (xs : List Term) → ((i : ℕ) → i < length xs → p (get_or xs i no_term) ≡ false) → find p xs ≡ None
+find-none : (p : DictionaryTerm → Bool) (xs : List DictionaryTerm) → ((i : ℕ) → i < length xs → p (get_or xs i no_term) ≡ false) → find p xs ≡ None
 find-none p [] none = refl
 find-none p (x ∷ xs) none =
     let first : p x ≡ false = none 0 (omega arith) in

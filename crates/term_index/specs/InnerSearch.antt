@@ -8,7 +8,7 @@ use Rattle.std.specs.Ordering.{ordering_then, is_lt}
 use Rattle.lu_grammar.specs.Bytes.{Cursor}
 use Rattle.lu_grammar.specs.Records.{read_shape}
 use Rattle.lu_prims.specs.Order.{text_cmp}
-use Rattle.term_dict.specs.Terms.{Term}
+use Rattle.term_dict.specs.Terms.{DictionaryTerm}
 use Rattle.term_dict.specs.Dictionary.{Dictionary}
 use Rattle.term_dict.specs.Checks.{AreBounded}
 use Rattle.term_dict.specs.Index.{IndexEntry, index_shape, indexed_term, indexed_place}
@@ -21,7 +21,7 @@ abbrev pub lent : Bor (List ℕ) → List ℕ
 lent text = text.now
 
 -- how two terms stand to each other
-abbrev pub terms_cmp : List (List ℕ) → Term → Term → Ordering
+abbrev pub terms_cmp : List (List ℕ) → DictionaryTerm → DictionaryTerm → Ordering
 terms_cmp names a b = ordering_then (text_cmp (name_of names a.info.field) (name_of names b.info.field)) (text_cmp a.text b.text)
 
 -- the terms can be searched: their texts are UTF-8, they rise, and the numbers are theirs
@@ -38,12 +38,12 @@ pub record IsSearchable (s : Searched) : Type 0 where
 -- an entry of the index above entry 0: the name of its term's field, its term, and where the interval behind that term starts
 pub record IndexMark : Type 0 where
   pub name : List ℕ
-  pub term : Term
+  pub term : DictionaryTerm
   pub place : ℕ
 
 -- an entry as the program keeps it
-abbrev pub mark_of : Mark → IndexMark
-mark_of m = record { name = m.name.now; term = record { text = m.text; info = m.info }; place = m.place }
+abbrev pub index_mark_of : Mark → IndexMark
+index_mark_of m = record { name = m.name.now; term = record { text = m.text; info = m.info }; place = m.place }
 
 -- what the entry with a number stands for
 abbrev pub mark_at : Searched → ℕ → IndexMark
@@ -65,10 +65,10 @@ mark_cmp sought m = ordering_then (text_cmp m.name sought.field.now) (text_cmp m
 -- the first so many entries are below what is sought, and no others
 pub record AreBelow (sought : Sought) (marks : List Mark) (below : ℕ) : Type 0 where
   pub few : below ≤ length marks
-  pub split : (i : ℕ) (m : Mark) → slice_get marks i ≡ Some m → is_lt (mark_cmp sought (mark_of m)) ≡ nat_lt i below
+  pub split : (i : ℕ) (m : Mark) → slice_get marks i ≡ Some m → is_lt (mark_cmp sought (index_mark_of m)) ≡ nat_lt i below
 
 -- a good entry stands here, and what it says after the last one is within the limits of the program
-pub record HasEntry (interval : ℕ) (last : Term) (place : ℕ) (here : Cursor) : Type 0 where
+pub record HasEntry (interval : ℕ) (last : DictionaryTerm) (place : ℕ) (here : Cursor) : Type 0 where
   pub e : IndexEntry
   pub new : Cursor
   pub read : read_shape (index_shape interval) here ≡ Ok (e, new)

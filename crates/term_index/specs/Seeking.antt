@@ -1,4 +1,4 @@
--- Which term is sought, and how many steps the search takes (format page, "Term index").
+-- Which term is sought, and how many steps the search takes (format page, "DictionaryTerm index").
 use Rattle.std.specs.Prelude.{ℕ, zero, suc, ◌+◌, ◌-◌, ◌*◌, ◌/◌, Bool, ◌&&◌, ◌==◌, if◌then◌else◌, min, List, map, length, slice_index_or, []}
 use Rattle.std.specs.Str.{bytes_eq}
 use Rattle.std.specs.List.{prefix_len}
@@ -7,7 +7,7 @@ use Rattle.std.specs.Ordering.{ordering_then, is_lt}
 use Rattle.lu_grammar.specs.Meaning.{Reads}
 use Rattle.lu_prims.specs.Order.{text_cmp}
 use Rattle.lu_types.specs.Tables.{TableField}
-use Rattle.term_dict.specs.Terms.{Term}
+use Rattle.term_dict.specs.Terms.{DictionaryTerm}
 use Rattle.term_dict.specs.Dictionary.{Dictionary, tis_plan}
 use Rattle.term_dict.specs.Index.{entry_count, tii_plan}
 
@@ -36,11 +36,11 @@ pub record AreChecked (tii : List ℕ) (d : Dictionary) (fields : List TableFiel
   pub entries : Reads (tii_plan d) tii tt
 
 -- the term has this text in the field of this name
-abbrev pub is_sought : List (List ℕ) → List ℕ → List ℕ → Term → Bool
+abbrev pub is_sought : List (List ℕ) → List ℕ → List ℕ → DictionaryTerm → Bool
 is_sought names field text t = bytes_eq (name_of names t.info.field) field && bytes_eq t.text text
 
 -- how a term stands to what is sought: by the name of its field, and then by its text, in UTF-16 order
-abbrev pub sought_cmp : List (List ℕ) → List ℕ → List ℕ → Term → Ordering
+abbrev pub sought_cmp : List (List ℕ) → List ℕ → List ℕ → DictionaryTerm → Ordering
 sought_cmp names field text t = ordering_then (text_cmp (name_of names t.info.field) field) (text_cmp t.text text)
 
 -- how many terms are below what is sought

@@ -5,13 +5,13 @@ ghost use Rattle.lu_grammar.specs.Records.{first_broken};
 ghost use Rattle.lu_types.specs.declared.kind.FileKind.TheVariants.{Tii};
 ghost use Rattle.term_dict.specs.Checks.{AreBounded, IsBrokenSo, IsFaultOf, broken_so};
 ghost use Rattle.term_dict.specs.Terms.{no_term, term_after};
-ghost use Rattle.term_dict.specs.Entries.{entry_of, IsBounded};
+ghost use Rattle.term_dict.specs.Entries.{term_record_of, IsBounded};
 ghost use Rattle.term_dict.specs.Dictionary.{Dictionary};
 ghost use Rattle.term_dict.specs.Index.{entry_count, same_intervals, same_info, index_heading_conditions, index_against, index_conditions, indexed_term, indexed_place, IndexProgress, index_kind, no_entries, tii_plan};
 ghost use Rattle.lu_grammar.specs.Plans.{read_plan, read_file, times};
 ghost use Rattle.lu_grammar.specs.Meaning.{Reads};
 ghost use Rattle.term_dict.specs.Walk.{term_passed, next_place};
-ghost use Rattle.term_index.specs.Points.{point_of, IsBoundedPoint, ShareFront, info_after, last_of, wanted_of, progress, IsNextPoint, IsIndexHeader};
+ghost use Rattle.term_index.specs.Points.{index_point_of, IsBoundedPoint, ShareFront, info_after, last_of, wanted_of, progress, IsNextPoint, IsIndexHeader};
 
 use crate::point::{IndexPoint, point_at};
 use crate::walk::{Passed, pass_interval};
@@ -72,7 +72,7 @@ fn is_same_text(a: &[u8], b: &[u8], from: usize) -> bool
 /// Whether an entry says what is wanted, where the last one said this.
 fn is_same_info(last: &TermInfo, entry: &TermEntry<'_>, wanted: &TermInfo) -> bool
     requires { IsBounded entry.now }
-    ensures { result ≡ same_info (info_after last.now (entry_of entry.now)) wanted.now }
+    ensures { result ≡ same_info (info_after last.now (term_record_of entry.now)) wanted.now }
 {
     entry.field == wanted.field
         && entry.doc_freq == wanted.doc_freq
@@ -119,7 +119,7 @@ impl LastPoint {
     ) -> Result<Option<u16>, OutOfMemory>
         requires bounded { IsBoundedPoint point.now }
         requires shared { ShareFront passed.now.shared self.old.text.items cursor.now }
-        ensures rule { IfOk result (λ rule. rule ≡ first_broken (index_against (last_of self.old) self.old.place (point_of point.now) (wanted_of passed.now.info cursor.now) (next_place cursor.now))) }
+        ensures rule { IfOk result (λ rule. rule ≡ first_broken (index_against (last_of self.old) self.old.place (index_point_of point.now) (wanted_of passed.now.info cursor.now) (next_place cursor.now))) }
         ensures good { IfOk result (λ rule. rule ≡ None → (last_of self.new ≡ wanted_of passed.now.info cursor.now) × (self.new.place ≡ next_place cursor.now)) }
     {
         let prefix = point.term.prefix as usize;
@@ -148,7 +148,7 @@ impl LastPoint {
         requires freq { self.old.info.freq + point.now.term.freq < 2 ^ 32 }
         requires prox { self.old.info.prox + point.now.term.prox < 2 ^ 32 }
         requires place { self.old.place + point.now.step < 2 ^ 32 }
-        ensures term { IfOk result (λ _. last_of self.new ≡ term_after (last_of self.old) (entry_of point.now.term)) }
+        ensures term { IfOk result (λ _. last_of self.new ≡ term_after (last_of self.old) (term_record_of point.now.term)) }
         ensures place { IfOk result (λ _. self.new.place ≡ self.old.place + point.now.step) }
     {
         let term = &point.term;

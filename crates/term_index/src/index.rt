@@ -26,14 +26,14 @@ impl<'a> Model for TermIndex<'a> {
     ghost use Rattle.std.specs.Prelude.{◌≡◌, ◌-◌, map};
     ghost use Rattle.term_dict.specs.Index.{entry_count};
     ghost use Rattle.term_index.specs.Seeking.{Searched, searched};
-    ghost use Rattle.term_index.specs.InnerSearch.{IsSearchable, mark_of, marks_to};
+    ghost use Rattle.term_index.specs.InnerSearch.{IsSearchable, index_mark_of, marks_to};
 
     ghost Value = { Searched };
 
     ghost view = { λ i. searched i.cursor.dictionary i.names };
 
     ghost invariant = { λ i. IsSearchable (searched i.cursor.dictionary i.names) × (i.index_interval ≡ i.cursor.dictionary.numbers.index_interval)
-        × (map mark_of i.marks.items ≡ marks_to (searched i.cursor.dictionary i.names) (entry_count i.cursor.dictionary.numbers - 1)) };
+        × (map index_mark_of i.marks.items ≡ marks_to (searched i.cursor.dictionary i.names) (entry_count i.cursor.dictionary.numbers - 1)) };
 }
 
 impl<'a> TermIndex<'a> {

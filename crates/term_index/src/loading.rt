@@ -7,7 +7,7 @@ ghost use Rattle.term_dict.specs.Index.{IndexEntry, index_shape, entry_count, ti
 ghost use Rattle.term_dict.specs.Terms.{term_after};
 ghost use Rattle.term_index.specs.Points.{last_of};
 ghost use Rattle.term_index.specs.Seeking.{searched, name_of};
-ghost use Rattle.term_index.specs.InnerSearch.{IsSearchable, HasEntry, mark_of, marks_to};
+ghost use Rattle.term_index.specs.InnerSearch.{IsSearchable, HasEntry, index_mark_of, marks_to};
 
 use crate::checking::{LastPoint, entry_count};
 use crate::mark::Mark;
@@ -41,7 +41,7 @@ fn mark_of_last<'a>(
     names: &FieldNames<'a>,
 ) -> Result<Mark<'a>, OutOfMemory>
     requires { IsUtf8 last.now.text.items }
-    ensures { IfOk result (λ mark. mark_of mark ≡ record { name = name_of names.now last.now.info.field; term = last_of last.now; place = last.now.place }) }
+    ensures { IfOk result (λ mark. index_mark_of mark ≡ record { name = name_of names.now last.now.info.field; term = last_of last.now; place = last.now.place }) }
 {
     let text = unsafe { str::from_utf8_unchecked(last.text.as_slice()) };
     Ok(Mark {
@@ -61,7 +61,7 @@ pub(crate) fn marks_of<'a>(
 ) -> Result<Vec<Mark<'a>>, OutOfMemory>
     requires index { Reads (tii_plan terms.now) tii.now tt }
     requires terms { IsSearchable (searched terms.now names.now) }
-    ensures { IfOk result (λ marks. map mark_of marks.items ≡ marks_to (searched terms.now names.now) (entry_count terms.now.numbers - 1)) }
+    ensures { IfOk result (λ marks. map index_mark_of marks.items ≡ marks_to (searched terms.now names.now) (entry_count terms.now.numbers - 1)) }
 {
     let numbers = terms.numbers();
     let mut cur = Cur::at(tii, 0);

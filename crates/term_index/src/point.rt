@@ -1,7 +1,8 @@
 ghost use Rattle.std.specs.Prelude.{IfOk};
-ghost use Rattle.term_dict.specs.Entries.{TakesShape};
+ghost use Rattle.lu_grammar.specs.Answers.{Gives};
+ghost use Rattle.lu_grammar.specs.Records.{read_shape};
 ghost use Rattle.term_dict.specs.Index.{index_shape};
-ghost use Rattle.term_index.specs.Points.{point_of, IsBoundedPoint};
+ghost use Rattle.term_index.specs.Points.{index_point_of, IsBoundedPoint};
 
 use lu_prims::{Bad, Cur};
 use term_dict::{TermEntry, entry_at};
@@ -16,7 +17,7 @@ pub(crate) struct IndexPoint<'a> {
 /// The entry that stands at the cursor, which moves behind it; or what is wrong with its first part that has no spelling.
 #[tactic(auto, using(crate::proofs::PointLemmas::reading))]
 pub(crate) fn point_at<'a>(cur: &mut Cur<'a>, skip_interval: u32) -> Result<IndexPoint<'a>, Bad>
-    ensures takes { TakesShape (index_shape skip_interval) point_of cur.old cur.new result }
+    ensures takes { Gives index_point_of (read_shape (index_shape skip_interval) cur.old) cur.new result }
     ensures bounded { IfOk result IsBoundedPoint }
 {
     let term = match entry_at(cur, true, skip_interval) {

@@ -7,7 +7,7 @@ ghost use Rattle.lu_prims.specs.Order.{text_cmp};
 ghost use Rattle.term_dict.specs.Index.{entry_count};
 ghost use Rattle.term_dict.specs.Walk.{walk_to};
 ghost use Rattle.term_index.specs.Seeking.{searched, is_sought, rank, digits, read_up_to, ticked};
-ghost use Rattle.term_index.specs.InnerSearch.{IsSearchable, AreBelow, mark_of, marks_to};
+ghost use Rattle.term_index.specs.InnerSearch.{IsSearchable, AreBelow, index_mark_of, marks_to};
 
 use crate::mark::Mark;
 use crate::names::FieldNames;
@@ -69,7 +69,7 @@ pub(crate) fn enter_interval(
     requires interval { index_interval ≡ cursor.old.dictionary.numbers.index_interval }
     requires number { number ≤ length marks.now }
     requires marks { (names : List (List ℕ)) × IsSearchable (searched cursor.old.dictionary names)
-        × (map mark_of marks.now ≡ marks_to (searched cursor.old.dictionary names) (entry_count cursor.old.dictionary.numbers - 1)) }
+        × (map index_mark_of marks.now ≡ marks_to (searched cursor.old.dictionary names) (entry_count cursor.old.dictionary.numbers - 1)) }
     ensures { cursor.new ≡ walk_to cursor.old.dictionary (number * index_interval) }
 {
     if number == 0 {

@@ -4,6 +4,7 @@ use super::*;
 use lu_prims::{OutOfMemory, Steps};
 use lu_types::{CodecFault, FieldTable, Spot, TermInfo};
 use std::alloc::Global;
+use std::process::Abort;
 use std::test::Fail;
 use term_dict::{TermFile, TermFiles, TermWriter};
 
@@ -191,32 +192,54 @@ fn seeks(rt: HostRuntime) -> Result<(), Fail> {
     Ok(())
 }
 
+/// Seeks each of so many numbered terms, and a text behind each, which is not there; each takes at most so many steps.
+fn seeks_numbered(
+    rt: &impl Abort,
+    alloc: Global,
+    index: &mut TermIndex<'_>,
+    count: u32,
+    most: u64,
+) -> Result<(), OutOfMemory> {
+    for number in 0..count {
+        let text = format!(in alloc; "t0{:03}", number)?;
+        let mut steps: Steps<Compared> = Steps::new();
+        assert_eq!(rt; index.seek("f", text.as_str(), &mut steps), Some(once(number)));
+        assert!(rt; steps.count() <= most);
+        let past = format!(in alloc; "t0{:03}~", number)?;
+        let mut more: Steps<Compared> = Steps::new();
+        assert!(rt; index.seek("f", past.as_str(), &mut more).is_none());
+        assert!(rt; more.count() <= most);
+    }
+    let mut steps: Steps<Compared> = Steps::new();
+    assert!(rt; index.seek("f", "t", &mut steps).is_none());
+    assert!(rt; index.seek("f", "u", &mut steps).is_none());
+    Ok(())
+}
+
+/// Numbered terms with an index of every so many.
+fn seeks_among(
+    rt: &impl Abort,
+    alloc: Global,
+    count: u32,
+    interval: u32,
+    most: u64,
+) -> Result<(), Fail>
+    requires count { count ≤ 1000 }
+    requires some { 1 ≤ interval }
+    requires few { interval ≤ 1000 }
+{
+    let files = numbered(alloc, "t0", count, interval)?;
+    let fields = one_field(alloc)?;
+    let mut index = loaded(alloc, &files, &fields)?;
+    Ok(seeks_numbered(rt, alloc, &mut index, count, most)?)
+}
+
 #[test]
 fn seeks_each(rt: HostRuntime) -> Result<(), Fail> {
     let alloc = rt.alloc();
-    let fields = one_field(alloc)?;
-    for (count, interval, most) in [
-        (1000, 4, 13),
-        (0, 128, 129),
-        (1, 128, 130),
-        (5, 1, 5),
-        (5, 9, 11),
-    ] {
-        let files = numbered(alloc, "t0", count, interval)?;
-        let mut index = loaded(alloc, &files, &fields)?;
-        for number in 0..count {
-            let text = format!(in alloc; "t0{:03}", number)?;
-            let past = format!(in alloc; "t0{:03}~", number)?;
-            let mut steps: Steps<Compared> = Steps::new();
-            assert_eq!(rt; index.seek("f", text.as_str(), &mut steps), Some(once(number)));
-            assert!(rt; steps.count() <= most);
-            let mut steps: Steps<Compared> = Steps::new();
-            assert!(rt; index.seek("f", past.as_str(), &mut steps).is_none());
-            assert!(rt; steps.count() <= most);
-        }
-        let mut steps: Steps<Compared> = Steps::new();
-        assert!(rt; index.seek("f", "t", &mut steps).is_none());
-        assert!(rt; index.seek("f", "u", &mut steps).is_none());
-    }
-    Ok(())
+    seeks_among(&rt, alloc, 1000, 4, 13)?;
+    seeks_among(&rt, alloc, 0, 128, 129)?;
+    seeks_among(&rt, alloc, 1, 128, 130)?;
+    seeks_among(&rt, alloc, 5, 1, 5)?;
+    seeks_among(&rt, alloc, 5, 9, 11)
 }

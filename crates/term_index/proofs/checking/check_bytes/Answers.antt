@@ -6,7 +6,7 @@ use Rattle.lu_types.specs.declared.kind.FileKind.TheVariants.{Tii}
 use Rattle.lu_types.specs.declared.term.TermNumbers.{TermNumbers}
 use Rattle.term_dict.specs.Dictionary.{Dictionary}
 use Rattle.term_dict.specs.Index.{IndexProgress, index_kind, no_entries, entry_count, tii_plan}
-use Rattle.term_dict.specs.Walk.{Walk}
+use Rattle.term_dict.specs.Walk.{TermWalk}
 use Rattle.term_dict.proofs.LoopLemmas.{IsBrokenSo-same, IsBrokenSo-map}
 use Rattle.term_dict.proofs.FileLemmas.{file-read, file-trailing, file-broken}
 use Rattle.term_index.specs.Points.{IsIndexHeader}
@@ -43,7 +43,7 @@ returns-in-Err-clause-err c =
     let bytes = c.args.tii.now in
     let header = subst (λ (o : Option ℕ). IsIndexHeader n c.at-cur.result c.header_at.new.cur o) c.in_default.is c.header_at.ensures in
     IsBrokenSo-map Tii (read_plan (times (index_kind e) (entry_count n) no_entries) c.header_at.new.cur) (read_file (tii_plan d) bytes) c.in-Err.fault
-    (to_fault d e n bytes c.at-cur.result c.header_at.new.cur c.at-cur.ensures c.numbers-numbers.ensures.numbers (ap (λ (w : Walk). w.dictionary) c.in_ok-cursor.ensures) header) c.in-Err.ensures.err
+    (to_fault d e n bytes c.at-cur.result c.header_at.new.cur c.at-cur.ensures c.numbers-numbers.ensures.numbers (ap (λ (w : TermWalk). w.dictionary) c.in_ok-cursor.ensures) header) c.in-Err.ensures.err
 
 pub returns-then-left-gt0-clause-err : goal.returns-then-left-gt0-clause-err
 returns-then-left-gt0-clause-err c =
@@ -53,7 +53,7 @@ returns-then-left-gt0-clause-err c =
     let bytes = c.args.tii.now in
     let header = subst (λ (o : Option ℕ). IsIndexHeader n c.at-cur.result c.header_at.new.cur o) c.in_default.is c.header_at.ensures in
     let ok = c.in_default-check_points.ensures.ok in
-    let read = to_end d e n bytes c.at-cur.result c.header_at.new.cur c.check_points.new.cur ok.0 c.at-cur.ensures c.numbers-numbers.ensures.numbers (ap (λ (w : Walk). w.dictionary) c.in_ok-cursor.ensures) header ok.1 in
+    let read = to_end d e n bytes c.at-cur.result c.header_at.new.cur c.check_points.new.cur ok.0 c.at-cur.ensures c.numbers-numbers.ensures.numbers (ap (λ (w : TermWalk). w.dictionary) c.in_ok-cursor.ensures) header ok.1 in
     IsBrokenSo-same Tii c.place.result number.trailing (read_file (tii_plan d) bytes) c.fault_at-then-left-gt0.result
     (file-trailing (tii_plan d) bytes tt c.check_points.new.cur read (λ none. omega (arith, c.left.ensures, none)) ∙ ap (λ (k : ℕ). Err (record { offset = k; rule = number.trailing })) (sym c.place.ensures))
     c.fault_at-then-left-gt0.ensures
@@ -66,5 +66,5 @@ returns-clause-ok c =
     let bytes = c.args.tii.now in
     let header = subst (λ (o : Option ℕ). IsIndexHeader n c.at-cur.result c.header_at.new.cur o) c.in_default.is c.header_at.ensures in
     let ok = c.in_default-check_points.ensures.ok in
-    let read = to_end d e n bytes c.at-cur.result c.header_at.new.cur c.check_points.new.cur ok.0 c.at-cur.ensures c.numbers-numbers.ensures.numbers (ap (λ (w : Walk). w.dictionary) c.in_ok-cursor.ensures) header ok.1 in
+    let read = to_end d e n bytes c.at-cur.result c.header_at.new.cur c.check_points.new.cur ok.0 c.at-cur.ensures c.numbers-numbers.ensures.numbers (ap (λ (w : TermWalk). w.dictionary) c.in_ok-cursor.ensures) header ok.1 in
     file-read (tii_plan d) bytes tt c.check_points.new.cur read (omega arith)

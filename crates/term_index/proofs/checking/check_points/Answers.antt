@@ -2,9 +2,9 @@ use Rattle.std.proofs.Common.{◌≡◌, ◌*◌, ◌-◌, ℕ, length, take, Op
 use Rattle.lu_grammar.specs.Plans.{read_plan, times}
 use Rattle.lu_types.specs.declared.kind.FileKind.TheVariants.{Tii}
 use Rattle.lu_types.specs.declared.term.TermNumbers.{TermNumbers}
-use Rattle.term_dict.specs.Terms.{Term}
+use Rattle.term_dict.specs.Terms.{DictionaryTerm}
 use Rattle.term_dict.specs.Index.{index_kind, no_entries, entry_count}
-use Rattle.term_dict.specs.Walk.{Walk}
+use Rattle.term_dict.specs.Walk.{TermWalk}
 use Rattle.term_dict.proofs.LoopLemmas.{IsBrokenSo-same}
 use Rattle.term_index.specs.Points.{last_of, wanted_of, progress, IsNextPoint}
 use Rattle.term_index.proofs.PointLoop.{HasPoints-none, HasPoints-more, HasPoints-fault, interval_begins, turn}
@@ -16,12 +16,12 @@ loop-number-init c = HasPoints-none c.args.cur.now (last_of c.new-last.result) c
 pub pass_interval-passed-requires-clause-at : goal.pass_interval-passed-requires-clause-at
 pass_interval-passed-requires-clause-at c =
     let n = c.loop-number.number in
-    ap (λ (w : Walk). w.passed) c.loop-number.invariant.walk ∙ ap (λ (m : TermNumbers). (n - 1) * m.index_interval) (sym c.requires.numbers)
+    ap (λ (w : TermWalk). w.passed) c.loop-number.invariant.walk ∙ ap (λ (m : TermNumbers). (n - 1) * m.index_interval) (sym c.requires.numbers)
 
 pub pass_interval-passed-requires-clause-enough : goal.pass_interval-passed-requires-clause-enough
 pass_interval-passed-requires-clause-enough c =
     let n = c.loop-number.number in
-    let terms = ap (λ (w : Walk). length w.dictionary.terms) c.loop-number.invariant.walk in
+    let terms = ap (λ (w : TermWalk). length w.dictionary.terms) c.loop-number.invariant.walk in
     omega (arith, terms, c.requires.terms, interval_begins c.args.numbers.now n c.requires.bounded (omega (arith, c.entry_count-number-end.ensures)))
 
 pub next_point-requires : goal.next_point-requires
@@ -56,7 +56,7 @@ loop-number-preserved c =
     let next = subst (λ (o : Option ℕ). IsNextPoint d (progress n last place) c.loop-number.cur c.next_point.new.cur o) c.in-Ok-None.field-0-is
     (c.in-Ok-None.ensures.next d n (ap (λ (m : TermNumbers). m.skip_interval) c.requires.numbers) t.wanted_is t.place_is) in
     let good = c.in-Ok-None.ensures.good c.in-Ok-None.field-0-is in
-    HasPoints-more d c.args.cur.now n c.loop-number.cur last place c.loop-number.cursor c.next_point.new.cur (last_of c.next_point.new.last) c.next_point.new.last.place after h next (good.0 ∙ t.wanted_is) (good.1 ∙ t.place_is) t.walk (ap (λ (x : Term). x.text) good.0)
+    HasPoints-more d c.args.cur.now n c.loop-number.cur last place c.loop-number.cursor c.next_point.new.cur (last_of c.next_point.new.last) c.next_point.new.last.place after h next (good.0 ∙ t.wanted_is) (good.1 ∙ t.place_is) t.walk (ap (λ (x : DictionaryTerm). x.text) good.0)
 
 pub returns-clause-ok : goal.returns-clause-ok
 returns-clause-ok c =

@@ -1,4 +1,4 @@
-use Rattle.term_index.specs.Points.{point_of, last_of, wanted_of, progress}
+use Rattle.term_index.specs.Points.{index_point_of, last_of, wanted_of, progress}
 use Rattle.term_dict.specs.Walk.{next_place}
 use Rattle.term_index.proofs.EntryLemmas.{next-judged, next-unread}
 use Rattle.term_index.proofs.checking.next_point.Goals as goal
@@ -9,5 +9,5 @@ returns-in-Err-clause-next c = λ d n k t p.
 
 pub returns-in-Ok-clause-next : goal.returns-in-Ok-clause-next
 returns-in-Ok-clause-next c = λ d n k t p.
-    next-judged d n (last_of c.args.last.now) c.args.last.now.place c.args.cur.now c.point_at.new.cur (point_of c.in-Ok.point) c.args.skip_interval (wanted_of c.args.passed.now.info c.args.cursor.now) (next_place c.args.cursor.now) c.step.result
+    next-judged d n (last_of c.args.last.now) c.args.last.now.place c.args.cur.now c.point_at.new.cur (index_point_of c.in-Ok.point) c.args.skip_interval (wanted_of c.args.passed.now.info c.args.cursor.now) (next_place c.args.cursor.now) c.step.result
     k t p c.in-Ok.ensures.takes c.step.ensures.rule

@@ -3,8 +3,8 @@ use Rattle.std.specs.Str.{IsUtf8}
 use Rattle.lu_grammar.specs.Bytes.{Cursor}
 use Rattle.lu_grammar.specs.Plans.{read_plan, times}
 use Rattle.lu_grammar.proofs.Plans.{ok_of}
-use Rattle.term_dict.specs.declared.numbers.TermNumbers.{TermNumbers}
-use Rattle.term_dict.specs.Terms.{Term}
+use Rattle.lu_types.specs.declared.term.TermNumbers.{TermNumbers}
+use Rattle.term_dict.specs.Terms.{DictionaryTerm}
 use Rattle.term_dict.specs.Index.{index_kind, no_entries, entry_count}
 use Rattle.term_index.specs.declared.mark.Mark.{Mark}
 use Rattle.term_index.specs.Points.{last_of}
@@ -41,7 +41,7 @@ mark_of_last-requires c =
     let next = next_entry_is d c.heading_at.new.cur l.number l.cur (last_of l.last) l.last.place all.0 all.1 lt l.invariant.read in
     let e = c.in_ok-next_entry.ensures in
     let read = entry_read d c.heading_at.new.cur l.number l.cur c.next_entry.new.cur (last_of l.last) l.last.place (last_of c.next_entry.new.last) c.next_entry.new.last.place c.numbers-numbers.result.skip_interval e.0 (ap (λ (m : TermNumbers). m.skip_interval) c.numbers-numbers.ensures.numbers) next e.1 e.2 e.3 in
-    subst (λ (t : Term). IsUtf8 t.text) (sym read.term) (indexed-text s l.number c.requires.terms lt)
+    subst (λ (t : DictionaryTerm). IsUtf8 t.text) (sym read.term) (indexed-text s l.number c.requires.terms lt)
 
 pub loop-number-preserved : goal.loop-number-preserved
 loop-number-preserved c =

@@ -6,12 +6,12 @@ use Rattle.lu_prims.specs.Order.{text_cmp}
 use Rattle.term_index.specs.declared.mark.Mark.{Mark}
 use Rattle.term_index.specs.declared.search.Sought.{Sought}
 use Rattle.term_index.specs.Seeking.{halvings, digits, ticked}
-use Rattle.term_index.specs.InnerSearch.{mark_cmp, mark_of}
+use Rattle.term_index.specs.InnerSearch.{mark_cmp, index_mark_of}
 use Rattle.term_index.proofs.SearchLemmas.{IsHalving, IsHalving-below, IsHalving-above}
 use Rattle.term_index.proofs.search.count_below.Goals as goal
 
 -- what was compared is the entry
-compared : (sought : Sought) (m : Mark) (text : List ℕ) (o : Ordering) (b v : Bool) → o ≡ ordering_then (text_cmp m.name.now sought.field.now) (text_cmp text sought.text.now) → text ≡ m.text → b ≡ is_lt o → b ≡ v → is_lt (mark_cmp sought (mark_of m)) ≡ v
+compared : (sought : Sought) (m : Mark) (text : List ℕ) (o : Ordering) (b v : Bool) → o ≡ ordering_then (text_cmp m.name.now sought.field.now) (text_cmp text sought.text.now) → text ≡ m.text → b ≡ is_lt o → b ≡ v → is_lt (mark_cmp sought (index_mark_of m)) ≡ v
 compared sought m text o b v is at test so = ap (λ (t : List ℕ). is_lt (ordering_then (text_cmp m.name.now sought.field.now) (text_cmp t sought.text.now))) (sym at) ∙ ap is_lt (sym is) ∙ sym test ∙ so
 
 pub loop-left-preserved-then-is_lt : goal.loop-left-preserved-then-is_lt

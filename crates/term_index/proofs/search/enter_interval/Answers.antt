@@ -1,11 +1,11 @@
 use Rattle.std.proofs.Common.{◌≡◌, ℕ, ◌-◌, ◌*◌, List, length, refl, sym, ap, ◌∙◌, arith}
 use Rattle.std.proofs.lemmas.Option.{slice_get_read}
 use Rattle.lu_types.specs.declared.term.TermInfo.{TermInfo}
-use Rattle.term_dict.specs.Terms.{Term}
+use Rattle.term_dict.specs.Terms.{DictionaryTerm}
 use Rattle.term_index.proofs.MarkLemmas.{LeadsTo, leads, number-fits}
 use Rattle.term_index.proofs.search.enter_interval.Goals as goal
 
-abbrev term_with : List ℕ → TermInfo → Term
+abbrev term_with : List ℕ → TermInfo → DictionaryTerm
 term_with text info = record { text = text; info = info }
 
 pub overflow_cast-number : goal.overflow_cast-number

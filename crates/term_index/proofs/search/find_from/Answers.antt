@@ -6,17 +6,17 @@ use Rattle.std.specs.declared.cmp.Ordering.{Ordering}
 use Rattle.std.specs.declared.cmp.Ordering.TheVariants.{Less, Equal, Greater}
 use Rattle.lu_prims.specs.Order.{text_cmp}
 use Rattle.lu_types.specs.declared.term.TermInfo.{TermInfo}
-use Rattle.term_dict.specs.Terms.{Term}
-use Rattle.term_dict.specs.Walk.{Walk, term_passed, passed_on}
+use Rattle.term_dict.specs.Terms.{DictionaryTerm}
+use Rattle.term_dict.specs.Walk.{TermWalk, term_passed, passed_on}
 use Rattle.term_index.specs.Seeking.{Searched, searched, name_of}
 use Rattle.term_index.proofs.SearchLemmas.{IsSearching, IsRead, IsTermAt, passed_term, first_is, IsSearching-more, all_passed, found-first, none-above, none-left, steps-end}
 use Rattle.term_index.proofs.search.find_from.Goals as goal
 
-abbrev term_with : List ℕ → TermInfo → Term
+abbrev term_with : List ℕ → TermInfo → DictionaryTerm
 term_with text info = record { text = text; info = info }
 
 -- what was compared is the term that was read
-read_is : (s : Searched) (field text : List ℕ) (w : Walk) (name there last : List ℕ) (info : TermInfo) (o p : Ordering) → IsTermAt s.dictionary w.passed (term_with last info) → o ≡ ordering_then (text_cmp name field) (text_cmp there text)
+read_is : (s : Searched) (field text : List ℕ) (w : TermWalk) (name there last : List ℕ) (info : TermInfo) (o p : Ordering) → IsTermAt s.dictionary w.passed (term_with last info) → o ≡ ordering_then (text_cmp name field) (text_cmp there text)
     → name ≡ name_of s.names info.field → there ≡ last → o ≡ p → IsRead s field text w (term_with last info) p
 read_is s field text w name there last info o p here is named at so = record {
   here = here;
@@ -42,7 +42,7 @@ pub loop-info-smaller : goal.loop-info-smaller
 loop-info-smaller g c =
     let s = searched c.args.cursor.now.dictionary c.args.names.now in
     let at = passed_term s c.args.sought.now.field.now c.args.sought.now.text.now c.args.steps.now c.args.cursor.now.passed c.loop-info.cursor c.next.new.self c.loop-info.steps c.in-Some.info c.loop-info.invariant c.in-Some.ensures.term c.in-Some.ensures.passed in
-    omega (arith, at.inside, ap (λ (w : Walk). w.passed) c.in-Some.ensures.passed)
+    omega (arith, at.inside, ap (λ (w : TermWalk). w.passed) c.in-Some.ensures.passed)
 
 pub returns-in-Equal-clause-term : goal.returns-in-Equal-clause-term
 returns-in-Equal-clause-term g c =
@@ -58,7 +58,7 @@ returns-in-Equal-clause-term g c =
     let r = read_is s field text w c.name.result.now c.text.result.now (term_passed new).text c.in-Some.info c.compare.result Equal at c.compare.ensures c.name.ensures c.text.ensures c.in-Equal.is in
     let f = first_is s field text first start w c.loop-info.steps t Equal c.loop-info.invariant r refl in
     let named = subst IsUtf8 c.name.ensures c.name.utf8 in
-    ap (option_map (λ (x : Term). x.info)) (sym (found-first s field text first start w c.loop-info.steps t c.requires.terms f named c.requires.texts.0 c.requires.texts.1))
+    ap (option_map (λ (x : DictionaryTerm). x.info)) (sym (found-first s field text first start w c.loop-info.steps t c.requires.terms f named c.requires.texts.0 c.requires.texts.1))
 
 pub returns-in-Equal-clause-steps : goal.returns-in-Equal-clause-steps
 returns-in-Equal-clause-steps g c =
@@ -87,7 +87,7 @@ returns-in-Greater-clause-term g c =
     let at = passed_term s field text first start w new c.loop-info.steps c.in-Some.info c.loop-info.invariant c.in-Some.ensures.term c.in-Some.ensures.passed in
     let r = read_is s field text w c.name.result.now c.text.result.now (term_passed new).text c.in-Some.info c.compare.result Greater at c.compare.ensures c.name.ensures c.text.ensures c.in-Greater.is in
     let f = first_is s field text first start w c.loop-info.steps t Greater c.loop-info.invariant r refl in
-    ap (option_map (λ (x : Term). x.info)) (sym (none-above s field text first start w c.loop-info.steps t c.requires.terms f))
+    ap (option_map (λ (x : DictionaryTerm). x.info)) (sym (none-above s field text first start w c.loop-info.steps t c.requires.terms f))
 
 pub returns-in-Greater-clause-steps : goal.returns-in-Greater-clause-steps
 returns-in-Greater-clause-steps g c =
@@ -110,7 +110,7 @@ returns-clause-term g c =
     let text = c.args.sought.now.text.now in
     let h = c.loop-info.invariant in
     let all = all_passed s field text c.args.steps.now c.args.cursor.now.passed c.loop-info.cursor c.loop-info.steps h c.in_default.ensures.term in
-    ap (option_map (λ (x : Term). x.info)) (sym (none-left s field text c.args.steps.now c.args.cursor.now.passed c.loop-info.cursor c.loop-info.steps c.requires.terms h all))
+    ap (option_map (λ (x : DictionaryTerm). x.info)) (sym (none-left s field text c.args.steps.now c.args.cursor.now.passed c.loop-info.cursor c.loop-info.steps c.requires.terms h all))
 
 pub returns-clause-steps : goal.returns-clause-steps
 returns-clause-steps g c =

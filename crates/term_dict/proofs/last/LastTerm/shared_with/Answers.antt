@@ -1,6 +1,6 @@
 use Rattle.std.proofs.Common.{◌≡◌, ℕ, ◌+◌, List, drop, sym, ap, ◌∙◌}
 use Rattle.term_dict.specs.Canonical.{shared}
-use Rattle.term_dict.specs.Entries.{entry_of}
+use Rattle.term_dict.specs.Entries.{term_record_of}
 use Rattle.term_dict.proofs.SpellingLemmas.{shared-prefix}
 use Rattle.term_dict.proofs.last.LastTerm.shared_with.Goals as goal
 

@@ -3,14 +3,14 @@ use Rattle.std.specs.Str.{IsUtf8, is_utf8}
 use Rattle.std.proofs.lemmas.Str.{IsUtf8-from_is_utf8}
 use Rattle.lu_grammar.specs.Records.{first_broken}
 use Rattle.lu_types.specs.declared.term.TermInfo.{TermInfo}
-use Rattle.term_dict.specs.Entries.{entry_of}
-use Rattle.term_dict.specs.Terms.{Term, term_after}
-use Rattle.term_dict.specs.Dictionary.{within, place_conditions}
-use Rattle.term_dict.specs.Last.{term_of}
+use Rattle.term_dict.specs.Entries.{term_record_of}
+use Rattle.term_dict.specs.Terms.{DictionaryTerm, term_after}
+use Rattle.term_dict.specs.Dictionary.{within, term_place_conditions}
+use Rattle.term_dict.specs.Last.{term_of_last}
 use Rattle.term_dict.proofs.ConditionLemmas.{standing-broken, standing-good}
 use Rattle.term_dict.proofs.last.LastTerm.step.Goals as goal
 
-abbrev term_with : List ℕ → TermInfo → Term
+abbrev term_with : List ℕ → TermInfo → DictionaryTerm
 term_with text info = record { text = text; info = info }
 
 -- the text that was made is UTF-8
@@ -19,8 +19,8 @@ valid_text text shared valid e test so = ap is_utf8 (sym e) ∙ sym test ∙ so
 
 pub returns-in-Some-clause-rule : goal.returns-in-Some-clause-rule
 returns-in-Some-clause-rule c = λ before is first.
-    let last = term_of c.args.self.now in
-    let e = entry_of c.args.entry.now in
+    let last = term_of_last c.args.self.now in
+    let e = term_record_of c.args.entry.now in
     let made = c.in_ok-set_text.ensures.text in
     let valid : is_utf8 (take e.prefix last.text ++ e.suffix) ≡ true = valid_text _ _ _ made.0 made.1 c.if-not-branch.false in
     let text : IsUtf8 (take e.prefix last.text ++ e.suffix) = IsUtf8-from_is_utf8 _ valid in
@@ -29,19 +29,19 @@ returns-in-Some-clause-rule c = λ before is first.
 
 pub returns-clause-rule : goal.returns-clause-rule
 returns-clause-rule c = λ before is first.
-    let last = term_of c.args.self.now in
-    let e = entry_of c.args.entry.now in
+    let last = term_of_last c.args.self.now in
+    let e = term_record_of c.args.entry.now in
     let made = c.in_ok-set_text.ensures.text in
     let valid : is_utf8 (take e.prefix last.text ++ e.suffix) ≡ true = valid_text _ _ _ made.0 made.1 c.if-not-branch.false in
     let text : IsUtf8 (take e.prefix last.text ++ e.suffix) = IsUtf8-from_is_utf8 _ valid in
     c.set_info.ensures.rule
-    ∙ ap (λ (i : TermInfo). first_broken (place_conditions (term_after (term_with last.text i) e))) c.in_ok-set_text.ensures.info
+    ∙ ap (λ (i : TermInfo). first_broken (term_place_conditions (term_after (term_with last.text i) e))) c.in_ok-set_text.ensures.info
     ∙ sym (standing-good (within c.args.fields.now c.args.documents) before e last is (omega arith) valid (sym (c.standing_rule.ensures before (term_after last e) refl refl (c.is_below-above.ensures before is first text)) ∙ c.in_default.is))
 
 pub returns-clause-good : goal.returns-clause-good
 returns-clause-good c = λ none.
-    let last = term_of c.args.self.now in
-    let e = entry_of c.args.entry.now in
+    let last = term_of_last c.args.self.now in
+    let e = term_record_of c.args.entry.now in
     let made = c.in_ok-set_text.ensures.text in
     let valid : is_utf8 (take e.prefix last.text ++ e.suffix) ≡ true = valid_text _ _ _ made.0 made.1 c.if-not-branch.false in
     let good = c.set_info.ensures.good none in

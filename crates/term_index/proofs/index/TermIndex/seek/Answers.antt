@@ -1,16 +1,16 @@
 use Rattle.std.proofs.Common.{◌≡◌, ◌≤◌, ℕ, ◌+◌, ◌-◌, ◌*◌, List, length, map, sym, ap, subst, ◌∙◌, arith}
 use Rattle.term_dict.specs.Dictionary.{Dictionary}
 use Rattle.term_dict.specs.Index.{entry_count}
-use Rattle.term_dict.specs.Walk.{Walk}
+use Rattle.term_dict.specs.Walk.{TermWalk}
 use Rattle.term_index.specs.declared.mark.Mark.{Mark}
 use Rattle.term_index.specs.declared.search.Sought.{Sought}
 use Rattle.term_index.specs.Seeking.{Searched, searched, rank, interval_of, digits, read_up_to, seek_steps, most_steps, ticked}
-use Rattle.term_index.specs.InnerSearch.{IsSearchable, AreBelow, mark_of, marks_to}
+use Rattle.term_index.specs.InnerSearch.{IsSearchable, AreBelow, index_mark_of, marks_to}
 use Rattle.term_index.proofs.MarkLemmas.{below-marks, interval-before, steps-few, steps-all}
 use Rattle.term_index.proofs.index.TermIndex.seek.Goals as goal
 
 -- the entries that are below, as a slice
-below-slice : (s : Searched) (sought : Sought) (marks slice : List Mark) → slice ≡ marks → IsSearchable s → map mark_of marks ≡ marks_to s (entry_count s.dictionary.numbers - 1) → AreBelow sought slice (interval_of s.dictionary (rank s sought.field.now sought.text.now))
+below-slice : (s : Searched) (sought : Sought) (marks slice : List Mark) → slice ≡ marks → IsSearchable s → map index_mark_of marks ≡ marks_to s (entry_count s.dictionary.numbers - 1) → AreBelow sought slice (interval_of s.dictionary (rank s sought.field.now sought.text.now))
 below-slice s sought marks slice is h kept = subst (λ (ms : List Mark). AreBelow sought ms (interval_of s.dictionary (rank s sought.field.now sought.text.now))) (sym is) (below-marks s sought marks h kept)
 
 pub enter_interval-requires-clause-number : goal.enter_interval-requires-clause-number
@@ -35,15 +35,15 @@ find_from-requires-clause-before g c =
     let before = interval-before d (rank s field text) (omega (arith, c.self.invariant.0.bounded.index_interval.0)) in
     let at : c.count_below-number.result * i.index_interval ≡ interval_of d (rank s field text) * d.numbers.index_interval = ap (λ (k : ℕ). k * i.index_interval) number ∙ ap (λ (k : ℕ). interval_of d (rank s field text) * k) c.self.invariant.1 in
     let le : c.count_below-number.result * i.index_interval ≤ rank s field text = omega (arith, at, before) in
-    subst (λ (w : Walk). w.passed ≤ rank (searched w.dictionary i.names) field text) (sym c.enter_interval.ensures) le
+    subst (λ (w : TermWalk). w.passed ≤ rank (searched w.dictionary i.names) field text) (sym c.enter_interval.ensures) le
 
 -- the steps of both parts
-steps : (d : Dictionary) (names : List (List ℕ)) (field text : List ℕ) (marks slice : List Mark) (first between last number interval : ℕ) (w : Walk) → map mark_of marks ≡ marks_to (searched d names) (entry_count d.numbers - 1) → slice ≡ marks
+steps : (d : Dictionary) (names : List (List ℕ)) (field text : List ℕ) (marks slice : List Mark) (first between last number interval : ℕ) (w : TermWalk) → map index_mark_of marks ≡ marks_to (searched d names) (entry_count d.numbers - 1) → slice ≡ marks
     → number ≡ interval_of d (rank (searched d names) field text) → interval ≡ d.numbers.index_interval → w ≡ record { dictionary = d; passed = number * interval } → between ≡ ticked (digits (length slice)) first
     → last ≡ ticked (read_up_to w.dictionary (rank (searched w.dictionary names) field text) - w.passed) between → last ≡ ticked (seek_steps (searched d names) field text) first
 steps d names field text marks slice first between last number interval w kept is there same at begun_at ended_at =
     steps-all (searched d names) field text marks first between last number (number * interval) kept there (ap (λ (k : ℕ). number * k) same) (begun_at ∙ ap (λ (ms : List Mark). ticked (digits (length ms)) first) is)
-    (subst (λ (x : Walk). last ≡ ticked (read_up_to x.dictionary (rank (searched x.dictionary names) field text) - x.passed) between) at ended_at)
+    (subst (λ (x : TermWalk). last ≡ ticked (read_up_to x.dictionary (rank (searched x.dictionary names) field text) - x.passed) between) at ended_at)
 
 pub returns-clause-steps : goal.returns-clause-steps
 returns-clause-steps g c =

@@ -6,7 +6,7 @@ use Rattle.std.specs.Ordering.{nat_cmp}
 use Rattle.lu_grammar.specs.Bytes.{IsBytes}
 use Rattle.lu_prims.specs.Order.{text_cmp}
 use Rattle.lu_types.specs.Bits.{has_bit}
-use Rattle.lu_types.specs.Documents.{IsStored, content_of}
+use Rattle.lu_types.specs.Documents.{IsStored, stored_bytes}
 use Rattle.lu_types.specs.Tables.{TableField, IsTable}
 use Rattle.lu_types.specs.Bits as bit
 use Rattle.lu_types.specs.declared.stored.Stored.{Stored}
@@ -20,7 +20,7 @@ IsSmall n = n < 2 ^ 31
 
 -- a text or bytes of a length that files can hold
 abbrev pub IsStorable : Stored → Type 0
-IsStorable value = IsStored value × IsSmall (length (content_of value))
+IsStorable value = IsStored value × IsSmall (length (stored_bytes value))
 
 -- occurrences in a field with these bits: at least one, positions do not fall, and payloads only where the field has them
 pub record AreOccurrences (bits : ℕ) (occurrences : List Occurrence) : Type 0 where

@@ -10,9 +10,9 @@ use Rattle.lu_types.specs.declared.stored.Stored.TheVariants.{Text, Binary}
 use Rattle.lu_types.specs.declared.stored.StoredValue.{StoredValue}
 
 -- the bytes of what is stored
-abbrev pub content_of : Stored → List ℕ
-content_of (Text text) = text
-content_of (Binary bytes) = bytes
+abbrev pub stored_bytes : Stored → List ℕ
+stored_bytes (Text text) = text
+stored_bytes (Binary bytes) = bytes
 
 -- what is stored is a text, or bytes
 abbrev pub IsStored : Stored → Type 0

@@ -19,11 +19,11 @@ pub enum Stored {
 }
 
 impl Stored {
-    ghost use Rattle.lu_types.specs.Documents.{IsStored, content_of};
+    ghost use Rattle.lu_types.specs.Documents.{IsStored, stored_bytes};
 
     /// The bytes of what is stored, lent: those of the text, or the bytes themselves.
     pub fn as_bytes(&self) -> &[u8]
-        ensures same { result.now ≡ content_of self.now }
+        ensures same { result.now ≡ stored_bytes self.now }
         ensures stored { IsStored self.now }
     {
         match self {

@@ -5,7 +5,7 @@ use Rattle.std.specs.Prelude.{slice_index_or}
 use Rattle.std.proofs.lemmas.Bool.{eq-eqb, ne_eqb}
 use Rattle.std.proofs.Math.Nat.{pow-suc, div-div-eq-div-mul, zero-div}
 use Rattle.lu_grammar.specs.Bytes.{Cursor, place_in}
-use Rattle.freq_skips.specs.declared.rules.Term.{Term}
+use Rattle.freq_skips.specs.declared.rules.RuledTerm.{RuledTerm}
 use Rattle.freq_skips.specs.declared.datum.Point.{Point}
 use Rattle.freq_skips.specs.declared.following.Following.{Following}
 use Rattle.freq_skips.specs.Entries.{Posting}
@@ -15,12 +15,12 @@ use Rattle.freq_skips.proofs.LevelLemmas.{Follows-none}
 use Rattle.freq_skips.proofs.Powers.{quotient-next, quotient-same, quotient-below}
 
 -- a level has as many data as the one below has multiples of the interval
-pub data_count-above : (t : Term) (n : ℕ) → data_count t n / t.rules.skip_interval ≡ data_count t (suc n)
+pub data_count-above : (t : RuledTerm) (n : ℕ) → data_count t n / t.rules.skip_interval ≡ data_count t (suc n)
 data_count-above t n =
     let s = t.rules.skip_interval in div-div-eq-div-mul t.info.doc_freq (s ^ suc n) s ∙ ap (λ (k : ℕ). t.info.doc_freq / k) (sym (pow-suc s (suc n)))
 
 -- the next datum of the level below is none that the level above leads to
-pub above-skips : (t : Term) (postings : List Posting) (level : ℕ) (points : List (List Point)) (passed : ℕ) (o : Option Following) (f : Following) → o ≡ Some f → 2 ≤ t.rules.skip_interval → (passed + 1) % t.rules.skip_interval ≢ 0
+pub above-skips : (t : RuledTerm) (postings : List Posting) (level : ℕ) (points : List (List Point)) (passed : ℕ) (o : Option Following) (f : Following) → o ≡ Some f → 2 ≤ t.rules.skip_interval → (passed + 1) % t.rules.skip_interval ≢ 0
     → FollowsAbove t postings level points passed o → (None ≡ child_above t points (suc passed)) × FollowsAbove t postings level points (suc passed) (Some f)
 above-skips t postings level points passed o f is two ne h = go points (subst (λ (x : Option Following). FollowsAbove t postings level points passed x) is h)
   where
@@ -31,7 +31,7 @@ above-skips t postings level points passed o f is two ne h = go points (subst (�
         (rw test refl, record { stated = h.stated; begin = h.begin; end = h.end; all = h.all; follows = h.follows; number = h.number ∙ sym (quotient-same passed t.rules.skip_interval (omega arith) ne) })
 
 -- where it is one, there is a datum above to take
-pub above-has : (t : Term) (postings : List Posting) (level n : ℕ) (points : List Point) (rest : List (List Point)) (passed : ℕ) (f : Following) → level ≡ suc n → 2 ≤ t.rules.skip_interval → (passed + 1) % t.rules.skip_interval ≡ 0
+pub above-has : (t : RuledTerm) (postings : List Posting) (level n : ℕ) (points : List Point) (rest : List (List Point)) (passed : ℕ) (f : Following) → level ≡ suc n → 2 ≤ t.rules.skip_interval → (passed + 1) % t.rules.skip_interval ≡ 0
     → passed < data_count t n → FollowsPoints t postings level points rest passed f → f.count < data_count t level
 above-has t postings level n points rest passed f is two e lt h =
     let s = t.rules.skip_interval in
@@ -39,12 +39,12 @@ above-has t postings level n points rest passed f is two e lt h =
     subst (λ (k : ℕ). f.count < data_count t k) (sym is) (subst (λ (k : ℕ). f.count < k) (data_count-above t n) (subst (λ (k : ℕ). k < data_count t n / s) (sym h.number) below))
 
 -- and its child pointer is the one that is wanted
-abbrev TakesAbove : Term → List Posting → ℕ → Following → Following → Type 0
+abbrev TakesAbove : RuledTerm → List Posting → ℕ → Following → Following → Type 0
 TakesAbove t postings level f g = (stated : Option ℕ) (above : List (List Point)) (begin : Cursor) (points : List Point) (end : Cursor) → AreData t postings (level_of level stated above) begin points end
     → Follows t postings (level_of level stated above) begin f.count f.last f.cur → f.count < data_count t level
     → Passes t postings (level_of level stated above) begin points f.count g.last g.cur × (g.count ≡ f.count + 1)
 
-pub above-passes : (t : Term) (postings : List Posting) (level n : ℕ) (points : List (List Point)) (passed : ℕ) (o : Option Following) (f g : Following) → o ≡ Some f → level ≡ suc n → 2 ≤ t.rules.skip_interval
+pub above-passes : (t : RuledTerm) (postings : List Posting) (level n : ℕ) (points : List (List Point)) (passed : ℕ) (o : Option Following) (f g : Following) → o ≡ Some f → level ≡ suc n → 2 ≤ t.rules.skip_interval
     → (passed + 1) % t.rules.skip_interval ≡ 0 → passed < data_count t n → TakesAbove t postings level f g → FollowsAbove t postings level points passed o
     → (Some g.last.child ≡ child_above t points (suc passed)) × FollowsAbove t postings level points (suc passed) (Some g)
 above-passes t postings level n points passed o f g is at two e lt takes h = go points (subst (λ (x : Option Following). FollowsAbove t postings level points passed x) is h)
@@ -71,7 +71,7 @@ above-passes t postings level n points passed o f g is at two e lt takes h = go 
         )
 
 -- before the first datum
-pub above-starts : (t : Term) (postings : List Posting) (level : ℕ) (points : List (List Point)) (frq : List ℕ) (o : Option ℕ) (r : Option Following)
+pub above-starts : (t : RuledTerm) (postings : List Posting) (level : ℕ) (points : List (List Point)) (frq : List ℕ) (o : Option ℕ) (r : Option Following)
     → r ≡ option_map (λ place. record { cur = place_in frq place; count = 0; last = no_point }) o → StandAbove t postings level points frq o → FollowsAbove t postings level points 0 r
 above-starts t postings level points frq o r is h = subst (λ (x : Option Following). FollowsAbove t postings level points 0 x) (sym is) (go points o h)
   where

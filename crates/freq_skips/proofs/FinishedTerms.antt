@@ -4,7 +4,7 @@ use Rattle.std.specs.Prelude.{if◌then◌else◌, slice_index, slice_index_or}
 use Rattle.std.proofs.lemmas.Bool.{cases_eq, eq-eqb, ne_eqb}
 use Rattle.std.proofs.lemmas.List.{length-append, append-nil}
 use Rattle.std.proofs.Math.Nat.{div-div-eq-div-mul, div-mul-le_self, mul-le-mul_right, mul-le-mul_left, mul_assoc, mul_comm, pow-suc, pow-zero}
-use Rattle.freq_skips.specs.declared.rules.Term.{Term}
+use Rattle.freq_skips.specs.declared.rules.RuledTerm.{RuledTerm}
 use Rattle.freq_skips.specs.declared.datum.Point.{Point}
 use Rattle.freq_skips.specs.declared.writer.Mark.{Mark}
 use Rattle.freq_skips.specs.Entries.{Posting, no_posting, no_entry, entries}
@@ -102,7 +102,7 @@ mark-small documents omit handed a order prox lt small =
 -- ---- a level of the marks
 
 -- a level of a term that was handed over
-pub record IsRise (t : Term) (handed : List Handed) (r : Rise) : Type 0 where
+pub record IsRise (t : RuledTerm) (handed : List Handed) (r : Rise) : Type 0 where
   pub interval : r.interval ≡ t.rules.skip_interval
   pub payloads : r.payloads ≡ t.rules.payloads
   pub step : r.step * t.rules.skip_interval ≡ stride t r.number
@@ -112,7 +112,7 @@ pub record IsRise (t : Term) (handed : List Handed) (r : Rise) : Type 0 where
   pub children_small : (m : ℕ) → slice_index r.children m < 2 ^ 63
 
 -- what a term that was handed over is to be
-pub record IsHandedOver (t : Term) (handed : List Handed) : Type 0 where
+pub record IsHandedOver (t : RuledTerm) (handed : List Handed) : Type 0 where
   pub two : 2 ≤ t.rules.skip_interval
   pub doc_freq : t.info.doc_freq ≡ length handed
   pub order : AreInOrder t.rules.documents true 0 handed
@@ -133,26 +133,26 @@ entry-index m step s stride pos is =
     let whole : suc (suc m * step - 1) ≡ suc m * step = omega arith in
     ap (λ (n : ℕ). n * s - 1) whole ∙ ap (λ (n : ℕ). n - 1) (mul_assoc (suc m) step s ∙ ap (λ (n : ℕ). suc m * n) is)
 
-mark-at : (t : Term) (handed : List Handed) (r : Rise) (m : ℕ) → IsRise t handed r → m < rise_count r → mark_after r (suc m) ≡ mark_of t.rules.omit_tf handed (suc m * stride t r.number - 1)
+mark-at : (t : RuledTerm) (handed : List Handed) (r : Rise) (m : ℕ) → IsRise t handed r → m < rise_count r → mark_after r (suc m) ≡ mark_of t.rules.omit_tf handed (suc m * stride t r.number - 1)
 mark-at t handed r m h lt =
     let never : eqb (suc m) 0 ≡ false = ne_eqb _ _ (λ z. absurd (omega arith)) in
     rw never (h.marks (suc m * r.step - 1) (mark-index m r.step (length r.marks) h.step_pos lt)
     ∙ ap (λ (n : ℕ). mark_of t.rules.omit_tf handed n) (entry-index m r.step t.rules.skip_interval (stride t r.number) h.step_pos h.step))
 
-rise-count : (t : Term) (handed : List Handed) (r : Rise) → IsHandedOver t handed → IsRise t handed r → rise_count r ≡ data_count t r.number
+rise-count : (t : RuledTerm) (handed : List Handed) (r : Rise) → IsHandedOver t handed → IsRise t handed r → rise_count r ≡ data_count t r.number
 rise-count t handed r o h =
     ap (λ (n : ℕ). n / r.step) (h.mark_count ∙ ap (λ (n : ℕ). n / t.rules.skip_interval) (sym o.doc_freq))
     ∙ div-div-eq-div-mul t.info.doc_freq t.rules.skip_interval r.step ∙ ap (λ (n : ℕ). t.info.doc_freq / n) (mul_comm t.rules.skip_interval r.step ∙ h.step)
 
 -- the entry of a datum is one of the term
-entry-within : (t : Term) (handed : List Handed) (r : Rise) (m : ℕ) → IsHandedOver t handed → IsRise t handed r → m < rise_count r → suc m * stride t r.number - 1 < length handed
+entry-within : (t : RuledTerm) (handed : List Handed) (r : Rise) (m : ℕ) → IsHandedOver t handed → IsRise t handed r → m < rise_count r → suc m * stride t r.number - 1 < length handed
 entry-within t handed r m o h lt =
     let s2 = stride-two t.rules.skip_interval r.number o.two in
     let in_count : m < data_count t r.number = subst (λ (n : ℕ). m < n) (rise-count t handed r o h) lt in
     let within = mark-index m (stride t r.number) t.info.doc_freq (omega arith) in_count in
     omega (arith, o.doc_freq)
 
-step-up : (t : Term) (handed : List Handed) (r : Rise) (m : ℕ) → IsHandedOver t handed → IsRise t handed r → m < rise_count r → IsUpTo (mark_after r m) (mark_after r (suc m))
+step-up : (t : RuledTerm) (handed : List Handed) (r : Rise) (m : ℕ) → IsHandedOver t handed → IsRise t handed r → m < rise_count r → IsUpTo (mark_after r m) (mark_after r (suc m))
 step-up t handed r zero o h lt = (omega arith, omega arith, omega arith)
 step-up t handed r (suc m) o h lt =
     let st = stride t r.number in
@@ -164,7 +164,7 @@ step-up t handed r (suc m) o h lt =
 no-prox : (omit : Bool) (handed : List Handed) (k : ℕ) → omit ≡ true → (mark_of omit handed k).prox ≡ 0
 no-prox omit handed k e = rw e refl
 
-pub Leads-rise : (t : Term) (handed : List Handed) (r : Rise) → IsHandedOver t handed → IsRise t handed r → length (data_bytes r (rise_count r)) < 2 ^ 63 → Leads t (written_postings t.rules.omit_tf t.info.freq 0 handed) r
+pub Leads-rise : (t : RuledTerm) (handed : List Handed) (r : Rise) → IsHandedOver t handed → IsRise t handed r → length (data_bytes r (rise_count r)) < 2 ^ 63 → Leads t (written_postings t.rules.omit_tf t.info.freq 0 handed) r
 Leads-rise t handed r o h small =
     let omit = t.rules.omit_tf in
     let index = λ (m : ℕ). suc m * stride t r.number - 1 in
@@ -209,7 +209,7 @@ with_length-more : (n : ℕ) (bytes : List ℕ) → length bytes ≤ length (wit
 with_length-more zero bytes = omega arith
 with_length-more (suc n) bytes = omega (arith, length-append (spelling vlong (length bytes)) bytes)
 
-IsRise-risen : (t : Term) (handed : List Handed) (r : Rise) → IsHandedOver t handed → IsRise t handed r → length (data_bytes r (rise_count r)) < 2 ^ 63 → IsRise t handed (risen r)
+IsRise-risen : (t : RuledTerm) (handed : List Handed) (r : Rise) → IsHandedOver t handed → IsRise t handed r → length (data_bytes r (rise_count r)) < 2 ^ 63 → IsRise t handed (risen r)
 IsRise-risen t handed r o h small = record {
   interval = h.interval;
   payloads = h.payloads;
@@ -220,7 +220,7 @@ IsRise-risen t handed r o h small = record {
   children_small = λ m. let within = places-within r (rise_count r) (length (data_bytes r (rise_count r))) (omega arith) m in omega arith;
 }
 
-pub AllLead-rise : (t : Term) (handed : List Handed) (k : ℕ) (r : Rise) → IsHandedOver t handed → IsRise t handed r → length (skip_bytes k r) < 2 ^ 63 → AllLead t (written_postings t.rules.omit_tf t.info.freq 0 handed) k r
+pub AllLead-rise : (t : RuledTerm) (handed : List Handed) (k : ℕ) (r : Rise) → IsHandedOver t handed → IsRise t handed r → length (skip_bytes k r) < 2 ^ 63 → AllLead t (written_postings t.rules.omit_tf t.info.freq 0 handed) k r
 AllLead-rise t handed zero r o h small = tt
 AllLead-rise t handed (suc k) r o h small =
     let bytes = data_bytes r (rise_count r) in
@@ -308,13 +308,13 @@ Writes-term w written handed documents field prox skip f =
 
 -- ---- where its data lead
 
-found-at : (k : ℕ) (r : Rise) (place n : ℕ) → n < k → (base : ℕ) × (other : Rise) × (other.number ≡ r.number + n) × (get_or (found_points k r place) n [] ≡ written_points other base (rise_count other)) × ((t : Term) (handed : List Handed) → IsHandedOver t handed → IsRise t handed r → length (skip_bytes k r) < 2 ^ 63 → IsRise t handed other)
+found-at : (k : ℕ) (r : Rise) (place n : ℕ) → n < k → (base : ℕ) × (other : Rise) × (other.number ≡ r.number + n) × (get_or (found_points k r place) n [] ≡ written_points other base (rise_count other)) × ((t : RuledTerm) (handed : List Handed) → IsHandedOver t handed → IsRise t handed r → length (skip_bytes k r) < 2 ^ 63 → IsRise t handed other)
 found-at zero r place n lt = absurd (omega arith)
 found-at (suc k) r place zero lt = (base_for r.number (place + length (skip_bytes k (risen r))) (data_bytes r (rise_count r)), r, omega arith, refl, λ t handed o h small. h)
 found-at (suc k) r place (suc n) lt = go (found-at k (risen r) place n (omega arith))
   where
-    go : ((base : ℕ) × (other : Rise) × (other.number ≡ suc r.number + n) × (get_or (found_points k (risen r) place) n [] ≡ written_points other base (rise_count other)) × ((t : Term) (handed : List Handed) → IsHandedOver t handed → IsRise t handed (risen r) → length (skip_bytes k (risen r)) < 2 ^ 63 → IsRise t handed other))
-        → (base : ℕ) × (other : Rise) × (other.number ≡ r.number + suc n) × (get_or (found_points (suc k) r place) (suc n) [] ≡ written_points other base (rise_count other)) × ((t : Term) (handed : List Handed) → IsHandedOver t handed → IsRise t handed r → length (skip_bytes (suc k) r) < 2 ^ 63 → IsRise t handed other)
+    go : ((base : ℕ) × (other : Rise) × (other.number ≡ suc r.number + n) × (get_or (found_points k (risen r) place) n [] ≡ written_points other base (rise_count other)) × ((t : RuledTerm) (handed : List Handed) → IsHandedOver t handed → IsRise t handed (risen r) → length (skip_bytes k (risen r)) < 2 ^ 63 → IsRise t handed other))
+        → (base : ℕ) × (other : Rise) × (other.number ≡ r.number + suc n) × (get_or (found_points (suc k) r place) (suc n) [] ≡ written_points other base (rise_count other)) × ((t : RuledTerm) (handed : List Handed) → IsHandedOver t handed → IsRise t handed r → length (skip_bytes (suc k) r) < 2 ^ 63 → IsRise t handed other)
     go (base, other, number, is, rise) = (
       base,
       other,
@@ -331,11 +331,11 @@ found-at (suc k) r place (suc n) lt = go (found-at k (risen r) place n (omega ar
 mark-leads : (r : Rise) (base m : ℕ) (k : Mark) → mark_after r (suc m) ≡ k → LeadsTo (written_point r base m) k
 mark-leads r base m k is = (ap (λ (x : Mark). x.doc) is, ap (λ (x : Mark). x.freq) is, ap (λ (x : Mark). x.prox) is, refl)
 
-leads-at : (t : Term) (handed : List Handed) (k : ℕ) (r : Rise) (place n m : ℕ) → IsHandedOver t handed → IsRise t handed r → length (skip_bytes k r) < 2 ^ 63 → n < k → r.number ≡ 0 → m < data_count t n
+leads-at : (t : RuledTerm) (handed : List Handed) (k : ℕ) (r : Rise) (place n m : ℕ) → IsHandedOver t handed → IsRise t handed r → length (skip_bytes k r) < 2 ^ 63 → n < k → r.number ≡ 0 → m < data_count t n
     → LeadsTo (slice_index_or (slice_index_or (found_points k r place) n []) m no_point) (mark_of t.rules.omit_tf handed (suc m * stride t n - 1))
 leads-at t handed k r place n m o h small below zero_is lt = go (found-at k r place n below)
   where
-    go : ((base : ℕ) × (other : Rise) × (other.number ≡ r.number + n) × (get_or (found_points k r place) n [] ≡ written_points other base (rise_count other)) × ((t : Term) (handed : List Handed) → IsHandedOver t handed → IsRise t handed r → length (skip_bytes k r) < 2 ^ 63 → IsRise t handed other))
+    go : ((base : ℕ) × (other : Rise) × (other.number ≡ r.number + n) × (get_or (found_points k r place) n [] ≡ written_points other base (rise_count other)) × ((t : RuledTerm) (handed : List Handed) → IsHandedOver t handed → IsRise t handed r → length (skip_bytes k r) < 2 ^ 63 → IsRise t handed other))
         → LeadsTo (slice_index_or (slice_index_or (found_points k r place) n []) m no_point) (mark_of t.rules.omit_tf handed (suc m * stride t n - 1))
     go (base, other, number, is, rise) =
         let own = rise t handed o h small in

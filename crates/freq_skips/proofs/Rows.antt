@@ -7,12 +7,12 @@ use Rattle.lu_grammar.specs.Reading.{read, read_groups}
 use Rattle.lu_grammar.specs.Records.{record_at}
 use Rattle.lu_grammar.specs.Plans.{each, read_plan, Broken}
 use Rattle.freq_skips.specs.declared.datum.Point.{Point}
-use Rattle.freq_skips.specs.declared.rules.Term.{Term}
+use Rattle.freq_skips.specs.declared.rules.RuledTerm.{RuledTerm}
 use Rattle.freq_skips.specs.Entries.{Posting}
 use Rattle.freq_skips.specs.Levels.{greatest_power, levels}
 use Rattle.freq_skips.specs.Terms.{TermData, term_plan}
 
-term : Bool → ℕ → ℕ → ℕ → ℕ → Term
+term : Bool → ℕ → ℕ → ℕ → ℕ → RuledTerm
 term omit doc_freq skip interval most = record {
   info = record { field = 0; doc_freq = doc_freq; freq = 0; prox = 0; skip = skip };
   rules = record { documents = 100; skip_interval = interval; max_levels = most; omit_tf = omit; payloads = false };
@@ -23,7 +23,7 @@ end : Result (TermData × Cursor) Broken → Result ℕ Broken
 end (Ok x) = Ok x.1.place
 end (Err b) = Err b
 
-tried : Term → List ℕ → Result ℕ Broken
+tried : RuledTerm → List ℕ → Result ℕ Broken
 tried t bytes = end (read_plan (term_plan t) (start_of bytes))
 
 fault : ℕ → ℕ → Result ℕ Broken

@@ -13,7 +13,7 @@ use Rattle.lu_grammar.specs.Records.{Shape, Condition, record_at}
 use Rattle.lu_grammar.specs.Plans.{Plan, due, broken_at, read_plan}
 use Rattle.lu_grammar.proofs.Records.{ok_pair, same_pair}
 use Rattle.lu_grammar.proofs.Plans.{ok_of, err_is_not_ok, read_plan-ReadsTo}
-use Rattle.freq_skips.specs.declared.rules.Term.{Term}
+use Rattle.freq_skips.specs.declared.rules.RuledTerm.{RuledTerm}
 use Rattle.freq_skips.specs.declared.datum.Point.{Point}
 use Rattle.freq_skips.specs.Records.{entry_shape, datum_shape, length_shape, length_of}
 use Rattle.freq_skips.specs.Entries.{Posting, AreEntries, entries, postings_from, entry_conditions}
@@ -27,14 +27,14 @@ use Rattle.freq_skips.proofs.TermLemmas.{and_then-read, TermParts, TermParts-Rea
 use Rattle.freq_skips.proofs.EntryLemmas.{Stands-none, Stands-again}
 
 -- the entries of a good term start at its place
-pub entries-start : (t : Term) (start end : Cursor) → AreEntries t start end → 0 < t.info.doc_freq → start.place ≡ t.info.freq
+pub entries-start : (t : RuledTerm) (start end : Cursor) → AreEntries t start end → 0 < t.info.doc_freq → start.place ≡ t.info.freq
 entries-start t start end all some =
     let again = Stands-again t start end 0 0 start all (Stands-none t start) some in
     let kept = record_at-kept (entry_shape t) (entry_conditions t true 0 start.place) start again.0 again.1 again.2 in
     same-of start.place t.info.freq (all_unbroken (entry_conditions t true 0 start.place again.0) kept).0
 
 -- the levels that were found end with those above
-pub levels-drop : (t : Term) (postings : List Posting) (n : ℕ) (above : List (List Point)) (c : Cursor) (found : List (List Point)) (end : Cursor) → read_plan (levels t postings n above) c ≡ Ok (found, end) → drop n found ≡ above
+pub levels-drop : (t : RuledTerm) (postings : List Posting) (n : ℕ) (above : List (List Point)) (c : Cursor) (found : List (List Point)) (end : Cursor) → read_plan (levels t postings n above) c ≡ Ok (found, end) → drop n found ≡ above
 unfolding levels read_plan
 levels-drop t postings zero above c found end e = sym (same_pair above found c end e).0
 levels-drop t postings (suc n) above c found end e = go (and_then-read (level_plan t postings n above) (λ s. levels t postings n (s.points ∷ above)) c found end e) (λ s d h. levels-drop t postings n (s.points ∷ above) d found end h)
@@ -56,7 +56,7 @@ due-read {V} {R} shape conditions after c v e h = go (record_at shape (condition
     go (Err rule) is h = absurd (err_is_not_ok h)
 
 -- the highest level starts where the skip data are to start
-pub level-start : (t : Term) (postings : List Posting) (m : ℕ) (mid : Cursor) (s : Along) (d : Cursor) → read_plan (level_plan t postings m []) mid ≡ ok_of (s, d) → 0 < data_count t m → mid.place ≡ t.info.freq + t.info.skip
+pub level-start : (t : RuledTerm) (postings : List Posting) (m : ℕ) (mid : Cursor) (s : Along) (d : Cursor) → read_plan (level_plan t postings m []) mid ≡ ok_of (s, d) → 0 < data_count t m → mid.place ≡ t.info.freq + t.info.skip
 level-start t postings zero mid s d e some =
     let all : AreData t postings (level_of 0 None []) mid s.points d = record { along = s; reads = e; points_are = refl } in
     let again = Follows-again t postings (level_of 0 None []) mid s.points d 0 no_point mid all (Follows-none t postings (level_of 0 None []) mid) some in
@@ -68,7 +68,7 @@ level-start t postings (suc n) mid s d e some =
     same-of mid.place _ (all_unbroken (conditions mid.place due.0) (record_at-kept length_shape (conditions mid.place) mid due.0 due.1 due.2)).0
 
 -- a level that the term has has data
-pub data_count-some : (t : Term) (m : ℕ) → 2 ≤ t.rules.skip_interval → suc m ≡ level_count t → 0 < data_count t m
+pub data_count-some : (t : RuledTerm) (m : ℕ) → 2 ≤ t.rules.skip_interval → suc m ≡ level_count t → 0 < data_count t m
 data_count-some t m two is =
     let low = greatest_power-low t.rules.skip_interval t.info.doc_freq t.rules.max_levels m (sym is) in
     let pos : 0 < stride t m = power-pos t.rules.skip_interval (suc m) two in
@@ -76,22 +76,22 @@ data_count-some t m two is =
     omega arith
 
 -- the highest level was read
-pub level_plan-first : (t : Term) (postings : List Posting) (m : ℕ) (c : Cursor) (found : List (List Point)) (end : Cursor) → read_plan (levels t postings (suc m) []) c ≡ ok_of (found, end)
+pub level_plan-first : (t : RuledTerm) (postings : List Posting) (m : ℕ) (c : Cursor) (found : List (List Point)) (end : Cursor) → read_plan (levels t postings (suc m) []) c ≡ ok_of (found, end)
     → (s : Along) × (d : Cursor) × (read_plan (level_plan t postings m []) c ≡ ok_of (s, d))
 unfolding levels
 level_plan-first t postings m c found end e = let first = and_then-read (level_plan t postings m []) (λ s. levels t postings m (s.points ∷ [])) c found end e in (first.0, first.1, first.2)
 
 -- the value of a term that is good
-pub value_from-is : (t : Term) (start : Cursor) (v : TermData) (end : Cursor) → ReadsTo (term_plan t) start v end → value_from t start ≡ v
+pub value_from-is : (t : RuledTerm) (start : Cursor) (v : TermData) (end : Cursor) → ReadsTo (term_plan t) start v end → value_from t start ≡ v
 value_from-is t start v end h = ap read_value (read_plan-ReadsTo (term_plan t) start v end h)
 
 -- the levels of a term that is good, after its entries
-pub record LevelsRead (t : Term) (frq : List ℕ) (place : ℕ) : Type 0 where
+pub record LevelsRead (t : RuledTerm) (frq : List ℕ) (place : ℕ) : Type 0 where
   pub end : Cursor
   pub reads : read_plan (levels t (postings_from t (start_in t frq)) (level_count t) []) (place_in frq place) ≡ Ok ((value_from t (start_in t frq)).levels, end)
   pub within : place ≤ length frq
 
-pub LevelsRead-good : (t : Term) (frq : List ℕ) → IsBytes frq → (good : IsGoodTerm t.info t.rules frq) → 0 < level_count t → LevelsRead t frq (t.info.freq + t.info.skip)
+pub LevelsRead-good : (t : RuledTerm) (frq : List ℕ) → IsBytes frq → (good : IsGoodTerm t.info t.rules frq) → 0 < level_count t → LevelsRead t frq (t.info.freq + t.info.skip)
 LevelsRead-good t frq fits good some = go (TermParts-ReadsTo t (start_in t frq) good.value good.end good.reads)
   where
     go : TermParts t (start_in t frq) good.value good.end → LevelsRead t frq (t.info.freq + t.info.skip)
@@ -112,14 +112,14 @@ LevelsRead-good t frq fits good some = go (TermParts-ReadsTo t (start_in t frq) 
         }
 
 -- the next level was read, and then those below it
-pub levels-read : (t : Term) (postings : List Posting) (n m : ℕ) (above : List (List Point)) (c : Cursor) (found : List (List Point)) (end : Cursor) → n ≡ suc m → read_plan (levels t postings n above) c ≡ ok_of (found, end)
+pub levels-read : (t : RuledTerm) (postings : List Posting) (n m : ℕ) (above : List (List Point)) (c : Cursor) (found : List (List Point)) (end : Cursor) → n ≡ suc m → read_plan (levels t postings n above) c ≡ ok_of (found, end)
     → (s : Along) × (d : Cursor) × (read_plan (level_plan t postings m above) c ≡ ok_of (s, d)) × (read_plan (levels t postings m (s.points ∷ above)) d ≡ ok_of (found, end))
 unfolding levels
 levels-read t postings n m above c found end is e =
     and_then-read (level_plan t postings m above) (λ s. levels t postings m (s.points ∷ above)) c found end (ap (λ (k : ℕ). read_plan (levels t postings k above) c) (sym is) ∙ e)
 
 -- its data are among those that were found
-pub levels-points : (t : Term) (postings : List Posting) (m : ℕ) (points : List Point) (above : List (List Point)) (d : Cursor) (found : List (List Point)) (end : Cursor) → read_plan (levels t postings m (points ∷ above)) d ≡ ok_of (found, end)
+pub levels-points : (t : RuledTerm) (postings : List Posting) (m : ℕ) (points : List Point) (above : List (List Point)) (d : Cursor) (found : List (List Point)) (end : Cursor) → read_plan (levels t postings m (points ∷ above)) d ≡ ok_of (found, end)
     → slice_index_or found m [] ≡ points
 levels-points t postings m points above d found end e =
     ap (λ (n : ℕ). get_or found n []) (let z : m ≡ m + 0 = omega arith in z) ∙ sym (get_or-drop m found 0 []) ∙ ap (λ (l : List (List Point)). get_or l 0 []) (levels-drop t postings m (points ∷ above) d found end e)
@@ -132,7 +132,7 @@ highest-same number count above pos is = elim (cases_eq above 0) [
 ]
 
 -- the start of a level is a place along it
-pub IsOnLevel-start : (t : Term) (postings : List Posting) (level : ℕ) (points : List Point) (frq : List ℕ) (stated : Option ℕ) (rest : List (List Point)) (begin : ℕ) (end : Cursor) → AreData t postings (level_of level stated rest) (place_in frq begin) points end
+pub IsOnLevel-start : (t : RuledTerm) (postings : List Posting) (level : ℕ) (points : List Point) (frq : List ℕ) (stated : Option ℕ) (rest : List (List Point)) (begin : ℕ) (end : Cursor) → AreData t postings (level_of level stated rest) (place_in frq begin) points end
     → begin ≤ length frq → IsOnLevel t postings level points frq 0 (record { place = begin; count = 0; last = no_point })
 IsOnLevel-start t postings level points frq stated rest begin end all le = record {
   stated = stated;
@@ -148,7 +148,7 @@ IsOnLevel-start t postings level points frq stated rest begin end all le = recor
 }
 
 -- a term that was checked from somewhere starts at its place, and is good
-pub IsGoodTerm-checked : (t : Term) (frq : List ℕ) (at : ℕ) (r : Result ℕ Spot) → 2 ≤ t.rules.skip_interval → at ≤ length frq → 0 < t.info.doc_freq
+pub IsGoodTerm-checked : (t : RuledTerm) (frq : List ℕ) (at : ℕ) (r : Result ℕ Spot) → 2 ≤ t.rules.skip_interval → at ≤ length frq → 0 < t.info.doc_freq
     → MatchResult r (λ end. (value : TermData) × ReadsTo (term_plan t) (place_in frq at) value (place_in frq end)) (λ spot. (spot.kind ≡ Frq) × IsTermFault t (place_in frq at) spot.offset spot.rule)
     → IfOk r (λ end. (at ≡ t.info.freq) × IsGoodTerm t.info t.rules frq)
 IsGoodTerm-checked t frq at (Ok end) two le some h =

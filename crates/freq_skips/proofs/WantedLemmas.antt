@@ -4,7 +4,7 @@ use Rattle.std.specs.Option.{is_some}
 use Rattle.std.specs.Prelude.{not, slice_index_or, ◌==◌, ◌&&◌}
 use Rattle.std.proofs.lemmas.Bool.{ne_eqb}
 use Rattle.lu_grammar.specs.Bytes.{Cursor}
-use Rattle.freq_skips.specs.declared.rules.Term.{Term}
+use Rattle.freq_skips.specs.declared.rules.RuledTerm.{RuledTerm}
 use Rattle.freq_skips.specs.declared.datum.Point.{Point}
 use Rattle.freq_skips.specs.declared.datum.Wanted.{Wanted}
 use Rattle.freq_skips.specs.declared.following.Following.{Following}
@@ -14,7 +14,7 @@ use Rattle.freq_skips.specs.Walking.{FollowsAbove}
 use Rattle.freq_skips.proofs.EntryLemmas.{Stands-again, posting-is}
 
 -- where so many entries are passed, the next posting comes after their last document, and starts where they end
-pub posting-at : (t : Term) (start end : Cursor) (index doc : ℕ) (here : Cursor) → AreEntries t start end → Stands t start index doc here → index < t.info.doc_freq
+pub posting-at : (t : RuledTerm) (start end : Cursor) (index doc : ℕ) (here : Cursor) → AreEntries t start end → Stands t start index doc here → index < t.info.doc_freq
     → ((slice_index_or (postings_from t start) index no_posting).before ≡ doc) × ((slice_index_or (postings_from t start) index no_posting).place ≡ here.place)
 posting-at t start end index doc here all h lt =
     let again = Stands-again t start end index doc here all h lt in
@@ -22,7 +22,7 @@ posting-at t start end index doc here all h lt =
     (ap (λ (p : Posting). p.before) is, ap (λ (p : Posting). p.place) is)
 
 -- there is no level above where there is no walk along it
-no_walk-is : (t : Term) (postings : List Posting) (level : ℕ) (points : List (List Point)) (passed : ℕ) (o : Option Following) → FollowsAbove t postings level points passed o → not (is_some o) ≡ (length points == 0)
+no_walk-is : (t : RuledTerm) (postings : List Posting) (level : ℕ) (points : List (List Point)) (passed : ℕ) (o : Option Following) → FollowsAbove t postings level points passed o → not (is_some o) ≡ (length points == 0)
 no_walk-is t postings level [] passed None h = refl
 no_walk-is t postings level [] passed (Some f) h = absurd h
 no_walk-is t postings level (ps ∷ rest) passed None h = absurd h
@@ -32,7 +32,7 @@ pub turned : (b c : Bool) → c ≡ not b → b ≡ not c
 turned true c e = sym (ap not e)
 turned false c e = sym (ap not e)
 
-pub highest-is : (t : Term) (postings : List Posting) (level : ℕ) (points : List (List Point)) (passed : ℕ) (o : Option Following) (b : Bool) → is_some o ≡ not b → FollowsAbove t postings level points passed o → b ≡ (length points == 0)
+pub highest-is : (t : RuledTerm) (postings : List Posting) (level : ℕ) (points : List (List Point)) (passed : ℕ) (o : Option Following) (b : Bool) → is_some o ≡ not b → FollowsAbove t postings level points passed o → b ≡ (length points == 0)
 highest-is t postings level points passed o b e h = turned b (is_some o) e ∙ no_walk-is t postings level points passed o h
 
 abbrev made : Bool → ℕ → ℕ → Option ℕ → Option ℕ → Wanted
@@ -43,7 +43,7 @@ made-of w first doc freq child size a b c d e =
     ap (λ (x : Bool). made x w.doc w.freq w.child w.size) a ∙ ap (λ (x : ℕ). made first x w.freq w.child w.size) b ∙ ap (λ (x : ℕ). made first doc x w.child w.size) c
     ∙ ap (λ (x : Option ℕ). made first doc freq x w.size) d ∙ ap (λ (x : Option ℕ). made first doc freq child x) e
 
-pub wanted-is : (t : Term) (postings : List Posting) (number : ℕ) (stated : Option ℕ) (points : List (List Point)) (passed index doc place : ℕ) (w : Wanted) (highest : Bool) → index ≡ suc passed * stride t number - 1
+pub wanted-is : (t : RuledTerm) (postings : List Posting) (number : ℕ) (stated : Option ℕ) (points : List (List Point)) (passed index doc place : ℕ) (w : Wanted) (highest : Bool) → index ≡ suc passed * stride t number - 1
     → (slice_index_or postings index no_posting).before ≡ doc → (slice_index_or postings index no_posting).place ≡ place → highest ≡ (length points == 0)
     → w.first ≡ (number == 0 && highest && suc passed == 1) → w.doc ≡ doc → w.freq ≡ place - t.info.freq → w.child ≡ child_above t points (suc passed) → w.size ≡ length_at t (level_of number stated points) (suc passed)
     → w ≡ wanted t postings (level_of number stated points) (suc passed)

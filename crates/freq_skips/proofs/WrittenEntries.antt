@@ -8,7 +8,7 @@ use Rattle.lu_grammar.specs.Parts.{Part, Value, IsValue, num}
 use Rattle.lu_grammar.specs.Records.{Shape, whole, optional, Spells, first_broken}
 use Rattle.lu_grammar.specs.Plans.{done, one, each, times}
 use Rattle.lu_grammar.proofs.Writers.{Writes, Writes-due, Writes-done, Writes-and_then}
-use Rattle.freq_skips.specs.declared.rules.Term.{Term}
+use Rattle.freq_skips.specs.declared.rules.RuledTerm.{RuledTerm}
 use Rattle.freq_skips.specs.Records.{Record, entry, alone, entry_shape, states_frequency}
 use Rattle.freq_skips.specs.Entries.{Posting, Passed, with_posting, posting_of, entry_conditions, entry_kind, gap, frequency, is_low}
 use Rattle.freq_skips.specs.Written.{Handed, optional_bytes, canonical_parts, entry_parts_bytes, entry_bytes, entries_bytes, last_doc, written_postings, AreInOrder}
@@ -27,7 +27,7 @@ Spells-optional p false None next r rest h spells = spells
 Spells-optional p false (Some v) next r rest h spells = absurd h
 
 -- the delta and the stated frequency of an entry, one above another
-pub record IsCanonical (t : Term) (distance freq : ℕ) (x : ℕ × Option ℕ) : Type 0 where
+pub record IsCanonical (t : RuledTerm) (distance freq : ℕ) (x : ℕ × Option ℕ) : Type 0 where
   pub delta_fits : x.0 < 2 ^ 32
   pub leads : gap t x.0 ≡ distance
   pub states : Stated num (states_frequency t x.0) x.1
@@ -46,21 +46,21 @@ half-even n = omega arith
 half-odd : (n : ℕ) → (2 * n + 1) / 2 ≡ n
 half-odd n = omega arith
 
-canonical-omitted : (t : Term) (distance freq : ℕ) → t.rules.omit_tf ≡ true → distance < 2 ^ 31 → IsCanonical t distance freq (distance, None)
+canonical-omitted : (t : RuledTerm) (distance freq : ℕ) → t.rules.omit_tf ≡ true → distance < 2 ^ 31 → IsCanonical t distance freq (distance, None)
 canonical-omitted t distance freq e small = record { delta_fits = omega arith; leads = rw e refl; states = rw e tt; high = refl; tells = rw e refl }
 
-canonical-one : (t : Term) (distance freq : ℕ) → t.rules.omit_tf ≡ false → freq ≡ 1 → distance < 2 ^ 31 → IsCanonical t distance freq (2 * distance + 1, None)
+canonical-one : (t : RuledTerm) (distance freq : ℕ) → t.rules.omit_tf ≡ false → freq ≡ 1 → distance < 2 ^ 31 → IsCanonical t distance freq (2 * distance + 1, None)
 canonical-one t distance freq e is small =
     let test : states_frequency t (2 * distance + 1) ≡ false = rw (e, odd distance) refl in
     record { delta_fits = omega arith; leads = rw e (half-odd distance); states = rw test tt; high = refl; tells = rw (e, is) refl }
 
-canonical-many : (t : Term) (distance freq : ℕ) → t.rules.omit_tf ≡ false → 2 ≤ freq → freq < 2 ^ 31 → distance < 2 ^ 31 → IsCanonical t distance freq (2 * distance, Some freq)
+canonical-many : (t : RuledTerm) (distance freq : ℕ) → t.rules.omit_tf ≡ false → 2 ≤ freq → freq < 2 ^ 31 → distance < 2 ^ 31 → IsCanonical t distance freq (2 * distance, Some freq)
 canonical-many t distance freq e two few small =
     let test : states_frequency t (2 * distance) ≡ true = rw (e, even distance) refl in
     let low : nat_lt freq 2 ≡ false = grind (arith, nat_tests) in
     record { delta_fits = omega arith; leads = rw e (half-even distance); states = rw test few; high = low; tells = rw e refl }
 
-pub IsCanonical-parts : (t : Term) (distance freq : ℕ) → distance < 2 ^ 31 → 1 ≤ freq → freq < 2 ^ 31 → IsCanonical t distance freq (canonical_parts t.rules.omit_tf distance freq)
+pub IsCanonical-parts : (t : RuledTerm) (distance freq : ℕ) → distance < 2 ^ 31 → 1 ≤ freq → freq < 2 ^ 31 → IsCanonical t distance freq (canonical_parts t.rules.omit_tf distance freq)
 IsCanonical-parts t distance freq small some few = go t.rules.omit_tf refl
   where
     go : (omit : Bool) → t.rules.omit_tf ≡ omit → IsCanonical t distance freq (canonical_parts omit distance freq)
@@ -71,7 +71,7 @@ IsCanonical-parts t distance freq small some few = go t.rules.omit_tf refl
     ]
 
 -- the spelling of an entry
-Spells-entry : (t : Term) (distance freq : ℕ) (x : ℕ × Option ℕ) → IsCanonical t distance freq x → Spells (entry_shape t) (entry x.0 x.1) (entry_parts_bytes x.0 x.1)
+Spells-entry : (t : RuledTerm) (distance freq : ℕ) (x : ℕ × Option ℕ) → IsCanonical t distance freq x → Spells (entry_shape t) (entry x.0 x.1) (entry_parts_bytes x.0 x.1)
 Spells-entry t distance freq x h = (
   x.0,
   optional_bytes num x.1,
@@ -93,7 +93,7 @@ and-false false b h = refl
 pub not-same : (m n : ℕ) → m ≡ n → not (m == n) ≡ false
 not-same m n e = rw (eq-eqb m n e) refl
 
-entry-kept : (t : Term) (first : Bool) (last place : ℕ) (h : Handed) (x : ℕ × Option ℕ) → IsCanonical t (h.doc - last) h.freq x → (first ≡ true → place ≡ t.info.freq) → last + (if first then 0 else 1) ≤ h.doc → h.doc < t.rules.documents
+entry-kept : (t : RuledTerm) (first : Bool) (last place : ℕ) (h : Handed) (x : ℕ × Option ℕ) → IsCanonical t (h.doc - last) h.freq x → (first ≡ true → place ≡ t.info.freq) → last + (if first then 0 else 1) ≤ h.doc → h.doc < t.rules.documents
     → first_broken (entry_conditions t first last place (entry x.0 x.1)) ≡ None
 entry-kept t first last place h x c at order below =
     none_of _ _ _ _ _ _ _ _
@@ -114,14 +114,14 @@ entry-kept t first last place h x c at order below =
 abbrev pub passed_with : ℕ → List Posting → Passed
 passed_with doc postings = record { doc = doc; postings = postings }
 
-abbrev handed_posting : Term → ℕ → ℕ → Handed → Posting
+abbrev handed_posting : RuledTerm → ℕ → ℕ → Handed → Posting
 handed_posting t last place h = record { doc = h.doc; freq = if t.rules.omit_tf then 1 else h.freq; before = last; place = place }
 
 abbrev made_posting : ℕ → ℕ → ℕ → ℕ → Posting
 made_posting doc freq before place = record { doc = doc; freq = freq; before = before; place = place }
 
 -- one entry is written
-one-written : (t : Term) (s : Passed) (place : ℕ) (h : Handed) → (((length s.postings == 0) ≡ true) → place ≡ t.info.freq) → s.doc + (if length s.postings == 0 then 0 else 1) ≤ h.doc → h.doc < t.rules.documents → h.doc < 2 ^ 31
+one-written : (t : RuledTerm) (s : Passed) (place : ℕ) (h : Handed) → (((length s.postings == 0) ≡ true) → place ≡ t.info.freq) → s.doc + (if length s.postings == 0 then 0 else 1) ≤ h.doc → h.doc < t.rules.documents → h.doc < 2 ^ 31
     → 1 ≤ h.freq → h.freq < 2 ^ 31 → Writes (one (entry_kind t) s) place (entry_bytes t.rules.omit_tf s.doc h) (with_posting s (handed_posting t s.doc place h))
 one-written t s place h at order below small some few =
     let x = canonical_parts t.rules.omit_tf (h.doc - s.doc) h.freq in
@@ -140,7 +140,7 @@ one-written t s place h at order below small some few =
     up_to true o = omega arith
     up_to false o = omega arith
 
-pub Writes-entries : (t : Term) (hs : List Handed) (s : Passed) (place : ℕ) → AreInOrder t.rules.documents (length s.postings == 0) s.doc hs → (((length s.postings == 0) ≡ true) → place ≡ t.info.freq)
+pub Writes-entries : (t : RuledTerm) (hs : List Handed) (s : Passed) (place : ℕ) → AreInOrder t.rules.documents (length s.postings == 0) s.doc hs → (((length s.postings == 0) ≡ true) → place ≡ t.info.freq)
     → Writes (times (entry_kind t) (length hs) s) place (entries_bytes t.rules.omit_tf s.doc hs) (passed_with (last_doc s.doc hs) (s.postings ++ written_postings t.rules.omit_tf place s.doc hs))
 unfolding each
 Writes-entries t [] s place order at = subst (λ (ps : List Posting). Writes {R = Record} (done s) place [] (passed_with s.doc ps)) (sym (append-nil s.postings)) (Writes-done place s)

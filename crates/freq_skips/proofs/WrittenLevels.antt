@@ -7,7 +7,7 @@ use Rattle.lu_grammar.specs.Parts.{Part, Value, vint, num, vlong, spelling}
 use Rattle.lu_grammar.specs.Records.{whole, part, optional, Spells, first_broken}
 use Rattle.lu_grammar.specs.Plans.{one, times}
 use Rattle.lu_grammar.proofs.Writers.{Writes, Writes-none, Writes-record}
-use Rattle.freq_skips.specs.declared.rules.Term.{Term}
+use Rattle.freq_skips.specs.declared.rules.RuledTerm.{RuledTerm}
 use Rattle.freq_skips.specs.declared.datum.Point.{Point}
 use Rattle.freq_skips.specs.declared.datum.Skip.{Skip}
 use Rattle.freq_skips.specs.declared.writer.Mark.{Mark}
@@ -42,7 +42,7 @@ datum_bytes-length d = omega (arith, length-append (front_bytes d) (optional_byt
     optional-length (Some v) = refl
 
 -- the numbers of a datum can be told
-pub record IsTold (t : Term) (level : ℕ) (d : Skip) : Type 0 where
+pub record IsTold (t : RuledTerm) (level : ℕ) (d : Skip) : Type 0 where
   pub doc : d.doc < 2 ^ 32
   pub payload : Stated num (states_payload t d.doc) d.payload
   pub freq : d.freq < 2 ^ 31
@@ -52,7 +52,7 @@ pub record IsTold (t : Term) (level : ℕ) (d : Skip) : Type 0 where
 abbrev made : ℕ → Option ℕ → ℕ → ℕ → Option ℕ → Skip
 made doc payload freq prox child = record { doc = doc; payload = payload; freq = freq; prox = prox; child = child }
 
-pub Spells-datum : (t : Term) (level : ℕ) (d : Skip) → IsTold t level d → Spells (datum_shape t level) (datum d) (datum_bytes d)
+pub Spells-datum : (t : RuledTerm) (level : ℕ) (d : Skip) → IsTold t level d → Spells (datum_shape t level) (datum d) (datum_bytes d)
 Spells-datum t level d told =
     let last = optional_bytes vlong d.child ++ [] in
     let nested : spelling vint d.doc ++ (optional_bytes num d.payload ++ (spelling num d.freq ++ (spelling num d.prox ++ last))) ≡ datum_bytes d = simp (append_assoc, append-nil) in
@@ -83,7 +83,7 @@ abbrev pub IsUpTo : Mark → Mark → Type 0
 IsUpTo a b = (a.doc ≤ b.doc) × (a.freq ≤ b.freq) × (a.prox ≤ b.prox)
 
 -- a level that is written leads to the entries, and the level above leads to it
-pub record Rises (t : Term) (ps : List Posting) (r : Rise) (above : List (List Point)) (stated : Option ℕ) (base : ℕ) : Type 0 where
+pub record Rises (t : RuledTerm) (ps : List Posting) (r : Rise) (above : List (List Point)) (stated : Option ℕ) (base : ℕ) : Type 0 where
   pub payloads : r.payloads ≡ t.rules.payloads
   pub up : (m : ℕ) → m < rise_count r → IsUpTo (mark_after r m) (mark_after r (suc m))
   pub doc : (m : ℕ) → m < rise_count r → (mark_after r (suc m)).doc ≡ (posting_at t r.number ps (suc m)).before
@@ -123,7 +123,7 @@ last-is : (r : Rise) (base m : ℕ) → ((last_point r base m).doc ≡ (mark_aft
 last-is r base zero = (refl, refl, refl, refl)
 last-is r base (suc m) = (refl, refl, refl, refl)
 
-skipped-is : (t : Term) (payloads : Bool) (n : ℕ) → payloads ≡ t.rules.payloads → skipped t (if payloads then 2 * n else n) ≡ n
+skipped-is : (t : RuledTerm) (payloads : Bool) (n : ℕ) → payloads ≡ t.rules.payloads → skipped t (if payloads then 2 * n else n) ≡ n
 skipped-is t true n e = rw (sym e) (half-even n)
 skipped-is t false n e = rw (sym e) refl
 
@@ -132,7 +132,7 @@ and-true true true e = (refl, refl)
 and-true true false e = absurd (true≢false (sym e))
 and-true false b e = absurd (true≢false (sym e))
 
-first-one : (t : Term) (l : Level) (m : ℕ) → is_first_datum l (suc m) ≡ true → (m ≡ 0) × (is_first_datum l 1 ≡ true)
+first-one : (t : RuledTerm) (l : Level) (m : ℕ) → is_first_datum l (suc m) ≡ true → (m ≡ 0) × (is_first_datum l 1 ≡ true)
 first-one t l m e =
     let both = and-true (l.number == 0 && length l.above == 0) (suc m == 1) e in
     let is = eqb-true (suc m) 1 both.1 in
@@ -147,7 +147,7 @@ unfolding data_bytes
 data_bytes-size r m = length-append (data_bytes r m) (datum_bytes (written_skip r m))
 
 -- the conditions on a datum that is written
-datum-kept : (t : Term) (ps : List Posting) (r : Rise) (above : List (List Point)) (stated : Option ℕ) (base m : ℕ) → Rises t ps r above stated base → m < rise_count r
+datum-kept : (t : RuledTerm) (ps : List Posting) (r : Rise) (above : List (List Point)) (stated : Option ℕ) (base m : ℕ) → Rises t ps r above stated base → m < rise_count r
     → first_broken (datum_conditions t (wanted t ps (level_of r.number stated above) (suc m)) base (last_point r base m) (base + length (data_bytes r m)) (datum (written_skip r m))) ≡ None
 datum-kept t ps r above stated base m h lt =
     let l = level_of r.number stated above in
@@ -171,7 +171,7 @@ datum-kept t ps r above stated base m h lt =
     (ap (λ (n : ℕ). differs w.size n) (omega (arith, datum_bytes-length d, data_bytes-size r m)) ∙ h.size m lt)
 
 -- the numbers of a datum that is written can be told
-skip-told : (t : Term) (ps : List Posting) (r : Rise) (above : List (List Point)) (stated : Option ℕ) (base m : ℕ) → Rises t ps r above stated base → m < rise_count r → IsTold t r.number (written_skip r m)
+skip-told : (t : RuledTerm) (ps : List Posting) (r : Rise) (above : List (List Point)) (stated : Option ℕ) (base m : ℕ) → Rises t ps r above stated base → m < rise_count r → IsTold t r.number (written_skip r m)
 skip-told t ps r above stated base m h lt =
     let a = mark_after r m in
     let b = mark_after r (suc m) in
@@ -188,7 +188,7 @@ skip-told t ps r above stated base m h lt =
     doubled true n lt = omega arith
     doubled false n lt = omega arith
 
-    even-told : (t : Term) (p : Bool) (n : ℕ) → p ≡ t.rules.payloads → Stated num (states_payload t (if p then 2 * n else n)) None
+    even-told : (t : RuledTerm) (p : Bool) (n : ℕ) → p ≡ t.rules.payloads → Stated num (states_payload t (if p then 2 * n else n)) None
     even-told t true n e = let test : states_payload t (2 * n) ≡ false = rw (sym e, even n) refl in rw test tt
     even-told t false n e = let test : states_payload t n ≡ false = rw (sym e) refl in rw test tt
 
@@ -196,7 +196,7 @@ abbrev made_point : ℕ → ℕ → ℕ → ℕ → ℕ → ℕ → Point
 made_point doc freq prox payload child place = record { doc = doc; freq = freq; prox = prox; payload = payload; child = child; place = place }
 
 -- where it leads
-point-is-written : (t : Term) (ps : List Posting) (r : Rise) (above : List (List Point)) (stated : Option ℕ) (base m : ℕ) → Rises t ps r above stated base → m < rise_count r
+point-is-written : (t : RuledTerm) (ps : List Posting) (r : Rise) (above : List (List Point)) (stated : Option ℕ) (base m : ℕ) → Rises t ps r above stated base → m < rise_count r
     → point_of t (last_point r base m) (base + length (data_bytes r m)) (datum (written_skip r m)) ≡ written_point r base m
 point-is-written t ps r above stated base m h lt =
     let last = last-is r base m in
@@ -215,7 +215,7 @@ point-is-written t ps r above stated base m h lt =
     ∙ ap (λ (x : ℕ). made_point b.doc b.freq x p.payload child place) prox ∙ ap (λ (x : ℕ). made_point b.doc b.freq b.prox x child place) last.3
 
 -- so many data are written
-pub Writes-data : (t : Term) (ps : List Posting) (r : Rise) (above : List (List Point)) (stated : Option ℕ) (base m : ℕ) → Rises t ps r above stated base → m ≤ rise_count r
+pub Writes-data : (t : RuledTerm) (ps : List Posting) (r : Rise) (above : List (List Point)) (stated : Option ℕ) (base m : ℕ) → Rises t ps r above stated base → m ≤ rise_count r
     → Writes (times (datum_kind t ps (level_of r.number stated above)) m no_datum) base (data_bytes r m) (written_along r base m)
 Writes-data t ps r above stated base zero h le =
     subst (λ (b : List ℕ). Writes (times (datum_kind t ps (level_of r.number stated above)) 0 no_datum) base b no_datum) (sym (data_bytes-none r)) (Writes-none (one (datum_kind t ps (level_of r.number stated above))) base no_datum)

@@ -11,7 +11,7 @@ use Rattle.lu_grammar.specs.Parts.{vlong, spelling}
 use Rattle.lu_grammar.specs.Plans.{times, read_plan}
 use Rattle.lu_grammar.proofs.Records.{at}
 use Rattle.lu_grammar.proofs.Writers.{Writes, Writes-due}
-use Rattle.freq_skips.specs.declared.rules.Term.{Term}
+use Rattle.freq_skips.specs.declared.rules.RuledTerm.{RuledTerm}
 use Rattle.freq_skips.specs.declared.datum.Point.{Point}
 use Rattle.freq_skips.specs.Records.{level_length, length_of, length_shape}
 use Rattle.freq_skips.specs.Entries.{Posting}
@@ -33,7 +33,7 @@ base_for zero place bytes = place
 base_for (suc n) place bytes = place + length (spelling vlong (length bytes))
 
 -- a level is written
-Writes-with_length : (t : Term) (ps : List Posting) (n : ℕ) (above : List (List Point)) (place : ℕ) (bytes : List ℕ) (s : Along) → length bytes < 2 ^ 63 → (((length above == 0) ≡ true) → place ≡ t.info.freq + t.info.skip)
+Writes-with_length : (t : RuledTerm) (ps : List Posting) (n : ℕ) (above : List (List Point)) (place : ℕ) (bytes : List ℕ) (s : Along) → length bytes < 2 ^ 63 → (((length above == 0) ≡ true) → place ≡ t.info.freq + t.info.skip)
     → Writes (level_data t ps (level_of n (stated_for n bytes) above)) (base_for n place bytes) bytes s → Writes (level_plan t ps n above) place (with_length n bytes) s
 Writes-with_length t ps zero above place bytes s small at w = w
 Writes-with_length t ps (suc n) above place bytes s small at w =
@@ -41,7 +41,7 @@ Writes-with_length t ps (suc n) above place bytes s small at w =
     (length bytes, [], small, sym (append-nil (spelling vlong (length bytes))), (refl, refl))
     (let test : (length above == 0 && not (place == t.info.freq + t.info.skip)) ≡ false = and-false (length above == 0) (not (place == t.info.freq + t.info.skip)) (λ e. not-same place _ (at e)) in rw test refl) w
 
-pub Writes-level : (t : Term) (ps : List Posting) (r : Rise) (above : List (List Point)) (place : ℕ) → rise_count r ≡ data_count t r.number → length (data_bytes r (rise_count r)) < 2 ^ 63 → (((length above == 0) ≡ true) → place ≡ t.info.freq + t.info.skip)
+pub Writes-level : (t : RuledTerm) (ps : List Posting) (r : Rise) (above : List (List Point)) (place : ℕ) → rise_count r ≡ data_count t r.number → length (data_bytes r (rise_count r)) < 2 ^ 63 → (((length above == 0) ≡ true) → place ≡ t.info.freq + t.info.skip)
     → Rises t ps r above (stated_for r.number (data_bytes r (rise_count r))) (base_for r.number place (data_bytes r (rise_count r)))
     → Writes (level_plan t ps r.number above) place (with_length r.number (data_bytes r (rise_count r))) (written_along r (base_for r.number place (data_bytes r (rise_count r))) (rise_count r))
 Writes-level t ps r above place few small at h =
@@ -95,7 +95,7 @@ places_after-at r (suc c) m pos lt e = elim (cases_lt m c) [
 -- ---- all levels
 
 -- the marks of a level lead to the entries that its data belong to
-pub record Leads (t : Term) (ps : List Posting) (r : Rise) : Type 0 where
+pub record Leads (t : RuledTerm) (ps : List Posting) (r : Rise) : Type 0 where
   pub interval : r.interval ≡ t.rules.skip_interval
   pub payloads : r.payloads ≡ t.rules.payloads
   pub count : rise_count r ≡ data_count t r.number
@@ -107,7 +107,7 @@ pub record Leads (t : Term) (ps : List Posting) (r : Rise) : Type 0 where
   pub children_small : (m : ℕ) → slice_index r.children m < 2 ^ 63
   pub bytes_small : length (data_bytes r (rise_count r)) < 2 ^ 63
 
-abbrev pub AllLead : Term → List Posting → ℕ → Rise → Type 0
+abbrev pub AllLead : RuledTerm → List Posting → ℕ → Rise → Type 0
 AllLead t ps zero r = Unit {0}
 AllLead t ps (suc k) r = Leads t ps r × AllLead t ps k (risen r)
 
@@ -117,7 +117,7 @@ found_points zero r place = []
 found_points (suc k) r place = written_points r (base_for r.number (place + length (skip_bytes k (risen r))) (data_bytes r (rise_count r))) (rise_count r) ∷ found_points k (risen r) place
 
 -- the child pointers of the level above
-child-found : (t : Term) (ps : List Posting) (k : ℕ) (r : Rise) (place m : ℕ) → 2 ≤ t.rules.skip_interval → Leads t ps r → m < rise_count r
+child-found : (t : RuledTerm) (ps : List Posting) (k : ℕ) (r : Rise) (place m : ℕ) → 2 ≤ t.rules.skip_interval → Leads t ps r → m < rise_count r
     → differs (child_above t (found_points k (risen r) place) (suc m)) (length (data_bytes r m) + length (front_bytes (written_skip r m))) ≡ false
 unfolding place-here
 child-found t ps zero r place m two h lt = refl
@@ -146,7 +146,7 @@ child-found t ps (suc k) r place m two h lt =
           rw test refl
     ]
 
-size-found : (t : Term) (ps : List Posting) (r : Rise) (above : List (List Point)) (m : ℕ) → Leads t ps r → m < rise_count r
+size-found : (t : RuledTerm) (ps : List Posting) (r : Rise) (above : List (List Point)) (m : ℕ) → Leads t ps r → m < rise_count r
     → differs (length_at t (level_of r.number (stated_for r.number (data_bytes r (rise_count r))) above) (suc m)) (length (data_bytes r (suc m))) ≡ false
 size-found t ps r above m h lt = elim (cases_eq (suc m) (data_count t r.number)) [
   | inl e ↦
@@ -164,7 +164,7 @@ none-found : (k : ℕ) (r : Rise) (place : ℕ) → (length (found_points k r pl
 none-found zero r place e = refl
 none-found (suc k) r place e = absurd (true≢false (sym e ∙ ne_eqb (suc (length (found_points k (risen r) place))) 0 (λ z. absurd (omega arith))))
 
-start-found : (t : Term) (k : ℕ) (r : Rise) (place : ℕ) → place ≡ t.info.freq + t.info.skip → (length (found_points k r place) == 0) ≡ true → place + length (skip_bytes k r) ≡ t.info.freq + t.info.skip
+start-found : (t : RuledTerm) (k : ℕ) (r : Rise) (place : ℕ) → place ≡ t.info.freq + t.info.skip → (length (found_points k r place) == 0) ≡ true → place + length (skip_bytes k r) ≡ t.info.freq + t.info.skip
 start-found t k r place at e = let none = ap length (skip_bytes-none r k (none-found k r place e)) in omega arith
 
 and-both : (a b c : Bool) → (a && b && c) ≡ true → (a ≡ true) × (b ≡ true)
@@ -182,7 +182,7 @@ child-told r m small = elim (cases_eq r.number 0) [
   | inr ne ↦ let a : nat_lt 0 r.number ≡ true = grind (arith, nat_tests) in let b : eqb r.number 0 ≡ false = ne_eqb _ _ ne in rw (a, b) small
 ]
 
-Rises-found : (t : Term) (ps : List Posting) (k : ℕ) (r : Rise) (place : ℕ) → 2 ≤ t.rules.skip_interval → place ≡ t.info.freq + t.info.skip → Leads t ps r
+Rises-found : (t : RuledTerm) (ps : List Posting) (k : ℕ) (r : Rise) (place : ℕ) → 2 ≤ t.rules.skip_interval → place ≡ t.info.freq + t.info.skip → Leads t ps r
     → Rises t ps r (found_points k (risen r) place) (stated_for r.number (data_bytes r (rise_count r))) (base_for r.number (place + length (skip_bytes k (risen r))) (data_bytes r (rise_count r)))
 Rises-found t ps k r place two at h = record {
   payloads = h.payloads;
@@ -200,7 +200,7 @@ Rises-found t ps k r place two at h = record {
 }
 
 -- so many levels from the highest down to this one
-pub levels-written : (t : Term) (ps : List Posting) (k : ℕ) (r : Rise) (place : ℕ) (rest : List ℕ) → 2 ≤ t.rules.skip_interval → place ≡ t.info.freq + t.info.skip → AllLead t ps k r
+pub levels-written : (t : RuledTerm) (ps : List Posting) (k : ℕ) (r : Rise) (place : ℕ) (rest : List ℕ) → 2 ≤ t.rules.skip_interval → place ≡ t.info.freq + t.info.skip → AllLead t ps k r
     → read_plan (levels t ps (k + r.number) []) (at place (skip_bytes k r ++ rest)) ≡ read_plan (levels t ps r.number (found_points k r place)) (at (place + length (skip_bytes k r)) rest)
 levels-written t ps zero r place rest two start all =
     let none = skip_bytes-none r 0 refl in

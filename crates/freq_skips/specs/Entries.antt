@@ -4,7 +4,7 @@ use Rattle.lu_types.specs.RuleNumbers as number
 use Rattle.lu_grammar.specs.Bytes.{Cursor}
 use Rattle.lu_grammar.specs.Records.{Condition}
 use Rattle.lu_grammar.specs.Plans.{Plan, Kind, times, Broken, read_plan}
-use Rattle.freq_skips.specs.declared.rules.Term.{Term}
+use Rattle.freq_skips.specs.declared.rules.RuledTerm.{RuledTerm}
 use Rattle.freq_skips.specs.declared.entry.Entry.{Entry}
 use Rattle.freq_skips.specs.Records.{Record, delta_of, stated_of, entry_shape}
 
@@ -29,7 +29,7 @@ abbrev pub no_entry : Passed
 no_entry = record { doc = 0; postings = [] }
 
 -- how far the document is above the one before
-abbrev pub gap : Term → ℕ → ℕ
+abbrev pub gap : RuledTerm → ℕ → ℕ
 gap t delta = if t.rules.omit_tf then delta else delta / 2
 
 -- the stated frequency, or else 1
@@ -38,7 +38,7 @@ frequency None = 1
 frequency (Some n) = n
 
 -- the posting of an entry that stands at a place, after a document
-abbrev pub posting_of : Term → ℕ → ℕ → Record → Posting
+abbrev pub posting_of : RuledTerm → ℕ → ℕ → Record → Posting
 posting_of t last place r = record { doc = last + gap t (delta_of r); freq = frequency (stated_of r); before = last; place = place }
 
 -- a frequency is stated and below 2
@@ -47,7 +47,7 @@ is_low None = nat_lt 1 0
 is_low (Some n) = nat_lt n 2
 
 -- what is asked of an entry at a place, the first of its term or not, after a document
-abbrev pub entry_conditions : Term → Bool → ℕ → ℕ → Record → List Condition
+abbrev pub entry_conditions : RuledTerm → Bool → ℕ → ℕ → Record → List Condition
 entry_conditions t first last place r =
     (record { rule = number.freq_start; broken = first && not (place == t.info.freq) })
     ∷ (record { rule = number.doc_order; broken = not first && (gap t (delta_of r) == 0) })
@@ -60,7 +60,7 @@ abbrev pub with_posting : Passed → Posting → Passed
 with_posting s p = record { doc = p.doc; postings = s.postings ++ p ∷ [] }
 
 -- the entries of a term, which differ by what those before stand for
-abbrev pub entry_kind : Term → Kind Passed Record
+abbrev pub entry_kind : RuledTerm → Kind Passed Record
 entry_kind t = record {
   shape = λ s. entry_shape t;
   conditions = λ s place r. entry_conditions t (length s.postings == 0) s.doc place r;
@@ -68,7 +68,7 @@ entry_kind t = record {
 }
 
 -- so many entries, one for each document of the term
-abbrev pub entries : Term → Plan Passed Record
+abbrev pub entries : RuledTerm → Plan Passed Record
 entries t = times (entry_kind t) t.info.doc_freq no_entry
 
 -- what reading the entries answered, where they are good
@@ -77,27 +77,27 @@ read_postings (Ok x) = x.0.postings
 read_postings (Err b) = []
 
 -- the postings of a term whose entries are good and start here
-abbrev pub postings_from : Term → Cursor → List Posting
+abbrev pub postings_from : RuledTerm → Cursor → List Posting
 postings_from t start = read_postings (read_plan (entries t) start)
 
 -- the entries of the term that start here are good, and end there
-pub record AreEntries (t : Term) (start end : Cursor) : Type 0 where
+pub record AreEntries (t : RuledTerm) (start end : Cursor) : Type 0 where
   pub passed : Passed
   pub reads : read_plan (entries t) start ≡ Ok (passed, end)
 
 -- the entries of the term that start here are good
-abbrev pub AreGoodFrom : Term → Cursor → Type 0
+abbrev pub AreGoodFrom : RuledTerm → Cursor → Type 0
 AreGoodFrom t start = (end : Cursor) × AreEntries t start end
 
 -- from this start on so many entries are good; the last has this document, and the cursor is behind them
-pub record Stands (t : Term) (start : Cursor) (index doc : ℕ) (here : Cursor) : Type 0 where
+pub record Stands (t : RuledTerm) (start : Cursor) (index doc : ℕ) (here : Cursor) : Type 0 where
   pub passed : Passed
   pub reads : read_plan (times (entry_kind t) index no_entry) start ≡ Ok (passed, here)
   pub last : passed.doc ≡ doc
   pub count : length passed.postings ≡ index
 
 -- the entry that stands next is the posting with this number
-pub record IsNext (t : Term) (start : Cursor) (index : ℕ) (p : Posting) (next : Cursor) : Type 0 where
+pub record IsNext (t : RuledTerm) (start : Cursor) (index : ℕ) (p : Posting) (next : Cursor) : Type 0 where
   pub stands : Stands t start (index + 1) p.doc next
   pub posting : (end : Cursor) → AreEntries t start end → slice_index_or (postings_from t start) index no_posting ≡ p
 
@@ -106,5 +106,5 @@ abbrev pub entry_of : Posting → Entry
 entry_of p = record { doc = p.doc; freq = p.freq }
 
 -- the entries of a term whose entries are good and start here
-abbrev pub entries_from : Term → Cursor → List Entry
+abbrev pub entries_from : RuledTerm → Cursor → List Entry
 entries_from t start = map entry_of (postings_from t start)

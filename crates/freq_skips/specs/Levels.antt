@@ -4,7 +4,7 @@ use Rattle.lu_types.specs.RuleNumbers as number
 use Rattle.lu_grammar.specs.Records.{Condition}
 use Rattle.lu_grammar.specs.Bytes.{Cursor}
 use Rattle.lu_grammar.specs.Plans.{Plan, done, due, and_then, Kind, times, read_plan}
-use Rattle.freq_skips.specs.declared.rules.Term.{Term}
+use Rattle.freq_skips.specs.declared.rules.RuledTerm.{RuledTerm}
 use Rattle.freq_skips.specs.declared.datum.Wanted.{Wanted}
 use Rattle.freq_skips.specs.declared.datum.Point.{Point}
 use Rattle.freq_skips.specs.Records.{Record, length_of, skip_of, length_shape, datum_shape, length_to_child, datum_length}
@@ -16,19 +16,19 @@ greatest_power base n zero = 0
 greatest_power base n (suc most) = if nat_le (base ^ suc most) n then suc most else greatest_power base n most
 
 -- how many skip levels a term has
-abbrev pub level_count : Term → ℕ
+abbrev pub level_count : RuledTerm → ℕ
 level_count t = greatest_power t.rules.skip_interval t.info.doc_freq t.rules.max_levels
 
 -- one datum of a level stands for so many entries
-abbrev pub stride : Term → ℕ → ℕ
+abbrev pub stride : RuledTerm → ℕ → ℕ
 stride t level = t.rules.skip_interval ^ suc level
 
 -- how many data a level has
-abbrev pub data_count : Term → ℕ → ℕ
+abbrev pub data_count : RuledTerm → ℕ → ℕ
 data_count t level = t.info.doc_freq / stride t level
 
 -- the posting that the datum with this number, from 1, belongs to
-abbrev pub posting_at : Term → ℕ → List Posting → ℕ → Posting
+abbrev pub posting_at : RuledTerm → ℕ → List Posting → ℕ → Posting
 posting_at t level postings m = slice_index_or postings (m * stride t level - 1) no_posting
 
 -- before the first datum
@@ -56,12 +56,12 @@ level_start [] place = place
 level_start (p ∷ ps) place = p.place
 
 -- the child pointer that the level above holds for the datum with this number, in every so many
-abbrev pub child_above : Term → List (List Point) → ℕ → Option ℕ
+abbrev pub child_above : RuledTerm → List (List Point) → ℕ → Option ℕ
 child_above t [] m = None
 child_above t (points ∷ rest) m = if m % t.rules.skip_interval == 0 then Some (slice_index_or points (m / t.rules.skip_interval - 1) no_point).child else None
 
 -- a level above the lowest is to have its length at its last datum
-abbrev pub length_at : Term → Level → ℕ → Option ℕ
+abbrev pub length_at : RuledTerm → Level → ℕ → Option ℕ
 length_at t l m = if m == data_count t l.number then l.stated else None
 
 -- the first record of the skip data is a datum where the term has one level
@@ -74,15 +74,15 @@ differs None n = nat_le 1 0
 differs (Some m) n = not (m == n)
 
 -- the first record of the skip data is to stand as far behind the first entry as the dictionary says
-abbrev pub skip_start : Term → Bool → ℕ → Condition
+abbrev pub skip_start : RuledTerm → Bool → ℕ → Condition
 skip_start t first place = record { rule = number.skip_start; broken = first && not (place == t.info.freq + t.info.skip) }
 
 -- how many documents a datum skips
-abbrev pub skipped : Term → ℕ → ℕ
+abbrev pub skipped : RuledTerm → ℕ → ℕ
 skipped t doc = if t.rules.payloads then doc / 2 else doc
 
 -- what is wanted of the datum with this number
-abbrev pub wanted : Term → List Posting → Level → ℕ → Wanted
+abbrev pub wanted : RuledTerm → List Posting → Level → ℕ → Wanted
 wanted t postings l m = record {
   first = is_first_datum l m;
   doc = (posting_at t l.number postings m).before;
@@ -92,7 +92,7 @@ wanted t postings l m = record {
 }
 
 -- what is asked of a datum, of which this is wanted, in a level that starts there, after a point, at a place
-abbrev pub datum_conditions : Term → Wanted → ℕ → Point → ℕ → Record → List Condition
+abbrev pub datum_conditions : RuledTerm → Wanted → ℕ → Point → ℕ → Record → List Condition
 datum_conditions t w start last place r =
     (skip_start t w.first place)
     ∷ (record { rule = number.skip_doc; broken = not (last.doc + skipped t (skip_of r).doc == w.doc) })
@@ -108,7 +108,7 @@ number_or n None = n
 number_or n (Some m) = m
 
 -- where a datum leads
-abbrev pub point_of : Term → Point → ℕ → Record → Point
+abbrev pub point_of : RuledTerm → Point → ℕ → Record → Point
 point_of t last place r = record {
   doc = last.doc + skipped t (skip_of r).doc;
   freq = last.freq + (skip_of r).freq;
@@ -123,7 +123,7 @@ abbrev pub with_point : Along → Point → Along
 with_point s p = record { last = p; points = s.points ++ p ∷ [] }
 
 -- the data of a level, which differ by those before
-abbrev pub datum_kind : Term → List Posting → Level → Kind Along Record
+abbrev pub datum_kind : RuledTerm → List Posting → Level → Kind Along Record
 datum_kind t postings l = record {
   shape = λ s. datum_shape t l.number;
   conditions = λ s place r. datum_conditions t (wanted t postings l (suc (length s.points))) (level_start s.points place) s.last place r;
@@ -131,11 +131,11 @@ datum_kind t postings l = record {
 }
 
 -- the data of a level
-abbrev pub level_data : Term → List Posting → Level → Plan Along Record
+abbrev pub level_data : RuledTerm → List Posting → Level → Plan Along Record
 level_data t postings l = times (datum_kind t postings l) (data_count t l.number) no_datum
 
 -- what is asked of the length of a level
-abbrev pub length_conditions : Term → Level → ℕ → Record → List Condition
+abbrev pub length_conditions : RuledTerm → Level → ℕ → Record → List Condition
 length_conditions t l place r = skip_start t (length l.above == 0) place ∷ []
 
 -- a level by its parts
@@ -143,13 +143,13 @@ abbrev pub level_of : ℕ → Option ℕ → List (List Point) → Level
 level_of number stated above = record { number = number; stated = stated; above = above }
 
 -- a level above the lowest is its length and then its data; the lowest has its data alone
-abbrev pub level_plan : Term → List Posting → ℕ → List (List Point) → Plan Along Record
+abbrev pub level_plan : RuledTerm → List Posting → ℕ → List (List Point) → Plan Along Record
 level_plan t postings zero above = level_data t postings (level_of 0 None above)
 level_plan t postings (suc n) above = due length_shape (length_conditions t (level_of (suc n) None above))
     (λ place r. level_data t postings (level_of (suc n) (Some (length_of r)) above))
 
 -- so many levels from the highest down, after those above, the nearest first
-unfoldable pub levels : Term → List Posting → ℕ → List (List Point) → Plan (List (List Point)) Record
+unfoldable pub levels : RuledTerm → List Posting → ℕ → List (List Point) → Plan (List (List Point)) Record
 levels t postings zero above = done above
 levels t postings (suc n) above = and_then (level_plan t postings n above) (λ s. levels t postings n (s.points ∷ above))
 
@@ -160,7 +160,7 @@ pub record IsSmall (count : ℕ) (p : Point) : Type 0 where
   pub prox : p.prox ≤ count * 2 ^ 32
 
 -- on a level that starts here so many data are good; the last leads there, and the cursor is behind them
-pub record Follows (t : Term) (postings : List Posting) (l : Level) (start : Cursor) (count : ℕ) (last : Point) (here : Cursor) : Type 0 where
+pub record Follows (t : RuledTerm) (postings : List Posting) (l : Level) (start : Cursor) (count : ℕ) (last : Point) (here : Cursor) : Type 0 where
   pub along : Along
   pub reads : read_plan (times (datum_kind t postings l) count no_datum) start ≡ Ok (along, here)
   pub last_is : along.last ≡ last
@@ -168,19 +168,19 @@ pub record Follows (t : Term) (postings : List Posting) (l : Level) (start : Cur
   pub begins : level_start along.points here.place ≡ start.place
 
 -- all data of the level that starts here are good, and these are they
-pub record AreData (t : Term) (postings : List Posting) (l : Level) (start : Cursor) (points : List Point) (end : Cursor) : Type 0 where
+pub record AreData (t : RuledTerm) (postings : List Posting) (l : Level) (start : Cursor) (points : List Point) (end : Cursor) : Type 0 where
   pub along : Along
   pub reads : read_plan (level_data t postings l) start ≡ Ok (along, end)
   pub points_are : along.points ≡ points
 
 -- what reading a datum again shows, where all of its level are good
-pub record Passes (t : Term) (postings : List Posting) (l : Level) (start : Cursor) (points : List Point) (count : ℕ) (p : Point) (next : Cursor) : Type 0 where
+pub record Passes (t : RuledTerm) (postings : List Posting) (l : Level) (start : Cursor) (points : List Point) (count : ℕ) (p : Point) (next : Cursor) : Type 0 where
   pub follows : Follows t postings l start (count + 1) p next
   pub doc : p.doc ≡ (wanted t postings l (suc count)).doc
   pub freq : p.freq ≡ (wanted t postings l (suc count)).freq
   pub point : slice_index_or points count no_point ≡ p
 
 -- all data of the level that starts here are good, and end there
-pub record AreGoodData (t : Term) (postings : List Posting) (l : Level) (start end : Cursor) : Type 0 where
+pub record AreGoodData (t : RuledTerm) (postings : List Posting) (l : Level) (start end : Cursor) : Type 0 where
   pub along : Along
   pub reads : read_plan (level_data t postings l) start ≡ Ok (along, end)

@@ -1,6 +1,6 @@
 -- The records of `.frq`: entries, lengths of skip levels, and skip data.
 use Rattle.std.specs.Prelude.{◌≡◌, ℕ, ◌+◌, ◌%◌, Bool, not, Option, Some, None, length, Result, Ok, Err, nat_lt, ◌==◌, ◌&&◌}
-use Rattle.freq_skips.specs.declared.rules.Term.{Term}
+use Rattle.freq_skips.specs.declared.rules.RuledTerm.{RuledTerm}
 use Rattle.freq_skips.specs.declared.datum.Skip.{Skip}
 use Rattle.lu_grammar.specs.Parts.{Part, Value, vint, num, vlong, spelling}
 use Rattle.lu_grammar.specs.declared.bad.Bad.{Bad}
@@ -50,15 +50,15 @@ abbrev pub is_odd : ℕ → Bool
 is_odd n = n % 2 == 1
 
 -- the frequency follows an even delta, in a field that keeps frequencies
-abbrev pub states_frequency : Term → ℕ → Bool
+abbrev pub states_frequency : RuledTerm → ℕ → Bool
 states_frequency t delta = not t.rules.omit_tf && not (is_odd delta)
 
 -- the payload length follows an odd number of skipped documents, in a field with payloads
-abbrev pub states_payload : Term → ℕ → Bool
+abbrev pub states_payload : RuledTerm → ℕ → Bool
 states_payload t doc = t.rules.payloads && is_odd doc
 
 -- an entry is a delta, and a frequency where one follows
-abbrev pub entry_shape : Term → Shape Record
+abbrev pub entry_shape : RuledTerm → Shape Record
 entry_shape t = part vint (λ delta. optional (states_frequency t delta) (alone num) (λ stated. whole (entry delta stated)))
 
 -- the length of a level
@@ -66,7 +66,7 @@ abbrev pub length_shape : Shape Record
 length_shape = part vlong (λ n. whole (level_length n))
 
 -- a datum has a child pointer where its level is not the lowest
-abbrev pub datum_shape : Term → ℕ → Shape Record
+abbrev pub datum_shape : RuledTerm → ℕ → Shape Record
 datum_shape t level = part vint (λ doc. optional (states_payload t doc) (alone num) (λ payload. part num (λ freq. part num (λ prox.
     optional (nat_lt 0 level) (alone vlong) (λ child. whole (datum (record { doc = doc; payload = payload; freq = freq; prox = prox; child = child })))))))
 

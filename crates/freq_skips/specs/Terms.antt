@@ -8,7 +8,7 @@ use Rattle.freq_skips.specs.declared.datum.Point.{Point}
 use Rattle.lu_types.specs.declared.term.TermRules.{TermRules}
 use Rattle.lu_grammar.specs.Bytes.{Cursor, start_of, place_in}
 use Rattle.lu_grammar.specs.Plans.{Plan, done, and_then, in_turn}
-use Rattle.freq_skips.specs.declared.rules.Term.{Term}
+use Rattle.freq_skips.specs.declared.rules.RuledTerm.{RuledTerm}
 use Rattle.lu_grammar.specs.Meaning.{ReadsTo, FaultFrom}
 use Rattle.freq_skips.specs.Records.{Record}
 use Rattle.freq_skips.specs.Entries.{Posting, entries}
@@ -20,19 +20,19 @@ pub record TermData : Type 0 where
   pub levels : List (List Point)
 
 -- the entries of a term, and then its skip levels
-abbrev pub term_plan : Term → Plan TermData Record
+abbrev pub term_plan : RuledTerm → Plan TermData Record
 term_plan t = and_then (entries t) (λ s. and_then (levels t s.postings (level_count t) []) (λ points. done (record { postings = s.postings; levels = points })))
 
 -- a term by the line of the dictionary and the rules
-abbrev pub term_of : TermInfo → TermRules → Term
+abbrev pub term_of : TermInfo → TermRules → RuledTerm
 term_of info rules = record { info = info; rules = rules }
 
 -- the terms of a dictionary with these numbers, in a segment with these fields and so many documents
-abbrev pub terms_of : List TableField → TermNumbers → ℕ → List TermInfo → List Term
+abbrev pub terms_of : List TableField → TermNumbers → ℕ → List TermInfo → List RuledTerm
 terms_of fields numbers documents infos = map (λ info. term_of info (term_rules numbers (bits_at fields info.field) documents)) infos
 
 -- some terms in turn
-abbrev pub terms_plan : List Term → Plan (List TermData) Record
+abbrev pub terms_plan : List RuledTerm → Plan (List TermData) Record
 terms_plan terms = in_turn term_plan terms
 
 -- the file: the terms of the dictionary in turn
@@ -48,10 +48,10 @@ pub record IsGoodTerm (info : TermInfo) (rules : TermRules) (frq : List ℕ) : T
   pub reads : ReadsTo (term_plan (term_of info rules)) (place_in frq info.freq) value end
 
 -- the records of the term do not all stand there: the first that is not good is at this offset, and breaks this rule first
-pub record IsTermFault (t : Term) (from : Cursor) (offset rule : ℕ) : Type 0 where
+pub record IsTermFault (t : RuledTerm) (from : Cursor) (offset rule : ℕ) : Type 0 where
   pub fault : FaultFrom (term_plan t) from offset rule
   pub unread : (value : TermData) (end : Cursor) → ReadsTo (term_plan t) from value end → ⊥
 
 -- the first records of a file are the terms in turn, which stand for these, and they end at a place
-abbrev pub AreTermsUpTo : List Term → List ℕ → ℕ → List TermData → Type 0
+abbrev pub AreTermsUpTo : List RuledTerm → List ℕ → ℕ → List TermData → Type 0
 AreTermsUpTo terms frq place values = ReadsTo (terms_plan terms) (start_of frq) values (place_in frq place)

@@ -2,14 +2,14 @@
 use Rattle.std.specs.Prelude.{◌≡◌, ◌≤◌, ℕ, ◌/◌, List, [], ◌∷◌, Option, Some, None, Ok, length}
 use Rattle.lu_grammar.specs.Bytes.{Cursor, place_in}
 use Rattle.lu_grammar.specs.Plans.{read_plan}
-use Rattle.freq_skips.specs.declared.rules.Term.{Term}
+use Rattle.freq_skips.specs.declared.rules.RuledTerm.{RuledTerm}
 use Rattle.freq_skips.specs.declared.datum.Point.{Point}
 use Rattle.freq_skips.specs.declared.following.Following.{Following}
 use Rattle.freq_skips.specs.Entries.{Posting}
 use Rattle.freq_skips.specs.Levels.{Along, level_of, level_plan, level_count, levels, Follows, AreData, IsSmall}
 
 -- a walk along a level whose data are good has passed one for every so many data of the level below
-pub record FollowsPoints (t : Term) (postings : List Posting) (level : ℕ) (points : List Point) (rest : List (List Point)) (passed : ℕ) (f : Following) : Type 0 where
+pub record FollowsPoints (t : RuledTerm) (postings : List Posting) (level : ℕ) (points : List Point) (rest : List (List Point)) (passed : ℕ) (f : Following) : Type 0 where
   pub stated : Option ℕ
   pub begin : Cursor
   pub end : Cursor
@@ -18,7 +18,7 @@ pub record FollowsPoints (t : Term) (postings : List Posting) (level : ℕ) (poi
   pub number : f.count ≡ passed / t.rules.skip_interval
 
 -- the walk along the level above, where there is one
-abbrev pub FollowsAbove : Term → List Posting → ℕ → List (List Point) → ℕ → Option Following → Type 0
+abbrev pub FollowsAbove : RuledTerm → List Posting → ℕ → List (List Point) → ℕ → Option Following → Type 0
 FollowsAbove t postings level [] passed None = Unit {0}
 FollowsAbove t postings level [] passed (Some f) = ⊥
 FollowsAbove t postings level (points ∷ rest) passed None = ⊥
@@ -30,20 +30,20 @@ IsSmallAbove passed None = Unit {0}
 IsSmallAbove passed (Some f) = IsSmall f.count f.last × (f.count ≤ passed)
 
 -- the data of the level above start here and are good, where there is one
-pub record StandPoints (t : Term) (postings : List Posting) (level : ℕ) (points : List Point) (rest : List (List Point)) (frq : List ℕ) (place : ℕ) : Type 0 where
+pub record StandPoints (t : RuledTerm) (postings : List Posting) (level : ℕ) (points : List Point) (rest : List (List Point)) (frq : List ℕ) (place : ℕ) : Type 0 where
   pub stated : Option ℕ
   pub end : Cursor
   pub all : AreData t postings (level_of level stated rest) (place_in frq place) points end
 
 -- there is a level above exactly where there are points
-abbrev pub StandAbove : Term → List Posting → ℕ → List (List Point) → List ℕ → Option ℕ → Type 0
+abbrev pub StandAbove : RuledTerm → List Posting → ℕ → List (List Point) → List ℕ → Option ℕ → Type 0
 StandAbove t postings level [] frq None = Unit {0}
 StandAbove t postings level [] frq (Some place) = ⊥
 StandAbove t postings level (points ∷ rest) frq None = ⊥
 StandAbove t postings level (points ∷ rest) frq (Some place) = StandPoints t postings level points rest frq place
 
 -- a level is good that is to start at a place: its data start at another, and it ends at a third
-pub record IsGoodLevel (t : Term) (postings : List Posting) (number : ℕ) (points : List (List Point)) (frq : List ℕ) (place begin end : ℕ) : Type 0 where
+pub record IsGoodLevel (t : RuledTerm) (postings : List Posting) (number : ℕ) (points : List (List Point)) (frq : List ℕ) (place begin end : ℕ) : Type 0 where
   pub along : Along
   pub reads : read_plan (level_plan t postings number points) (place_in frq place) ≡ Ok (along, place_in frq end)
   pub data_stand : StandPoints t postings number along.points points frq begin
@@ -51,7 +51,7 @@ pub record IsGoodLevel (t : Term) (postings : List Posting) (number : ℕ) (poin
   pub end_within : end ≤ length frq
 
 -- the skip levels are good that are to start at a place, and end at another
-pub record AreGoodLevels (t : Term) (postings : List Posting) (frq : List ℕ) (place end : ℕ) : Type 0 where
+pub record AreGoodLevels (t : RuledTerm) (postings : List Posting) (frq : List ℕ) (place end : ℕ) : Type 0 where
   pub points : List (List Point)
   pub reads : read_plan (levels t postings (level_count t) []) (place_in frq place) ≡ Ok (points, place_in frq end)
   pub end_within : end ≤ length frq

@@ -2,7 +2,7 @@
 use Rattle.std.specs.Prelude.{◌≡◌, ◌≢◌, ◌⊎◌, ◌<◌, ◌≤◌, ◌-◌, ◌/◌, ◌%◌, ℕ, List, [], Option, Some, None, Result, Ok, Err, length, slice_index_or}
 use Rattle.lu_grammar.specs.Bytes.{Cursor, place_in}
 use Rattle.lu_grammar.specs.Plans.{Broken, read_plan}
-use Rattle.freq_skips.specs.declared.rules.Term.{Term}
+use Rattle.freq_skips.specs.declared.rules.RuledTerm.{RuledTerm}
 use Rattle.freq_skips.specs.declared.datum.Point.{Point}
 use Rattle.freq_skips.specs.declared.walk.Walked.{Walked}
 use Rattle.freq_skips.specs.declared.walk.Datum.{Datum}
@@ -13,7 +13,7 @@ use Rattle.freq_skips.specs.Terms.{TermData, term_plan}
 
 -- a walk: the term, what its part of `.frq` stands for, and how many entries were answered
 pub record WalkState : Type 0 where
-  pub term : Term
+  pub term : RuledTerm
   pub value : TermData
   pub passed : ℕ
 
@@ -30,7 +30,7 @@ abbrev pub datum_of : Point → Datum
 datum_of p = record { doc = p.doc; freq = p.freq; prox = p.prox; payload = p.payload }
 
 -- the level has a datum for the last of so many entries
-abbrev pub HasDatum : Term → ℕ → ℕ → Type 0
+abbrev pub HasDatum : RuledTerm → ℕ → ℕ → Type 0
 HasDatum t level passed = (level < level_count t) × (0 < passed) × (passed % stride t level ≡ 0)
 
 -- that datum of the level, or that it has none
@@ -44,11 +44,11 @@ read_value (Ok x) = x.0
 read_value (Err b) = record { postings = []; levels = [] }
 
 -- what a term that is good and starts here stands for
-abbrev pub value_from : Term → Cursor → TermData
+abbrev pub value_from : RuledTerm → Cursor → TermData
 value_from t start = read_value (read_plan (term_plan t) start)
 
 -- a place along a level whose data are good: so many are passed, one for every so many entries
-pub record IsOnLevel (t : Term) (postings : List Posting) (level : ℕ) (points : List Point) (frq : List ℕ) (passed : ℕ) (r : Rung) : Type 0 where
+pub record IsOnLevel (t : RuledTerm) (postings : List Posting) (level : ℕ) (points : List Point) (frq : List ℕ) (passed : ℕ) (r : Rung) : Type 0 where
   pub stated : Option ℕ
   pub rest : List (List Point)
   pub begin : ℕ
@@ -65,19 +65,19 @@ abbrev pub no_rung : Rung
 no_rung = record { place = 0; count = 0; last = no_point }
 
 -- the term that starts at its place in these bytes
-abbrev pub start_in : Term → List ℕ → Cursor
+abbrev pub start_in : RuledTerm → List ℕ → Cursor
 start_in t frq = place_in frq t.info.freq
 
 -- the data of a level of that term
-abbrev pub points_in : Term → List ℕ → ℕ → List Point
+abbrev pub points_in : RuledTerm → List ℕ → ℕ → List Point
 points_in t frq level = slice_index_or (value_from t (start_in t frq)).levels level []
 
 -- there is a place along each level, after so many entries
-abbrev pub AreOnLevels : Term → List ℕ → ℕ → List Rung → Type 0
+abbrev pub AreOnLevels : RuledTerm → List ℕ → ℕ → List Rung → Type 0
 AreOnLevels t frq passed rungs = (n : ℕ) → n < level_count t → IsOnLevel t (postings_from t (start_in t frq)) n (points_in t frq n) frq passed (slice_index_or rungs n no_rung)
 
 -- the datum passed last on a level is the one that belongs to the last of so many entries
-pub record IsFresh (t : Term) (frq : List ℕ) (level passed : ℕ) (p : Point) : Type 0 where
+pub record IsFresh (t : RuledTerm) (frq : List ℕ) (level passed : ℕ) (p : Point) : Type 0 where
   pub level_below : level < level_count t
   pub multiple : passed % stride t level ≡ 0
   pub point : slice_index_or (points_in t frq level) (passed / stride t level - 1) no_point ≡ p
@@ -85,10 +85,10 @@ pub record IsFresh (t : Term) (frq : List ℕ) (level passed : ℕ) (p : Point) 
   pub freq : p.freq ≡ (slice_index_or (postings_from t (start_in t frq)) (passed - 1) no_posting).place - t.info.freq
 
 -- a level that has no datum for the last of so many entries
-abbrev pub IsStale : Term → ℕ → ℕ → Type 0
+abbrev pub IsStale : RuledTerm → ℕ → ℕ → Type 0
 IsStale t level passed = (passed ≡ 0) ⊎ (passed % stride t level ≢ 0)
 
 -- the document before the last of so many entries, and the bytes of the entries before it
-pub record StandsBefore (t : Term) (frq : List ℕ) (passed doc freq : ℕ) : Type 0 where
+pub record StandsBefore (t : RuledTerm) (frq : List ℕ) (passed doc freq : ℕ) : Type 0 where
   pub doc_is : doc ≡ (slice_index_or (postings_from t (start_in t frq)) (passed - 1) no_posting).before
   pub freq_is : freq ≡ (slice_index_or (postings_from t (start_in t frq)) (passed - 1) no_posting).place - t.info.freq

@@ -1,6 +1,6 @@
 -- A writer of `.frq`, and what it does with each entry that it is handed.
 use Rattle.std.specs.Prelude.{◌≡◌, ◌≢◌, ◌^◌, true, ◌<◌, ◌≤◌, ℕ, suc, ◌+◌, ◌-◌, ◌*◌, ◌/◌, ◌%◌, Bool, List, [], ◌∷◌, ◌++◌, length, ◌==◌, if◌then◌else◌, slice_index_or}
-use Rattle.freq_skips.specs.declared.rules.Term.{Term}
+use Rattle.freq_skips.specs.declared.rules.RuledTerm.{RuledTerm}
 use Rattle.freq_skips.specs.declared.writer.Mark.{Mark}
 use Rattle.freq_skips.specs.declared.datum.Point.{Point}
 use Rattle.freq_skips.specs.Levels.{greatest_power, level_count, stride, data_count, no_point}
@@ -74,7 +74,7 @@ abbrev pub IsRisingProx : List Handed → Type 0
 IsRisingProx handed = (j k : ℕ) → j ≤ k → k < length handed → ((slice_index_or handed j no_handed).prox ≤ (slice_index_or handed k no_handed).prox) × ((slice_index_or handed k no_handed).prox < 2 ^ 31)
 
 -- the term that a writer is to finish: what the dictionary is to say of it, in a segment with so many documents
-abbrev pub term_written : WriterState → List ℕ → List Handed → ℕ → ℕ → ℕ → ℕ → Term
+abbrev pub term_written : WriterState → List ℕ → List Handed → ℕ → ℕ → ℕ → ℕ → RuledTerm
 term_written w written handed documents field prox skip = record {
   info = record { field = field; doc_freq = length handed; freq = length written; prox = prox; skip = skip };
   rules = record { documents = documents; skip_interval = w.interval; max_levels = w.most; omit_tf = w.omit; payloads = w.payloads };
@@ -95,6 +95,6 @@ abbrev pub LeadsTo : Point → Mark → Type 0
 LeadsTo p k = (p.doc ≡ k.doc) × (p.freq ≡ k.freq) × (p.prox ≡ k.prox) × (p.payload ≡ 0)
 
 -- what a term's bytes stand for is what was handed over: these postings, and on each level, for each datum, the mark of the entry that it belongs to
-pub record IsAsHanded (t : Term) (handed : List Handed) (value : TermData) : Type 0 where
+pub record IsAsHanded (t : RuledTerm) (handed : List Handed) (value : TermData) : Type 0 where
   pub postings : value.postings ≡ written_postings t.rules.omit_tf t.info.freq 0 handed
   pub leads : (n m : ℕ) → n < level_count t → m < data_count t n → LeadsTo (slice_index_or (slice_index_or value.levels n []) m no_point) (mark_of t.rules.omit_tf handed (suc m * stride t n - 1))

@@ -7,7 +7,7 @@ ghost use Rattle.freq_skips.specs.Terms.{TermData, IsGoodTerm, IsTermFault, term
 
 use crate::levels::check_levels;
 use crate::passing::check_entries;
-use crate::rules::Term;
+use crate::rules::RuledTerm;
 use lu_prims::Cur;
 use lu_types::{Spot, TermInfo, TermRules};
 
@@ -23,7 +23,7 @@ pub fn check_term(frq: &[u8], at: usize, info: &TermInfo, rules: &TermRules) -> 
     ensures good { 0 < info.now.doc_freq → IfOk result (λ _. (at ≡ info.now.freq) × IsGoodTerm info.now rules.now frq.now) }
     ensures within { IfOk result (λ end. end ≤ length frq.now) }
 {
-    let term = Term {
+    let term = RuledTerm {
         info: *info,
         rules: *rules,
     };

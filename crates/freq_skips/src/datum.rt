@@ -9,7 +9,7 @@ ghost use Rattle.freq_skips.specs.Records.{Record, GivesPart, datum, datum_shape
 ghost use Rattle.freq_skips.specs.Levels.{datum_conditions, differs as is_another, skipped as skipped_by, point_of, number_or};
 
 use crate::entry::{is_odd, optional_num};
-use crate::rules::Term;
+use crate::rules::RuledTerm;
 use lu_prims::{Bad, Cur};
 use lu_types::rules::{
     SKIP_CHILD, SKIP_DOC, SKIP_FREQ, SKIP_LENGTH, SKIP_OMIT, SKIP_START, rule_of,
@@ -65,7 +65,7 @@ fn optional_vlong(cur: &mut Cur<'_>, test: bool) -> Result<Option<u64>, Bad>
 }
 
 /// The parts of a datum of a level, and the place behind those before its child pointer.
-fn datum_parts(cur: &mut Cur<'_>, term: &Term, level: u32) -> Result<(Skip, usize), Bad>
+fn datum_parts(cur: &mut Cur<'_>, term: &RuledTerm, level: u32) -> Result<(Skip, usize), Bad>
     ensures parts { Gives (λ x. datum x.0) (read_shape (datum_shape term.now level) cur.old) cur.new result }
     ensures place { IsBytes cur.old.rest → IfOk result (λ x. (x.1 ≡ cur.old.place + length_to_child x.0) × (cur.new.place ≡ cur.old.place + datum_length x.0) × IsBytes cur.new.rest) }
 {
@@ -102,7 +102,7 @@ fn datum_parts(cur: &mut Cur<'_>, term: &Term, level: u32) -> Result<(Skip, usiz
 }
 
 /// How many documents a datum skips.
-fn skipped(term: &Term, doc: u32) -> u32
+fn skipped(term: &RuledTerm, doc: u32) -> u32
     ensures { result ≡ skipped_by term.now doc }
 {
     if term.rules.payloads { doc / 2 } else { doc }
@@ -119,14 +119,14 @@ fn differs(wanted: Option<u64>, found: usize) -> bool
 }
 
 /// Whether the first record of the skip data does not start where the dictionary says.
-pub fn skips_start_elsewhere(term: &Term, first: bool, place: usize) -> bool
+pub fn skips_start_elsewhere(term: &RuledTerm, first: bool, place: usize) -> bool
     ensures { result ≡ (first && not (place == term.now.info.freq + term.now.info.skip)) }
 {
     first && place as u64 != u64::from(term.info.freq) + u64::from(term.info.skip)
 }
 
 /// Whether a datum skips positions in a field that has none.
-fn skips_positions(term: &Term, prox: u32) -> bool
+fn skips_positions(term: &RuledTerm, prox: u32) -> bool
     ensures { result ≡ (term.now.rules.omit_tf && not (prox == 0)) }
 {
     term.rules.omit_tf && prox != 0
@@ -135,7 +135,7 @@ fn skips_positions(term: &Term, prox: u32) -> bool
 /// The first rule that a datum breaks, of which this is wanted, in a level that starts there, after a point; it stands at a
 /// place, and its child pointer and its end at others.
 fn datum_broken(
-    term: &Term,
+    term: &RuledTerm,
     wanted: &Wanted,
     start: usize,
     last: &Point,
@@ -193,7 +193,7 @@ fn child_or_zero(child: Option<u64>) -> u64
 }
 
 /// Where a datum leads that stands at a place after a point.
-fn point_after(term: &Term, last: &Point, place: usize, skip: &Skip) -> Point
+fn point_after(term: &RuledTerm, last: &Point, place: usize, skip: &Skip) -> Point
     requires doc_small { last.now.doc < 2 ^ 63 }
     requires freq_small { last.now.freq < 2 ^ 63 }
     requires prox_small { last.now.prox < 2 ^ 63 }
@@ -216,7 +216,7 @@ fn point_after(term: &Term, last: &Point, place: usize, skip: &Skip) -> Point
 /// it breaks.
 pub fn next_datum(
     cur: &mut Cur<'_>,
-    term: &Term,
+    term: &RuledTerm,
     level: u32,
     wanted: &Wanted,
     start: usize,
@@ -246,7 +246,7 @@ pub fn next_datum(
 }
 
 /// Where the next datum leads of a level whose data are good, after a point.
-pub fn good_datum(cur: &mut Cur<'_>, term: &Term, level: u32, last: &Point) -> Option<Point>
+pub fn good_datum(cur: &mut Cur<'_>, term: &RuledTerm, level: u32, last: &Point) -> Option<Point>
     requires doc_small { last.now.doc < 2 ^ 63 }
     requires freq_small { last.now.freq < 2 ^ 63 }
     requires prox_small { last.now.prox < 2 ^ 63 }

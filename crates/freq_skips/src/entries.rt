@@ -7,7 +7,7 @@ ghost use Rattle.freq_skips.specs.Terms.{TermData, IsGoodTerm, term_of, term_pla
 
 use crate::entry::Entry;
 use crate::passing::Passing;
-use crate::rules::Term;
+use crate::rules::RuledTerm;
 use lu_prims::{Cur, Steps};
 use lu_types::{TermInfo, TermRules};
 use std::marker::Model;
@@ -16,7 +16,7 @@ use std::marker::Model;
 #[derive(Drop)]
 pub struct Entries<'a> {
     frq: &'a [u8],
-    term: Term,
+    term: RuledTerm,
     passing: Passing<'a>,
 }
 
@@ -43,7 +43,7 @@ impl<'a> Entries<'a> {
         requires { IsGoodTerm info.now rules.now frq.now }
         ensures { (value : TermData) (end : Cursor) → ReadsTo (term_plan (term_of info.now rules.now)) (place_in frq.entry.now info.now.freq) value end → result ≡ map entry_of value.postings }
     {
-        let term = Term {
+        let term = RuledTerm {
             info: *info,
             rules: *rules,
         };

@@ -7,7 +7,7 @@ ghost use Rattle.lu_grammar.specs.Records.{read_shape, record_at, first_broken};
 ghost use Rattle.freq_skips.specs.Records.{Record, GivesPart, optional_length, entry, entry_shape, states_frequency, is_odd as is_odd_number};
 ghost use Rattle.freq_skips.specs.Entries.{entry_conditions, gap as gap_of, posting_of, frequency, is_low};
 
-use crate::rules::Term;
+use crate::rules::RuledTerm;
 use lu_prims::{Bad, Cur};
 use lu_types::rules::{DOC_ORDER, DOC_RANGE, FREQ, FREQ_START, rule_of};
 
@@ -43,7 +43,7 @@ pub fn optional_num(cur: &mut Cur<'_>, test: bool) -> Result<Option<u32>, Bad>
 }
 
 /// The delta of an entry, and its frequency where that is stated.
-fn entry_parts(cur: &mut Cur<'_>, term: &Term) -> Result<(u32, Option<u32>), Bad>
+fn entry_parts(cur: &mut Cur<'_>, term: &RuledTerm) -> Result<(u32, Option<u32>), Bad>
     ensures { Gives (λ x. entry x.0 x.1) (read_shape (entry_shape term.now) cur.old) cur.new result }
 {
     let delta = match cur.vint() {
@@ -57,7 +57,7 @@ fn entry_parts(cur: &mut Cur<'_>, term: &Term) -> Result<(u32, Option<u32>), Bad
 }
 
 /// How far the document of an entry is above the one before.
-fn gap(term: &Term, delta: u32) -> u32
+fn gap(term: &RuledTerm, delta: u32) -> u32
     ensures { result ≡ gap_of term.now delta }
 {
     if term.rules.omit_tf { delta } else { delta / 2 }
@@ -84,7 +84,7 @@ fn is_low_frequency(stated: Option<u32>) -> bool
 }
 
 /// Whether the first entry of a term does not start where the dictionary says.
-fn starts_elsewhere(term: &Term, first: bool, place: usize) -> bool
+fn starts_elsewhere(term: &RuledTerm, first: bool, place: usize) -> bool
     ensures { result ≡ (first && not (place == term.now.info.freq)) }
 {
     first && place != term.info.freq as usize
@@ -99,7 +99,7 @@ fn repeats(first: bool, gap: u32) -> bool
 
 /// The first rule that an entry breaks at a place, after the document of the entry before.
 fn entry_broken(
-    term: &Term,
+    term: &RuledTerm,
     first: bool,
     last: u32,
     place: usize,
@@ -127,7 +127,7 @@ fn entry_broken(
 }
 
 /// The entry that stands here, the first of its term or not, after a document; or the first rule that it breaks.
-pub fn next_entry(cur: &mut Cur<'_>, term: &Term, first: bool, last: u32) -> Result<Entry, u16>
+pub fn next_entry(cur: &mut Cur<'_>, term: &RuledTerm, first: bool, last: u32) -> Result<Entry, u16>
     ensures { MatchResult result
         (λ e. (r : Record) × (record_at (entry_shape term.now) (entry_conditions term.now first last cur.old.place) cur.old ≡ Ok (r, cur.new))
         × (posting_of term.now last cur.old.place r ≡ record { doc = e.doc; freq = e.freq; before = last; place = cur.old.place }))

@@ -6,7 +6,7 @@ ghost use Rattle.freq_skips.specs.Entries.{Posting};
 ghost use Rattle.freq_skips.specs.Levels.{level_of, wanted as is_wanted, data_count, level_data, Follows, AreData, Passes, IsSmall};
 
 use crate::datum::{Point, Wanted, good_datum, next_datum};
-use crate::rules::Term;
+use crate::rules::RuledTerm;
 use lu_prims::Cur;
 
 /// A place among the data of a level: so many are passed, and the last of them leads there.
@@ -31,7 +31,7 @@ impl<'a> Following<'a> {
     /// Takes one datum more, of which this is wanted, in a level that starts there; or tells the first rule that it breaks.
     pub fn check_next(
         &mut self,
-        term: &Term,
+        term: &RuledTerm,
         level: u32,
         wanted: &Wanted,
         start: usize,
@@ -64,7 +64,7 @@ impl<'a> Following<'a> {
     }
 
     /// Passes one datum of a level whose data are good.
-    pub fn pass(&mut self, term: &Term, level: u32)
+    pub fn pass(&mut self, term: &RuledTerm, level: u32)
         requires small { IsSmall self.old.count self.old.last }
         requires few { self.old.count < 2 ^ 31 }
         ensures small { IsSmall self.new.count self.new.last }

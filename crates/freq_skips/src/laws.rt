@@ -3,7 +3,7 @@ ghost use Rattle.std.specs.Prelude.{◌≡◌, ◌<◌, ◌≤◌, Bool, ℕ, Li
 ghost use Rattle.lu_types.specs.RuleNumbers as number;
 ghost use Rattle.lu_grammar.specs.Bytes.{IsBytes, place_in};
 ghost use Rattle.lu_grammar.specs.Meaning.{Reads, ReadsTo, FirstFault};
-ghost use Rattle.freq_skips.specs.declared.rules.Term.{Term};
+ghost use Rattle.freq_skips.specs.declared.rules.RuledTerm.{RuledTerm};
 ghost use Rattle.freq_skips.specs.Written.{Handed};
 ghost use Rattle.freq_skips.specs.Writing.{WriterState, begun, added, finished, term_written, IsWriting, IsFinishable, IsAsHanded};
 ghost use Rattle.freq_skips.specs.Terms.{TermData, IsTermFault, AreTermsUpTo, term_plan, terms_plan};
@@ -12,12 +12,12 @@ ghost use Rattle.freq_skips.specs.Terms.{TermData, IsTermFault, AreTermsUpTo, te
 /// read as the whole file; a fault of one of them is the first fault of the file, and so are bytes behind the last.
 pub fn terms_in_turn()
     ensures none { (frq : List ℕ) → IsBytes frq → AreTermsUpTo [] frq 0 [] }
-    ensures more { (terms : List Term) (values : List TermData) (t : Term) (frq : List ℕ) (place end : ℕ) (value : TermData) → IsBytes frq → AreTermsUpTo terms frq place values
+    ensures more { (terms : List RuledTerm) (values : List TermData) (t : RuledTerm) (frq : List ℕ) (place end : ℕ) (value : TermData) → IsBytes frq → AreTermsUpTo terms frq place values
         → ReadsTo (term_plan t) (place_in frq place) value (place_in frq end) → AreTermsUpTo (terms ++ t ∷ []) frq end (values ++ value ∷ []) }
-    ensures whole { (terms : List Term) (values : List TermData) (frq : List ℕ) → AreTermsUpTo terms frq (length frq) values → Reads (terms_plan terms) frq values }
-    ensures fault { (terms : List Term) (values : List TermData) (t : Term) (rest : List Term) (frq : List ℕ) (place offset rule : ℕ) → IsBytes frq → AreTermsUpTo terms frq place values
+    ensures whole { (terms : List RuledTerm) (values : List TermData) (frq : List ℕ) → AreTermsUpTo terms frq (length frq) values → Reads (terms_plan terms) frq values }
+    ensures fault { (terms : List RuledTerm) (values : List TermData) (t : RuledTerm) (rest : List RuledTerm) (frq : List ℕ) (place offset rule : ℕ) → IsBytes frq → AreTermsUpTo terms frq place values
         → IsTermFault t (place_in frq place) offset rule → FirstFault (terms_plan (terms ++ t ∷ rest)) frq offset rule }
-    ensures trailing { (terms : List Term) (values : List TermData) (frq : List ℕ) (place : ℕ) → IsBytes frq → AreTermsUpTo terms frq place values → place < length frq → FirstFault (terms_plan terms) frq place number.trailing }
+    ensures trailing { (terms : List RuledTerm) (values : List TermData) (frq : List ℕ) (place : ℕ) → IsBytes frq → AreTermsUpTo terms frq place values → place < length frq → FirstFault (terms_plan terms) frq place number.trailing }
 {}
 
 /// What a writer does: it begins with nothing handed over; with each entry it holds what was handed over and that entry; and the

@@ -13,7 +13,7 @@ ghost use Rattle.freq_skips.specs.Walking.{FollowsAbove, IsSmallAbove, StandAbov
 use crate::datum::Wanted;
 use crate::following::{Following, NO_POINT};
 use crate::passing::Passing;
-use crate::rules::Term;
+use crate::rules::RuledTerm;
 use lu_prims::Cur;
 use lu_types::{FileKind, Spot};
 
@@ -36,7 +36,7 @@ pub fn greatest_power(base: u32, number: u32, most: u32) -> (u32, u64)
 }
 
 /// How many skip levels a term has, and so great a power of the interval.
-pub fn level_count(term: &Term) -> (u32, u64)
+pub fn level_count(term: &RuledTerm) -> (u32, u64)
     requires { 2 ≤ term.now.rules.skip_interval }
     ensures count { result.0 ≡ count_of_levels term.now }
     ensures power { result.1 ≡ term.now.rules.skip_interval ^ result.0 }
@@ -53,7 +53,7 @@ pub fn level_count(term: &Term) -> (u32, u64)
 /// datum for every so many of the level below.
 fn child_above(
     above: &mut Option<Following<'_>>,
-    term: &Term,
+    term: &RuledTerm,
     level: u32,
     passed: u32,
 ) -> Option<u64>
@@ -87,7 +87,7 @@ pub struct Level {
 
 impl Level {
     /// The index of the entry that the datum belongs to which follows so many.
-    fn entry_index(&self, term: &Term, passed: u32) -> u32
+    fn entry_index(&self, term: &RuledTerm, passed: u32) -> u32
         requires interval { 2 ≤ term.now.rules.skip_interval }
         requires stride { self.now.stride ≡ stride_of term.now self.now.number }
         requires within { passed < data_count term.now self.now.number }
@@ -100,7 +100,7 @@ impl Level {
     }
 
     /// The length that the datum is to end which follows so many: that of the level where it is the last.
-    fn length_due(&self, term: &Term, passed: u32) -> Option<u64>
+    fn length_due(&self, term: &RuledTerm, passed: u32) -> Option<u64>
         requires stride { self.now.stride ≡ stride_of term.now self.now.number }
         requires interval { 2 ≤ term.now.rules.skip_interval }
         ensures { result ≡ (if suc passed == data_count term.now self.now.number then self.now.stated else None) }
@@ -125,7 +125,7 @@ impl Level {
 fn wanted_next(
     entries: &mut Passing<'_>,
     above: &mut Option<Following<'_>>,
-    term: &Term,
+    term: &RuledTerm,
     level: &Level,
     passed: u32,
 ) -> Wanted
@@ -184,7 +184,7 @@ pub fn check_data(
     frq: &[u8],
     at: usize,
     entries: usize,
-    term: &Term,
+    term: &RuledTerm,
     level: &Level,
     above: Option<usize>,
 ) -> Result<usize, Spot>

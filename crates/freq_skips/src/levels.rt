@@ -14,13 +14,13 @@ ghost use Rattle.freq_skips.specs.Walking.{StandAbove, IsGoodLevel, AreGoodLevel
 
 use crate::datum::skips_start_elsewhere;
 use crate::level::{Level, check_data, level_count};
-use crate::rules::Term;
+use crate::rules::RuledTerm;
 use lu_prims::Cur;
 use lu_types::rules::{SKIP_START, rule_of};
 use lu_types::{FileKind, Spot};
 
 /// The first rule that the length of a level breaks at a place, the first record of the skip data or not.
-fn length_broken(term: &Term, first: bool, place: usize) -> Option<u16>
+fn length_broken(term: &RuledTerm, first: bool, place: usize) -> Option<u16>
     ensures { result ≡ first_broken (skip_start term.now first place ∷ []) }
 {
     if skips_start_elsewhere(term, first, place) {
@@ -30,7 +30,7 @@ fn length_broken(term: &Term, first: bool, place: usize) -> Option<u16>
 }
 
 /// The length of a level, the first record of the skip data or not; or the first rule that it breaks.
-fn read_length(cur: &mut Cur<'_>, term: &Term, first: bool) -> Result<u64, u16>
+fn read_length(cur: &mut Cur<'_>, term: &RuledTerm, first: bool) -> Result<u64, u16>
     ensures { Gives length_record (record_at length_shape (λ r. skip_start term.now first cur.old.place ∷ []) cur.old) cur.new result }
 {
     let place = cur.place();
@@ -47,7 +47,7 @@ fn read_length(cur: &mut Cur<'_>, term: &Term, first: bool) -> Result<u64, u16>
 pub fn level_length(
     frq: &[u8],
     at: usize,
-    term: &Term,
+    term: &RuledTerm,
     number: u32,
     highest: bool,
 ) -> Result<(Option<u64>, usize), Spot>
@@ -81,7 +81,7 @@ fn check_level(
     frq: &[u8],
     at: usize,
     entries: usize,
-    term: &Term,
+    term: &RuledTerm,
     number: u32,
     stride: u64,
     above: Option<usize>,
@@ -115,7 +115,7 @@ fn check_level(
 
 /// Checks the skip levels of a term that are to start at a place, where its entries are good and start at another. Answers
 /// the place behind them.
-pub fn check_levels(frq: &[u8], at: usize, entries: usize, term: &Term) -> Result<usize, Spot>
+pub fn check_levels(frq: &[u8], at: usize, entries: usize, term: &RuledTerm) -> Result<usize, Spot>
     requires interval { 2 ≤ term.now.rules.skip_interval }
     requires at_within { at ≤ length frq.now }
     requires entries_within { entries ≤ length frq.now }

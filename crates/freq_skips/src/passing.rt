@@ -7,7 +7,7 @@ ghost use Rattle.lu_types.specs.Judging.{IsBroken};
 ghost use Rattle.freq_skips.specs.Entries.{entries, AreEntries, Stands, IsNext};
 
 use crate::entry::{Entry, next_entry};
-use crate::rules::Term;
+use crate::rules::RuledTerm;
 use lu_prims::Cur;
 use lu_types::{FileKind, Spot};
 
@@ -21,7 +21,7 @@ pub struct Passing<'a> {
 
 impl<'a> Passing<'a> {
     /// Passes one entry.
-    pub fn step(&mut self, term: &Term) -> Result<Entry, u16>
+    pub fn step(&mut self, term: &RuledTerm) -> Result<Entry, u16>
         requires { self.old.index < term.now.info.doc_freq }
         ensures { MatchResult result
             (λ e. (self.new.index ≡ self.old.index + 1) × (self.new.doc ≡ e.doc)
@@ -42,7 +42,7 @@ impl<'a> Passing<'a> {
     }
 
     /// Passes entries up to the one with an index, of a term whose entries are good.
-    pub fn pass_to(&mut self, term: &Term, target: u32)
+    pub fn pass_to(&mut self, term: &RuledTerm, target: u32)
         requires { target ≤ term.now.info.doc_freq }
         ensures { (start end : Cursor) → AreEntries term.now start end → Stands term.now start self.old.index self.old.doc self.old.cur → self.old.index ≤ target
             → Stands term.now start self.new.index self.new.doc self.new.cur × (self.new.index ≡ target) }
@@ -57,7 +57,7 @@ impl<'a> Passing<'a> {
 }
 
 /// Checks the entries of a term, from where they are to start.
-pub fn check_entries<'a>(cur: Cur<'a>, term: &Term) -> Result<Passing<'a>, Spot>
+pub fn check_entries<'a>(cur: Cur<'a>, term: &RuledTerm) -> Result<Passing<'a>, Spot>
     ensures { MatchResult result
         (λ passing. AreEntries term.now cur.entry passing.cur)
         (λ spot. IsBroken Frq (read_plan (entries term.now) cur.entry) spot) }

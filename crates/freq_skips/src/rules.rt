@@ -2,7 +2,7 @@ use lu_types::{TermInfo, TermRules};
 
 /// A term: what the dictionary says of it, and what its records are read by.
 #[derive(Clone, Copy, Debug, PartialEq, Eq)]
-pub struct Term {
+pub struct RuledTerm {
     pub info: TermInfo,
     pub rules: TermRules,
 }

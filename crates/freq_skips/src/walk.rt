@@ -13,7 +13,7 @@ use crate::following::{Following, NO_POINT};
 use crate::level::{level_count, quotient};
 use crate::levels::level_length;
 use crate::passing::Passing;
-use crate::rules::Term;
+use crate::rules::RuledTerm;
 use lu_prims::Cur;
 use lu_types::{TermInfo, TermRules};
 use std::marker::Model;
@@ -52,7 +52,7 @@ const NO_RUNG: Rung = Rung {
 };
 
 /// Where the data start of a level that stands at a place, with so many levels above.
-fn data_start(frq: &[u8], place: usize, term: &Term, number: u32, highest: bool) -> usize
+fn data_start(frq: &[u8], place: usize, term: &RuledTerm, number: u32, highest: bool) -> usize
     requires { place ≤ length frq.now }
     ensures within { result ≤ length frq.now }
     ensures data { (postings : List Posting) (points : List (List Point)) (s : Along) (end : Cursor) → highest ≡ (length points == 0)
@@ -66,7 +66,7 @@ fn data_start(frq: &[u8], place: usize, term: &Term, number: u32, highest: bool)
 }
 
 /// Where the data end of a level that start at a place, and are so many.
-fn data_end(frq: &[u8], start: usize, term: &Term, number: u32, count: u32) -> usize
+fn data_end(frq: &[u8], start: usize, term: &RuledTerm, number: u32, count: u32) -> usize
     requires within { start ≤ length frq.now }
     requires few { count < 2 ^ 31 }
     ensures { (postings : List Posting) (stated : Option ℕ) (above : List (List Point)) (points : List Point) (end : Cursor) → count ≡ data_count term.now number
@@ -84,7 +84,7 @@ fn data_end(frq: &[u8], start: usize, term: &Term, number: u32, count: u32) -> u
 }
 
 /// Passes the next datum along a level.
-fn pass_rung(frq: &[u8], term: &Term, level: u32, rung: &Rung, before: u32) -> Rung
+fn pass_rung(frq: &[u8], term: &RuledTerm, level: u32, rung: &Rung, before: u32) -> Rung
     requires interval { 2 ≤ term.now.rules.skip_interval }
     requires level { level < count_of_levels term.now }
     requires within { before < term.now.info.doc_freq }
@@ -112,7 +112,7 @@ fn pass_rung(frq: &[u8], term: &Term, level: u32, rung: &Rung, before: u32) -> R
 const MOST_LEVELS: usize = 32;
 
 /// The places along the levels of a term, which are so many, at the start of each.
-fn first_rungs(frq: &[u8], term: &Term, count: u32, power: u64) -> [Rung; MOST_LEVELS]
+fn first_rungs(frq: &[u8], term: &RuledTerm, count: u32, power: u64) -> [Rung; MOST_LEVELS]
     requires good { IsGoodTerm term.now.info term.now.rules frq.now }
     requires count { count ≡ count_of_levels term.now }
     requires power { power ≡ term.now.rules.skip_interval ^ count }
@@ -148,7 +148,7 @@ fn first_rungs(frq: &[u8], term: &Term, count: u32, power: u64) -> [Rung; MOST_L
 }
 
 /// Passes the data that belong to the entry with an index, on the lowest levels; answers how many levels have one.
-fn climb(frq: &[u8], term: &Term, rungs: &mut [Rung; MOST_LEVELS], count: u32, index: u32) -> u32
+fn climb(frq: &[u8], term: &RuledTerm, rungs: &mut [Rung; MOST_LEVELS], count: u32, index: u32) -> u32
     requires interval { 2 ≤ term.now.rules.skip_interval }
     requires count { count ≡ count_of_levels term.now }
     requires few { count < 32 }
@@ -176,7 +176,7 @@ fn climb(frq: &[u8], term: &Term, rungs: &mut [Rung; MOST_LEVELS], count: u32, i
 #[derive(Drop)]
 pub struct Walk<'a> {
     frq: &'a [u8],
-    term: Term,
+    term: RuledTerm,
     passing: Passing<'a>,
     count: u32,
     fresh: u32,
@@ -224,7 +224,7 @@ impl<'a> Walk<'a> {
         ensures { (value : TermData) (end : Cursor) → ReadsTo (term_plan (term_of info.now rules.now)) (place_in frq.entry.now info.now.freq) value end
             → result ≡ record { term = term_of info.now rules.now; value = value; passed = 0 } }
     {
-        let term = Term {
+        let term = RuledTerm {
             info: *info,
             rules: *rules,
         };

@@ -8,7 +8,7 @@ use Rattle.lu_types.specs.Bits.{has_bit}
 use Rattle.lu_types.specs.Tables.{TableField}
 use Rattle.lu_types.specs.Bits as bit
 use Rattle.lu_grammar.specs.Bytes.{IsBytes}
-use Rattle.lu_model.specs.Index.{Term, term_cmp, Occurrences, given, omitted, Entry, IndexedTerm}
+use Rattle.lu_model.specs.Index.{Term, term_cmp, Occurrences, given, omitted, IndexedEntry, IndexedTerm}
 use Rattle.lu_model.specs.Contents.{field_at, kept, occurrences_at, term_of}
 use Rattle.lu_model.specs.Valid.{IsKept, AreNorms}
 use Rattle.lu_model.proofs.Words.{IsIn, same_term}
@@ -82,10 +82,10 @@ one_found fields (u ∷ terms) it t rise (inr k) e =
     ] refl
 
 -- the entry that tells of a document
-pub found_entry : (n : ℕ) (entries : List Entry) (o : Occurrences) → occurrences_at n entries ≡ Some o → (e : Entry) × IsIn e entries × (e.occurrences ≡ o)
+pub found_entry : (n : ℕ) (entries : List IndexedEntry) (o : Occurrences) → occurrences_at n entries ≡ Some o → (e : IndexedEntry) × IsIn e entries × (e.occurrences ≡ o)
 found_entry n [] o e = cc
 found_entry n (f ∷ entries) o e =
-    elim (eqb n f.document) as (λ b. option_map (λ (g : Entry). g.occurrences) (cond b (Some f) (find (λ (g : Entry). eqb n g.document) entries)) ≡ Some o → (e : Entry) × IsIn e (f ∷ entries) × (e.occurrences ≡ o)) [
+    elim (eqb n f.document) as (λ b. option_map (λ (g : IndexedEntry). g.occurrences) (cond b (Some f) (find (λ (g : IndexedEntry). eqb n g.document) entries)) ≡ Some o → (e : IndexedEntry) × IsIn e (f ∷ entries) × (e.occurrences ≡ o)) [
       | true ↦ λ e. let same : f.occurrences ≡ o = cc in (f, inl refl, same)
       | false ↦ λ e. let r = found_entry n entries o e in (r.0, inr r.1, r.2)
     ] e

@@ -6,7 +6,7 @@ use Rattle.std.proofs.lemmas.List.{length-map}
 use Rattle.lu_types.specs.Tables.{TableField}
 use Rattle.lu_types.specs.Bits as bit
 use Rattle.lu_types.specs.Joins.{join_all}
-use Rattle.lu_model.specs.Index.{Term, term_cmp, in_order, Occurrences, Entry, IndexedTerm, Index}
+use Rattle.lu_model.specs.Index.{Term, term_cmp, in_order, Occurrences, IndexedEntry, IndexedTerm, Index}
 use Rattle.lu_model.specs.Contents.{Content, bits_of, content_at, field_at, indexed_term, is_deleted, kept, live, live_contents, name_of, occurrences_at, term_of}
 use Rattle.lu_model.specs.Valid.{IsSmall, IsKept, IsIndexedTerm, IsValid}
 use Rattle.lu_model.proofs.Words.{IsIn, Each, same_term, no_field, value_in, stands_at, entries_if_any, IsValue, IsTerm, stored_by_name, IsText}
@@ -115,7 +115,7 @@ module _ (indexes : List Index) (ok : Each IsValid indexes) where
       let is : t ≡ term_of index.fields it = same_term-true t (term_of index.fields it) r.1 in
       let right = term_right index h it r.0 in
       let entry = found_entry n it.entries o e in
-      let one = all_at (λ (entry : Entry). (entry.document < index.size) × IsKept (field_at it.field index.fields).bits entry.occurrences) entry.0 it.entries right.entries entry.1 in
+      let one = all_at (λ (entry : IndexedEntry). (entry.document < index.size) × IsKept (field_at it.field index.fields).bits entry.occurrences) entry.0 it.entries right.entries entry.1 in
       let says = subst (λ (w : Term). Says (bits_of w.field table) (field_at it.field index.fields).bits) (sym is) (term_says index h it r.0) in
       kept_above (field_at it.field index.fields).bits (bits_of t.field table) o says (subst (IsKept (field_at it.field index.fields).bits) entry.2 one.1)
 
@@ -131,7 +131,7 @@ module _ (indexes : List Index) (ok : Each IsValid indexes) where
       let says = subst (λ (w : Term). Says (bits_of w.field table) (field_at s.it.field s.index.fields).bits) (sym s.is) (term_says s.index s.inside s.it s.in_terms) in
       let found = one_found s.index.fields s.index.terms s.it t (valid s.index s.inside).rise s.in_terms s.is in
       let there : is_some ((content_at s.index s.n).occurrences t) ≡ true =
-      ap (λ f. is_some (occurrences_at s.n (entries_if_any f))) found ∙ sym (any-found (λ (entry : Entry). eqb s.n entry.document) (λ (entry : Entry). entry.occurrences) s.it.entries) ∙ s.stands in
+      ap (λ f. is_some (occurrences_at s.n (entries_if_any f))) found ∙ sym (any-found (λ (entry : IndexedEntry). eqb s.n entry.document) (λ (entry : IndexedEntry). entry.occurrences) s.it.entries) ∙ s.stands in
       let entries = (indexed_term table contents t).entries in
       let room : 0 + length contents ≤ length contents = omega arith in
       let within = entries_within table t (length contents) 0 contents room (λ c o k e. term_kept t c o k e) in
@@ -140,8 +140,8 @@ module _ (indexes : List Index) (ok : Each IsValid indexes) where
         text = subst (λ (w : Term). IsText w.text) (sym s.is) right.text;
         some = some_entry table t 0 (content_at s.index s.n) contents s.content there;
         rise = entries_rise table t 0 contents;
-        entries = all-from_each (λ (entry : Entry). (entry.document < length contents) × IsKept (bits_of t.field table) entry.occurrences) entries (each_in (λ (entry : Entry). (entry.document < length contents) × IsKept (bits_of t.field table) entry.occurrences) entries (λ entry k.
-            let one = each_at (λ (entry : Entry). (0 ≤ entry.document) × (entry.document < length contents) × IsKept (bits_of t.field table) entry.occurrences) entry entries within k in
+        entries = all-from_each (λ (entry : IndexedEntry). (entry.document < length contents) × IsKept (bits_of t.field table) entry.occurrences) entries (each_in (λ (entry : IndexedEntry). (entry.document < length contents) × IsKept (bits_of t.field table) entry.occurrences) entries (λ entry k.
+            let one = each_at (λ (entry : IndexedEntry). (0 ≤ entry.document) × (entry.document < length contents) × IsKept (bits_of t.field table) entry.occurrences) entry entries within k in
             (one.1, one.2)));
       }
 
@@ -166,4 +166,4 @@ module _ (indexes : List Index) (ok : Each IsValid indexes) where
       let from = from_map (term_of index.fields) t (filter (stands_at n) index.terms) k in
       let it = from_filter (stands_at n) from.0 index.terms from.1 in
       let found = one_found index.fields index.terms from.0 t (valid index h).rise it.0 from.2 in
-      ap (λ f. is_some (occurrences_at n (entries_if_any f))) found ∙ sym (any-found (λ (entry : Entry). eqb n entry.document) (λ (entry : Entry). entry.occurrences) from.0.entries) ∙ it.1
+      ap (λ f. is_some (occurrences_at n (entries_if_any f))) found ∙ sym (any-found (λ (entry : IndexedEntry). eqb n entry.document) (λ (entry : IndexedEntry). entry.occurrences) from.0.entries) ∙ it.1

@@ -6,7 +6,7 @@ use Rattle.std.specs.List.Sorted.{IsStrictlySortedBy}
 use Rattle.std.specs.Ordering.{nat_cmp}
 use mathlib.Core.Bool.{true≢false}
 use Rattle.lu_types.specs.Tables.{TableField}
-use Rattle.lu_model.specs.Index.{Term, term_cmp, in_order, Occurrences, Entry, IndexedTerm, Index}
+use Rattle.lu_model.specs.Index.{Term, term_cmp, in_order, Occurrences, IndexedEntry, IndexedTerm, Index}
 use Rattle.lu_model.specs.Contents.{Content, bits_of, content_at, field_at, field_number, index_of, indexed_term, joined_table, kept, live, live_contents, merge_of, merged_term, occurrences_at, term_of}
 use Rattle.lu_model.specs.Valid.{IsIndexedTerm, IsKept, IsValid}
 use Rattle.lu_model.proofs.Words.{IsIn, Each, same_term, entries_if_any, stands_at, entry_of}
@@ -23,12 +23,12 @@ unfolding IsStrictlySortedBy
 has_entries term index ok = at (find (λ t. same_term term (term_of index.fields t)) index.terms) refl
   where
     at : (found : Option IndexedTerm) → find (λ t. same_term term (term_of index.fields t)) index.terms ≡ found
-        → IsStrictlySortedBy nat_cmp (map (λ (entry : Entry). entry.document) (entries_if_any found)) × Each (λ (entry : Entry). entry.document < index.size) (entries_if_any found)
+        → IsStrictlySortedBy nat_cmp (map (λ (entry : IndexedEntry). entry.document) (entries_if_any found)) × Each (λ (entry : IndexedEntry). entry.document < index.size) (entries_if_any found)
     at None q = (tt, tt)
     at (Some it) q =
         let inside = (find_in (λ (t : IndexedTerm). same_term term (term_of index.fields t)) it index.terms q).0 in
         let right = all_at (λ (t : IndexedTerm). IsIndexedTerm index.size (field_at t.field index.fields).bits t) it index.terms ok.terms inside in
-        (right.rise, each_in (λ (entry : Entry). entry.document < index.size) it.entries (λ e k. (all_at (λ (entry : Entry). (entry.document < index.size) × IsKept (field_at it.field index.fields).bits entry.occurrences) e it.entries right.entries k).0))
+        (right.rise, each_in (λ (entry : IndexedEntry). entry.document < index.size) it.entries (λ e k. (all_at (λ (entry : IndexedEntry). (entry.document < index.size) × IsKept (field_at it.field index.fields).bits entry.occurrences) e it.entries right.entries k).0))
 
 -- the entries of a term in a merge of valid indexes are the renumbered entries of the sources
 pub same_entries : (indexes : List Index) → Each IsValid indexes → (t : Term) → (indexed_term (joined_table indexes) (flat_map live_contents indexes) t).entries ≡ (merged_term indexes t).entries
@@ -58,13 +58,13 @@ knows index n t e = at (find (λ u. same_term t (term_of index.fields u)) index.
     at (Some it) q e =
         let r = find_in (λ (u : IndexedTerm). same_term t (term_of index.fields u)) it index.terms q in
         let is : t ≡ term_of index.fields it = same_term-true t (term_of index.fields it) r.1 in
-        let stands : stands_at n it ≡ true = any-found (λ (entry : Entry). eqb n entry.document) (λ (entry : Entry). entry.occurrences) it.entries ∙ e in
+        let stands : stands_at n it ≡ true = any-found (λ (entry : IndexedEntry). eqb n entry.document) (λ (entry : IndexedEntry). entry.occurrences) it.entries ∙ e in
         subst (λ w. IsIn w (content_at index n).terms) (sym is) (in_map (term_of index.fields) it (filter (stands_at n) index.terms) (in_filter (stands_at n) it index.terms r.0 stands))
 
 pub some_source : (table : List TableField) (t : Term) (m : ℕ) (contents : List Content) → 0 < length (filter_map (entry_of table t) (enumerate_from m contents)) → (c : Content) × IsIn c contents × (is_some (c.occurrences t) ≡ true)
 some_source table t m [] h = absurd (omega arith)
 some_source table t m (c ∷ contents) h =
-    elim (c.occurrences t) as (λ o. c.occurrences t ≡ o → 0 < length (cons_option (option_map (λ (occurrences : Occurrences). let e : Entry = record { document = m; occurrences = kept (bits_of t.field table) occurrences } in e) o) (filter_map (entry_of table t) (enumerate_from (m + 1) contents))) → (d : Content) × IsIn d (c ∷ contents) × (is_some (d.occurrences t) ≡ true)) [
+    elim (c.occurrences t) as (λ o. c.occurrences t ≡ o → 0 < length (cons_option (option_map (λ (occurrences : Occurrences). let e : IndexedEntry = record { document = m; occurrences = kept (bits_of t.field table) occurrences } in e) o) (filter_map (entry_of table t) (enumerate_from (m + 1) contents))) → (d : Content) × IsIn d (c ∷ contents) × (is_some (d.occurrences t) ≡ true)) [
       | None ↦ λ q h. let r = some_source table t (m + 1) contents h in (r.0, inr r.1, r.2)
       | Some o ↦ λ q h. (c, inl refl, ap is_some q)
     ] refl h

@@ -5,7 +5,7 @@ use Rattle.lu_types.specs.declared.document.IndexedField.{IndexedField}
 use Rattle.lu_types.specs.declared.document.Token.{Token}
 use Rattle.lu_types.specs.declared.document.Vector.TheVariants.{Off, Both}
 use Rattle.lu_types.specs.declared.stored.Stored.TheVariants.{Text}
-use Rattle.lu_model.specs.Index.{Entry, IndexedTerm, Occurrence, Term, given}
+use Rattle.lu_model.specs.Index.{IndexedEntry, IndexedTerm, Occurrence, Term, given}
 
 abbrev pub f : List ℕ
 f = codes "f"
@@ -65,10 +65,10 @@ hello_world = record {
 abbrev pub at : ℕ → Occurrence
 at position = record { position = position; payload = [] }
 
-abbrev pub entry : ℕ → List ℕ → Entry
+abbrev pub entry : ℕ → List ℕ → IndexedEntry
 entry document positions = record { document = document; occurrences = given (map at positions) }
 
-abbrev pub term : ℕ → List ℕ → List Entry → IndexedTerm
+abbrev pub term : ℕ → List ℕ → List IndexedEntry → IndexedTerm
 term number text entries = record { field = number; text = text; entries = entries }
 
 abbrev pub named : List ℕ → List ℕ → Term

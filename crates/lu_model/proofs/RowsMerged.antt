@@ -4,7 +4,7 @@ use Rattle.std.specs.Str.{chars}
 use Rattle.lu_types.specs.Joins.{join_field}
 use Rattle.lu_types.specs.declared.document.Vector.TheVariants.{Off}
 use Rattle.lu_model.specs.Contents.{after, index_of, index_of_documents, merge_of, without_term}
-use Rattle.lu_model.specs.Index.{Entry, Index, in_order, omitted}
+use Rattle.lu_model.specs.Index.{IndexedEntry, Index, in_order, omitted}
 use Rattle.lu_model.proofs.RowWords.{bare, entry, f, field, found_by, g, hello_world, named, normed, term, token, x, y, z}
 
 -- ---- two builds, a deletion and a merge
@@ -151,7 +151,7 @@ vectors_stay = refl
 
 -- ---- the way of a cursor, over three documents of which the second is deleted
 
-entries : List Entry
+entries : List IndexedEntry
 entries = entry 0 (0 ∷ []) ∷ entry 1 (0 ∷ []) ∷ entry 2 (0 ∷ []) ∷ []
 
 -- from the start to 0, once more to 0, and then there is none

@@ -14,7 +14,7 @@ use Rattle.lu_types.specs.Documents.{IsIndexedField, IsToken}
 use Rattle.lu_types.specs.DocFaults.{IsSoundToken, IsSound}
 use Rattle.lu_types.specs.Joins.{has_payloads, asked_bits}
 use Rattle.lu_types.proofs.DocFaultLemmas.{IsSound-from_none}
-use Rattle.lu_model.specs.Index.{Term, term_cmp, in_order, Entry, IndexedTerm}
+use Rattle.lu_model.specs.Index.{Term, term_cmp, in_order, IndexedEntry, IndexedTerm}
 use Rattle.lu_model.specs.Contents.{Content, missing_norm, bits_of, content_of, field_at, field_number, has_norms, index_of, indexed_term, term_of, under}
 use Rattle.lu_model.specs.Valid.{IsSmall, IsKept, IsIndexedTerm, IsVector, AreNorms, IsValid, IsStorable}
 use Rattle.lu_model.proofs.Words.{IsIn, Each, value_in, vector_in, has_vectors, norm_if_any, IsTerm, IsValue, CanBeWritten, Apart, norms_in, IsText}
@@ -111,8 +111,8 @@ module _ (table : List TableField) (docs : List Document) (limits : Limits) (ok 
         text = subst IsText (sym s.text) ((each_at IsToken s.token s.field.tokens (each-from_all IsToken s.field.tokens made.tokens) s.in_tokens).text, small_bytes (length s.token.text) token.text);
         some = some_entry table t 0 (content_of d.0) contents (in_map content_of d.0 docs d.1) (some-occurrences d.0 t d.2);
         rise = entries_rise table t 0 contents;
-        entries = all-from_each (λ (entry : Entry). (entry.document < length contents) × IsKept (bits_of t.field table) entry.occurrences) entries (each_in (λ (entry : Entry). (entry.document < length contents) × IsKept (bits_of t.field table) entry.occurrences) entries (λ entry k.
-            let one = each_at (λ (entry : Entry). (0 ≤ entry.document) × (entry.document < length contents) × IsKept (bits_of t.field table) entry.occurrences) entry entries within k in
+        entries = all-from_each (λ (entry : IndexedEntry). (entry.document < length contents) × IsKept (bits_of t.field table) entry.occurrences) entries (each_in (λ (entry : IndexedEntry). (entry.document < length contents) × IsKept (bits_of t.field table) entry.occurrences) entries (λ entry k.
+            let one = each_at (λ (entry : IndexedEntry). (0 ≤ entry.document) × (entry.document < length contents) × IsKept (bits_of t.field table) entry.occurrences) entry entries within k in
             (one.1, one.2)));
       }
 

@@ -16,7 +16,7 @@ use Rattle.lu_types.specs.declared.document.Limits.{Limits}
 use Rattle.lu_types.specs.declared.document.Token.{Token}
 use Rattle.lu_types.specs.declared.stored.Stored.TheVariants.{Text}
 use Rattle.lu_types.specs.declared.stored.StoredValue.{StoredValue}
-use Rattle.lu_model.specs.Index.{Term, Entry, IndexedTerm, VectorTerm, FieldVector, Index}
+use Rattle.lu_model.specs.Index.{Term, IndexedEntry, IndexedTerm, VectorTerm, FieldVector, Index}
 use Rattle.lu_model.specs.Contents.{Content, missing_norm, bits_of, field_number, has_norms, kept, left_of, live_from, merge_of, name_of, tokens_with, under}
 use Rattle.lu_model.specs.Valid.{IsSmall, IsStorable, IsValid}
 
@@ -68,7 +68,7 @@ abbrev pub vector_in : List TableField → (FieldVector (List ℕ)) → (FieldVe
 vector_in table vector = record { field = field_number vector.field table; bits = vector.bits; terms = vector.terms }
 
 -- the entry of a numbered document under a term, if the term stands in it
-abbrev pub entry_of : List TableField → Term → ℕ × Content → Option Entry
+abbrev pub entry_of : List TableField → Term → ℕ × Content → Option IndexedEntry
 entry_of table term numbered =
     option_map (λ o. record { document = numbered.0; occurrences = kept (bits_of term.field table) o }) (numbered.1.occurrences term)
 
@@ -127,7 +127,7 @@ abbrev pub stands_at : ℕ → IndexedTerm → Bool
 stands_at document term = list_any (λ entry. document == entry.document) term.entries
 
 -- the entries of a term that is found
-abbrev pub entries_if_any : Option IndexedTerm → List Entry
+abbrev pub entries_if_any : Option IndexedTerm → List IndexedEntry
 entries_if_any found = unwrap_or (option_map (λ term. term.entries) found) []
 
 -- the norm of a document among norms

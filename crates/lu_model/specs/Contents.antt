@@ -14,7 +14,7 @@ use Rattle.lu_types.specs.declared.document.Document.{Document}
 use Rattle.lu_types.specs.declared.document.IndexedField.{IndexedField}
 use Rattle.lu_types.specs.declared.document.Token.{Token}
 use Rattle.lu_types.specs.declared.stored.StoredValue.{StoredValue}
-use Rattle.lu_model.specs.Index.{Term, term_cmp, in_order, Occurrences, given, omitted, Entry, IndexedTerm, FieldVector, Index}
+use Rattle.lu_model.specs.Index.{Term, term_cmp, in_order, Occurrences, given, omitted, IndexedEntry, IndexedTerm, FieldVector, Index}
 
 -- the number of the field that has the name, from 0; the number of fields where none has it
 abbrev pub field_number : List ℕ → List TableField → ℕ
@@ -144,12 +144,12 @@ abbrev pub term_of : List TableField → IndexedTerm → Term
 term_of table term = record { field = name_of table term.field; text = term.text }
 
 -- the entries of a term; none where the index lacks it
-abbrev pub entries_in : Index → Term → List Entry
+abbrev pub entries_in : Index → Term → List IndexedEntry
 entries_in index term = unwrap_or (option_map (λ found. found.entries)
     (find (λ t. bytes_eq term.field (name_of index.fields t.field) && bytes_eq term.text t.text) index.terms)) []
 
 -- what the entries say of a document, if it is among them
-abbrev pub occurrences_at : ℕ → List Entry → Option Occurrences
+abbrev pub occurrences_at : ℕ → List IndexedEntry → Option Occurrences
 occurrences_at document entries = option_map (λ entry. entry.occurrences) (find (λ entry. document == entry.document) entries)
 
 -- what a document of an index holds
@@ -195,7 +195,7 @@ without_term term index = record index {
 }
 
 -- where a cursor goes: to the first entry from the document `next` on that is not below the target and not deleted
-abbrev pub after : List Entry → List ℕ → ℕ → ℕ → Option Entry
+abbrev pub after : List IndexedEntry → List ℕ → ℕ → ℕ → Option IndexedEntry
 after entries deleted next target =
     find (λ entry. nat_le next entry.document && nat_le target entry.document && not (is_deleted deleted entry.document)) entries
 
@@ -204,13 +204,13 @@ abbrev pub left_of : {X : Type 0} → List ℕ → List X → List X
 left_of deleted items = map (λ numbered. numbered.1) (filter (λ numbered. not (is_deleted deleted numbered.0)) (enumerate_from 0 items))
 
 -- the entries of documents that are not deleted, numbered among those of their index from a number on
-abbrev pub renumbered : ℕ → ℕ → List ℕ → List Entry → List Entry
+abbrev pub renumbered : ℕ → ℕ → List ℕ → List IndexedEntry → List IndexedEntry
 renumbered bits base deleted entries =
     map (λ entry. record { document = base + length (live_from deleted 0 entry.document); occurrences = kept bits entry.occurrences })
     (filter (λ entry. not (is_deleted deleted entry.document)) entries)
 
 -- the entries of a term from each index in turn, in a field with these bits
-abbrev pub merged_entries : ℕ → Term → ℕ → List Index → List Entry
+abbrev pub merged_entries : ℕ → Term → ℕ → List Index → List IndexedEntry
 merged_entries bits term base [] = []
 merged_entries bits term base (index ∷ indexes) =
     renumbered bits base index.deleted (entries_in index term) ++ merged_entries bits term (base + length (live index)) indexes

@@ -37,7 +37,7 @@ frequency (given occurrences) = length occurrences
 frequency omitted = 1
 
 -- a document in which a term stands
-pub record Entry : Type 0 where
+pub record IndexedEntry : Type 0 where
   pub document : ℕ
   pub occurrences : Occurrences
 
@@ -45,7 +45,7 @@ pub record Entry : Type 0 where
 pub record IndexedTerm : Type 0 where
   pub field : ℕ
   pub text : List ℕ
-  pub entries : List Entry
+  pub entries : List IndexedEntry
 
 -- from where to where a token stands in the text of its field
 pub record Span : Type 0 where

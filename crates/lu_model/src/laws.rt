@@ -11,7 +11,7 @@ ghost use Rattle.lu_types.specs.declared.document.Document.{Document};
 ghost use Rattle.lu_types.specs.declared.document.Limits.{Limits};
 ghost use Rattle.lu_types.specs.declared.stored.Stored.TheVariants.{Text};
 ghost use Rattle.lu_model.specs.Contents.{AreTerms, Content, missing_norm, after, content_at, content_of, field_number, has_norms, index_of_documents, is_deleted, joined_table, left_of, live, live_contents, merge_of, merged_term, runs, stored_in, term_of, under, vectors_in, without_term};
-ghost use Rattle.lu_model.specs.Index.{Entry, Index, Term, in_order, term_cmp};
+ghost use Rattle.lu_model.specs.Index.{IndexedEntry, Index, Term, in_order, term_cmp};
 ghost use Rattle.lu_model.specs.Valid.{IsSmall, IsStorable, IsValid};
 
 /// Terms in order rise and are exactly the given terms; and no other list does and is.
@@ -105,11 +105,11 @@ pub fn valid_again()
 /// A cursor goes to the first of the entries that are left for it, and those left behind that one are left then; where it goes
 /// nowhere none was left. So a cursor that goes on behind each document goes through all that are not deleted, in order.
 pub fn cursor_goes()
-    ensures some { (entries : List Entry) (deleted : List ℕ) (next target : ℕ) (e : Entry)
+    ensures some { (entries : List IndexedEntry) (deleted : List ℕ) (next target : ℕ) (e : IndexedEntry)
         → IsStrictlySortedBy nat_cmp (map (λ entry. entry.document) entries) → after entries deleted next target ≡ Some e
         → filter (λ d. nat_le next d.document && nat_le target d.document && not (is_deleted deleted d.document)) entries
         ≡ e ∷ filter (λ d. nat_le (e.document + 1) d.document && not (is_deleted deleted d.document)) entries }
-    ensures none { (entries : List Entry) (deleted : List ℕ) (next target : ℕ) → after entries deleted next target ≡ None
+    ensures none { (entries : List IndexedEntry) (deleted : List ℕ) (next target : ℕ) → after entries deleted next target ≡ None
         → filter (λ d. nat_le next d.document && nat_le target d.document && not (is_deleted deleted d.document)) entries ≡ [] }
 {}
 

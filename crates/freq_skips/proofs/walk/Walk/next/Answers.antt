@@ -2,7 +2,7 @@ use Rattle.std.proofs.Common.{◌≡◌, ℕ, ◌+◌, ◌-◌, ◌^◌, ◌<◌
 use Rattle.std.specs.Prelude.{slice_index_or}
 use Rattle.lu_grammar.specs.Plans.{times}
 use Rattle.freq_skips.specs.declared.walk.Walked.{Walked}
-use Rattle.freq_skips.specs.declared.rules.Term.{Term}
+use Rattle.freq_skips.specs.declared.rules.RuledTerm.{RuledTerm}
 use Rattle.freq_skips.specs.Entries.{Posting, no_posting, no_entry, entry_kind, postings_from}
 use Rattle.freq_skips.specs.Terms.{TermData}
 use Rattle.freq_skips.specs.Walks.{WalkState, AreOnLevels, IsFresh, IsStale, StandsBefore, no_rung, start_in, value_from}
@@ -55,7 +55,7 @@ invariant_of-self-2 c =
       });
     }
 
-abbrev advanced : Term → TermData → ℕ → WalkState
+abbrev advanced : RuledTerm → TermData → ℕ → WalkState
 advanced t v n = record { term = t; value = v; passed = n }
 
 pub returns : goal.returns

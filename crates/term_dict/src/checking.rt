@@ -50,11 +50,7 @@ fn next_term(
 fn fault_at(place: usize, rule: u16) -> CodecFault
     ensures { IsBrokenSo Tis (broken_so place rule) result }
 {
-    CodecFault::Spot(Spot {
-        kind: FileKind::Tis,
-        offset: place as u64,
-        rule,
-    })
+    CodecFault::Spot(Spot::at(FileKind::Tis, place, rule))
 }
 
 /// Reads all terms from the cursor on, which moves behind them, and answers the length of the longest text; or the first

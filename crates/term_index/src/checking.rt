@@ -189,11 +189,7 @@ fn next_point(
 fn fault_at(place: usize, rule: u16) -> CodecFault
     ensures { IsBrokenSo Tii (broken_so place rule) result }
 {
-    CodecFault::Spot(Spot {
-        kind: FileKind::Tii,
-        offset: place as u64,
-        rule,
-    })
+    CodecFault::Spot(Spot::at(FileKind::Tii, place, rule))
 }
 
 /// Reads all entries from the cursor on, which moves behind them, beside a walk over the terms from the first on; or answers

@@ -7,4 +7,5 @@ pub mod PassLemmas
 pub mod PointLemmas
 pub mod PointLoop
 pub mod RankLemmas
+mod Rows
 pub mod SearchLemmas

@@ -20,7 +20,7 @@ loop-left-preserved-then-is_lt g c =
     let sought = c.args.sought.now in
     let m = c.index-marks-next.result in
     let next = l.below + (l.left - l.left / 2) in
-    let below = compared sought m c.as_str.result.now c.compare.result c.is_lt.result _ c.compare.ensures c.as_str.ensures c.is_lt.ensures c.if-is_lt.true in
+    let below = compared sought m c.as_str.result.now c.compare.result c.is_lt.result _ c.compare.ensures c.as_str.ensures.same c.is_lt.ensures c.if-is_lt.true in
     subst (IsHalving sought c.args.marks.now c.args.steps.now next (l.left / 2)) (sym c.tick.ensures)
     (IsHalving-below sought c.args.marks.now c.args.steps.now l.below l.left l.steps (next - 1) next m l.invariant (omega (arith, c.loop-left-test.true)) refl refl (slice_get_read c.args.marks.now (length c.args.marks.now) (next - 1) m refl (omega (arith, l.invariant.few, c.loop-left-test.true)) c.index-marks-next.is) below)
 
@@ -30,7 +30,7 @@ loop-left-preserved g c =
     let sought = c.args.sought.now in
     let m = c.index-marks-next.result in
     let next = l.below + (l.left - l.left / 2) in
-    let above = compared sought m c.as_str.result.now c.compare.result c.is_lt.result _ c.compare.ensures c.as_str.ensures c.is_lt.ensures c.if-is_lt.false in
+    let above = compared sought m c.as_str.result.now c.compare.result c.is_lt.result _ c.compare.ensures c.as_str.ensures.same c.is_lt.ensures c.if-is_lt.false in
     subst (IsHalving sought c.args.marks.now c.args.steps.now l.below (l.left / 2)) (sym c.tick.ensures)
     (IsHalving-above sought c.args.marks.now c.args.steps.now l.below l.left l.steps (next - 1) next m l.invariant (omega (arith, c.loop-left-test.true)) refl refl (slice_get_read c.args.marks.now (length c.args.marks.now) (next - 1) m refl (omega (arith, l.invariant.few, c.loop-left-test.true)) c.index-marks-next.is) above)
 

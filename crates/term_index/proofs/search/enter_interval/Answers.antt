@@ -30,5 +30,5 @@ move_to-requires-clause-place c =
 pub move_to-requires-clause-term : goal.move_to-requires-clause-term
 move_to-requires-clause-term c =
     let d = c.args.cursor.now.dictionary in
-    ap (λ (t : List ℕ). term_with t c.index-marks-number.result.info) c.as_str.ensures
+    ap (λ (t : List ℕ). term_with t c.index-marks-number.result.info) c.as_str.ensures.same
     ∙ (leads d c.requires.marks.0 c.args.marks.now c.args.number (c.args.number - 1) (c.args.number * c.args.index_interval) c.index-marks-number.result c.requires.marks.1 c.requires.marks.2 (omega (arith, c.if-number-eq0.false)) c.requires.number refl (slice_get_read c.args.marks.now (length c.args.marks.now) (c.args.number - 1) c.index-marks-number.result refl (omega (arith, c.requires.number, c.if-number-eq0.false)) c.index-marks-number.is) (ap (λ (i : ℕ). c.args.number * i) c.requires.interval)).term

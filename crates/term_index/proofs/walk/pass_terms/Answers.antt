@@ -11,4 +11,4 @@ loop-init c = HasPassed-none c.args.cursor.now _ _
 pub loop-preserved : goal.loop-preserved
 loop-preserved c =
     let h = c.loop.invariant in
-    HasPassed-more c.args.cursor.now c.loop.counter c.loop.cursor c.next.new.self c.loop.passed.info c.loop.passed.shared c.in-Some.next c.min.result h (omega arith) c.in-Some.ensures.term c.in-Some.ensures.passed c.min.ensures
+    HasPassed-more c.args.cursor.now c.loop.counter c.loop.cursor c.next_shared.new.self c.loop.passed.info c.loop.passed.shared c.in-Some.next c.min.result h (omega arith) c.in-Some.ensures.term c.in-Some.ensures.passed c.min.ensures

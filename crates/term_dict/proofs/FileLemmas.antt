@@ -21,7 +21,8 @@ use Rattle.term_dict.specs.Headings.{header, heading_conditions, numbers_of, Lin
 use Rattle.term_dict.specs.Entries.{TermRecord}
 use Rattle.term_dict.specs.Terms.{DictionaryTerm, last_term, term_after}
 use Rattle.term_dict.specs.Dictionary.{Dictionary, Standing, anywhere, Progress, no_terms, term_place_conditions, against, term_conditions, term_kind, terms_plan, dictionary_plan}
-use Rattle.term_dict.specs.Checks.{IsHeader, IsBrokenSo, IsFaultOf}
+use Rattle.term_dict.specs.Checks.{IsHeader}
+use Rattle.lu_types.specs.Judging.{IsBrokenSo, IsFault}
 use Rattle.term_dict.specs.Content.{dictionary_in, no_dictionary}
 
 -- ---- from the parts of a file to the whole
@@ -67,9 +68,9 @@ pub file-broken : {V R : Type 0} (plan : Plan V R) (bytes : List ℕ) (b : Broke
 file-broken {V} {R} plan bytes b broken = ap (λ (r : Result (V × Cursor) Broken). r >>= ended) broken
 
 -- what is so of reading is so of the file
-pub IsFaultOf-from : {V R : Type 0} (kind : FileKind) (plan : Plan V R) (bytes : List ℕ) (fault : CodecFault) → IsBytes bytes → IsBrokenSo kind (read_file plan bytes) fault → IsFaultOf kind plan bytes fault
-IsFaultOf-from kind plan bytes (Spot s) fits h = (h.0, FirstFault-from plan bytes (record { offset = s.offset; rule = s.rule }) fits h.1)
-IsFaultOf-from kind plan bytes OutOfMemory fits h = tt
+pub IsFault-from : {V R : Type 0} (kind : FileKind) (plan : Plan V R) (bytes : List ℕ) (fault : CodecFault) → IsBytes bytes → IsBrokenSo kind (read_file plan bytes) fault → IsFault kind plan bytes fault
+IsFault-from kind plan bytes (Spot s) fits h = (h.0, FirstFault-from plan bytes (record { offset = s.offset; rule = s.rule }) fits h.1)
+IsFault-from kind plan bytes OutOfMemory fits h = tt
 
 -- ---- the same terms, whatever segment they are in
 

@@ -12,7 +12,8 @@ use Rattle.term_dict.specs.Headings.{entry}
 use Rattle.term_dict.specs.Terms.{DictionaryTerm, no_term, last_term}
 use Rattle.term_dict.specs.Dictionary.{Standing, Progress, no_terms, term_kind}
 use Rattle.term_dict.specs.Last.{IsSoundTerm}
-use Rattle.term_dict.specs.Checks.{IsNextTerm, AreWithin, IsBrokenSo, broken_so}
+use Rattle.term_dict.specs.Checks.{IsNextTerm, AreWithin, broken_so}
+use Rattle.lu_types.specs.Judging.{IsBrokenSo}
 use Rattle.lu_types.specs.declared.fault.CodecFault.{CodecFault}
 use Rattle.lu_types.specs.declared.fault.CodecFault.TheVariants.{Spot, OutOfMemory}
 use Rattle.lu_types.specs.declared.kind.FileKind.{FileKind}

@@ -3,26 +3,12 @@ use Rattle.std.specs.Prelude.{◌≡◌, ℕ, ◌<◌, ◌≤◌, ◌^◌, List,
 use Rattle.lu_grammar.specs.Bytes.{Cursor}
 use Rattle.lu_grammar.specs.Records.{record_at}
 use Rattle.lu_grammar.specs.Plans.{Plan, Broken, Kind}
-use Rattle.lu_grammar.specs.Meaning.{FirstFault}
-use Rattle.lu_types.specs.declared.fault.CodecFault.{CodecFault}
-use Rattle.lu_types.specs.declared.fault.CodecFault.TheVariants.{Spot, OutOfMemory}
-use Rattle.lu_types.specs.declared.kind.FileKind.{FileKind}
 use Rattle.term_dict.specs.declared.heading.Heading.{Heading}
 use Rattle.lu_types.specs.declared.term.TermNumbers.{TermNumbers}
 use Rattle.term_dict.specs.Headings.{header, heading_conditions, numbers_of, Line, heading, entry, heading_of}
 use Rattle.term_dict.specs.Entries.{TermRecord}
 use Rattle.term_dict.specs.Terms.{DictionaryTerm, no_term, last_term, term_after}
 use Rattle.term_dict.specs.Dictionary.{Standing, Progress, term_kind}
-
--- the fault is that of a file of the kind which is read by the plan; want of memory may come at any time
-abbrev pub IsFaultOf : {V R : Type 0} → FileKind → Plan V R → List ℕ → CodecFault → Type 0
-IsFaultOf kind plan bytes (Spot s) = (s.kind ≡ kind) × FirstFault plan bytes s.offset s.rule
-IsFaultOf kind plan bytes OutOfMemory = Unit {0}
-
--- the same of what reading answers
-abbrev pub IsBrokenSo : {A : Type 0} → FileKind → Result A Broken → CodecFault → Type 0
-IsBrokenSo kind read (Spot s) = (s.kind ≡ kind) × (read ≡ Err (record { offset = s.offset; rule = s.rule }))
-IsBrokenSo kind read OutOfMemory = Unit {0}
 
 -- a rule is broken at a place
 abbrev pub broken_so : ℕ → ℕ → Result (Unit {0}) Broken

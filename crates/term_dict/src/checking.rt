@@ -5,7 +5,8 @@ ghost use Rattle.lu_types.specs.declared.kind.FileKind.TheVariants.{Tis};
 ghost use Rattle.term_dict.specs.Terms.{last_term, no_term};
 ghost use Rattle.term_dict.specs.Dictionary.{Dictionary, Progress, within, term_kind, no_terms, tis_plan};
 ghost use Rattle.term_dict.specs.Last.{term_of_last, IsSoundTerm};
-ghost use Rattle.term_dict.specs.Checks.{IsHeader, IsNextTerm, AreBounded, AreWithin, IsBrokenSo, broken_so};
+ghost use Rattle.term_dict.specs.Checks.{IsHeader, IsNextTerm, AreBounded, AreWithin, broken_so};
+ghost use Rattle.lu_types.specs.Judging.{IsBrokenSo};
 
 use crate::entry::entry_at;
 use crate::heading::{heading_at, numbers_of};

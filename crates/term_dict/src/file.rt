@@ -3,7 +3,8 @@ ghost use Rattle.std.specs.Prelude.{◌≡◌, ◌<◌, ◌^◌, All, length, If
 ghost use Rattle.lu_grammar.specs.Meaning.{Reads};
 ghost use Rattle.lu_types.specs.declared.kind.FileKind.TheVariants.{Tis};
 ghost use Rattle.term_dict.specs.Dictionary.{tis_plan};
-ghost use Rattle.term_dict.specs.Checks.{AreBounded, IsFaultOf};
+ghost use Rattle.term_dict.specs.Checks.{AreBounded};
+ghost use Rattle.lu_types.specs.Judging.{IsFault};
 ghost use Rattle.term_dict.specs.Walk.{walk_of};
 
 use crate::checking::check_bytes;
@@ -46,7 +47,7 @@ impl<'a> TermFile<'a> {
     ) -> Result<TermFile<'a>, CodecFault>
         requires { length tis.now < 2 ^ 31 }
         ensures ok { IfOk result (Reads (tis_plan fields.now documents (length tis.entry.now)) tis.entry.now) }
-        ensures err { IfErr result (IsFaultOf Tis (tis_plan fields.now documents (length tis.entry.now)) tis.entry.now) }
+        ensures err { IfErr result (IsFault Tis (tis_plan fields.now documents (length tis.entry.now)) tis.entry.now) }
     {
         match check_bytes(alloc, tis, fields, documents) {
             Err(fault) => Err(fault),

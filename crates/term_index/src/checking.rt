@@ -3,7 +3,8 @@ ghost use Rattle.std.specs.Prelude.{◌≡◌, ℕ, ◌+◌, ◌^◌, ◌<◌, �
 ghost use Rattle.std.specs.Str.{bytes_eq};
 ghost use Rattle.lu_grammar.specs.Records.{first_broken};
 ghost use Rattle.lu_types.specs.declared.kind.FileKind.TheVariants.{Tii};
-ghost use Rattle.term_dict.specs.Checks.{AreBounded, IsBrokenSo, IsFaultOf, broken_so};
+ghost use Rattle.term_dict.specs.Checks.{AreBounded, broken_so};
+ghost use Rattle.lu_types.specs.Judging.{IsBrokenSo, IsFault};
 ghost use Rattle.term_dict.specs.Terms.{no_term, term_after};
 ghost use Rattle.term_dict.specs.Entries.{term_record_of, IsBounded};
 ghost use Rattle.term_dict.specs.Dictionary.{Dictionary};
@@ -239,7 +240,7 @@ fn header_at(cur: &mut Cur<'_>, numbers: &TermNumbers) -> Option<u16>
 /// It walks the terms beside the entries, keeps one text of each, and takes time by the length of both files.
 pub fn check_tii(alloc: Global, tii: &[u8], terms: &TermFile<'_>) -> Result<(), CodecFault>
     ensures ok { IfOk result (λ _. Reads (tii_plan terms.now) tii.now tt) }
-    ensures err { IfErr result (IsFaultOf Tii (tii_plan terms.now) tii.now) }
+    ensures err { IfErr result (IsFault Tii (tii_plan terms.now) tii.now) }
 {
     check_bytes(alloc, tii, terms)
 }

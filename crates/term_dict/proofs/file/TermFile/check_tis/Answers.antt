@@ -3,7 +3,7 @@ use Rattle.lu_grammar.proofs.Files.{Reads-from}
 use Rattle.lu_types.specs.declared.kind.FileKind.TheVariants.{Tis}
 use Rattle.term_dict.specs.Dictionary.{Dictionary, within, tis_plan}
 use Rattle.term_dict.specs.Checks.{AreWithin}
-use Rattle.term_dict.proofs.FileLemmas.{file-anywhere, dictionary_in-is, IsFaultOf-from}
+use Rattle.term_dict.proofs.FileLemmas.{file-anywhere, dictionary_in-is, IsFault-from}
 use Rattle.term_dict.proofs.file.TermFile.check_tis.Goals as goal
 
 pub invariant_of-result : goal.invariant_of-result
@@ -22,7 +22,7 @@ invariant_of-result c =
     }
 
 pub returns-in-Err-clause-err : goal.returns-in-Err-clause-err
-returns-in-Err-clause-err c = IsFaultOf-from Tis (tis_plan c.args.fields.now c.args.documents (length c.args.tis.now)) c.args.tis.now c.in-Err.fault (λ i. (c.type_inv.tis i).fits) c.in-Err.ensures.err
+returns-in-Err-clause-err c = IsFault-from Tis (tis_plan c.args.fields.now c.args.documents (length c.args.tis.now)) c.args.tis.now c.in-Err.fault (λ i. (c.type_inv.tis i).fits) c.in-Err.ensures.err
 
 pub returns-in-Ok-clause-ok : goal.returns-in-Ok-clause-ok
 returns-in-Ok-clause-ok c =

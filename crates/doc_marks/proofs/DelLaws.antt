@@ -1,7 +1,6 @@
 -- Deletions that are written are read as these documents.
-use Rattle.std.proofs.Common.{◌≡◌, ◌≢◌, ℕ, ℤ, pos, negsuc, zero, suc, ◌+◌, ◌-◌, ◌*◌, ◌/◌, ◌^◌, ◌<◌, ◌≤◌, Bool, true, false, not, ◌||◌, ◌&&◌, ◌⊎◌, eqb, leb, ltb, List, [], ◌∷◌, ◌++◌, length, None, Ok, refl, sym, ap, subst, ◌∙◌, append_assoc, arith, inl, inr, rules}
+use Rattle.std.proofs.Common.{◌≡◌, ◌≢◌, ℕ, pos, suc, ◌+◌, ◌-◌, ◌*◌, ◌/◌, ◌^◌, ◌<◌, ◌≤◌, Bool, true, false, ◌||◌, ◌&&◌, ◌⊎◌, eqb, leb, ltb, List, [], ◌∷◌, ◌++◌, length, None, refl, sym, ap, subst, ◌∙◌, append_assoc, arith, inl, inr, rules}
 use mathlib.Core.Bool.{true≢false}
-use Rattle.std.specs.List.{list_any}
 use Rattle.std.specs.Ordering.{int_eq}
 use Rattle.std.proofs.lemmas.Bool.{eq-eqb, ne_eqb, cases_eq, le-ltb}
 use Rattle.std.proofs.lemmas.Bool.Decides.{Decides-int_eq}
@@ -10,11 +9,11 @@ use Rattle.std.proofs.lemmas.List.Folds.{list_any-append}
 use Rattle.lu_grammar.specs.Bytes.{IsBytes}
 use Rattle.lu_grammar.specs.Parts.{int32, IsValue, spelling, groups}
 use Rattle.lu_grammar.specs.Records.{Spells, first_broken}
-use Rattle.lu_grammar.specs.Plans.{Plan, done, due}
+use Rattle.lu_grammar.specs.Plans.{Plan, done}
 use Rattle.lu_grammar.proofs.Records.{at}
 use Rattle.lu_grammar.proofs.Plans.{ok_of}
 use Rattle.lu_grammar.proofs.Writers.{Writes, Writes-due, Writes-done}
-use Rattle.doc_marks.specs.Marking.{bits, flags, places, marked_at, marking, marked, AreRising}
+use Rattle.doc_marks.specs.Marking.{bits, flags, places, marked_at, marked, AreRising}
 use Rattle.doc_marks.specs.Deletions.{DelRecord, header, body, pair, sparse_mark, body_bytes, header_shape, header_conditions, body_shape, body_conditions, body_documents, dense_plan, is_past, pair_shape, is_wrong_gap, pair_conditions, Pairs, no_pairs, with_pair, pairs_plan, after_header, del_plan}
 use Rattle.doc_marks.specs.Spelling.{marks_of, sizes_bytes, dense_bytes, pairs_bytes, sparse_bytes}
 use Rattle.doc_marks.proofs.MarkLemmas.{length-bits, places-append, length-marking, IsBytes-marking, marked-marking}
@@ -138,7 +137,7 @@ pairs-written size count more s place index (b ∷ found) fits small within fine
           let here-is : marked_at (s.index + gap) b ≡ here = ap (λ (k : ℕ). marked_at k b) at_index in
           let front = groups 4 gap ++ b ∷ [] in
           let few : before + length (marked_at (s.index + gap) b) ≤ count = omega (arith, total, sum, long, ap length here-is) in
-          let right : is_wrong_gap size s.index before gap ≡ false = gap-right size s.index before gap (omega arith) (elim order [ | inl zeroth ↦ inl zeroth | inr lt ↦ inr (omega arith) ]) in
+          let right : is_wrong_gap size s.index before gap ≡ false = gap-right size s.index before gap (omega arith) (elim order [ inl zeroth ↦ inl zeroth | inr lt ↦ inr (omega arith) ]) in
           let good = pair-good size count s.index before gap b right some (ap (is_past size) here-is ∙ clear.0) few in
           let rest = pairs-written size count n t (place + length front) (suc index) found (λ i. fits (suc i)) small (omega arith) clear.1 (omega (arith, total, sum, long, length-append s.documents (marked_at (s.index + gap) b), ap length here-is)) (omega (arith, enough, more-is, length-append s.documents (marked_at (s.index + gap) b), ap length here-is, marks)) (omega arith) (inr (omega arith)) in
           let one : Writes (pairs_plan size count (suc n) s) place (front ++ pairs_bytes (s.index + gap) (suc index) found) (t.documents ++ later) =

@@ -1,6 +1,5 @@
 -- The records of deletions, as the code reads them.
-use Rattle.std.proofs.Common.{◌≡◌, ◌≢◌, ℕ, ℤ, pos, zero, suc, ◌+◌, ◌-◌, ◌*◌, ◌/◌, ◌%◌, ◌^◌, ◌<◌, ◌≤◌, Bool, true, false, not, ◌||◌, eqb, leb, ltb, List, [], ◌∷◌, ◌++◌, length, take, drop, drop-cons, get_or, Option, Some, None, Result, Ok, Err, refl, sym, ap, subst, ◌∙◌, arith, inl, inr}
-use Rattle.std.specs.List.{list_any}
+use Rattle.std.proofs.Common.{◌≡◌, ◌≢◌, ℕ, ℤ, pos, zero, suc, ◌+◌, ◌-◌, ◌*◌, ◌/◌, ◌%◌, ◌<◌, ◌≤◌, Bool, true, false, ◌||◌, eqb, leb, ltb, List, [], ◌∷◌, ◌++◌, length, drop, drop-cons, get_or, Some, None, Ok, Err, refl, sym, ap, subst, ◌∙◌, arith, inl, inr}
 use Rattle.std.specs.Ordering.{int_eq}
 use Rattle.std.proofs.lemmas.Bool.{eq-eqb, ne_eqb, eqb-true, cases_Bool, lt-ltb, le-ltb}
 use Rattle.std.proofs.lemmas.Bool.Decides.{Decides-int_eq}
@@ -9,7 +8,7 @@ use Rattle.std.proofs.lemmas.List.Folds.{list_any-append}
 use Rattle.std.proofs.Math.ListN.{drop_of_length-le}
 use Rattle.lu_grammar.specs.Bytes.{Cursor}
 use Rattle.lu_grammar.specs.Records.{first_broken, record_at}
-use Rattle.lu_grammar.specs.Plans.{Plan, done, due, Broken, read_plan}
+use Rattle.lu_grammar.specs.Plans.{Plan, done, due, read_plan}
 use Rattle.lu_grammar.proofs.Plans.{read_due, read_due_broken}
 use Rattle.doc_marks.specs.Marking.{bits, flags, places, marked, marked_at, number_of_bits}
 use Rattle.doc_marks.specs.Deletions.{DelRecord, header, body, pair, body_shape, body_conditions, body_documents, dense_plan, header_conditions, is_past, pair_shape, pair_conditions, Pairs, no_pairs, with_pair, pairs_plan, value_or, pairs_documents}
@@ -100,11 +99,10 @@ seen-byte size i n k found docs past q lt k-is q-is h =
     let split : places (8 * i) (flags (drop i found)) ≡ marked_at i b ++ places (8 * (i + 1)) later =
     ap (λ (t : List ℕ). places (8 * i) (flags t)) next ∙ places-append (8 * i) (bits 8 b) later
     ∙ ap (λ (m : ℕ). marked_at i b ++ places m later) (ap (λ (m : ℕ). 8 * i + m) (length-bits 8 b) ∙ (let e : 8 * i + 8 ≡ 8 * (i + 1) = omega arith in e)) in
-    let k : AreSeen size docs n past (marked_at i b ++ places (8 * (i + 1)) later) = subst (AreSeen size docs n past) split h in
-    (
+    let k : AreSeen size docs n past (marked_at i b ++ places (8 * (i + 1)) later) = subst (AreSeen size docs n past) split h in (
       omega (arith, k.0, length-append (marked_at i b) (places (8 * (i + 1)) later), k-is),
       k.1 ∙ ap (λ (t : Bool). past || t) (list_any-append (λ doc. leb size doc) (marked_at i b) (places (8 * (i + 1)) later) ∙ ap (λ (t : Bool). t || is_past size (places (8 * (i + 1)) later)) (sym q-is))
-      ∙ or-assoc past q (is_past size (places (8 * (i + 1)) later)),
+          ∙ or-assoc past q (is_past size (places (8 * (i + 1)) later)),
     )
 
 -- all bytes
@@ -153,12 +151,11 @@ module _ (size count : ℕ) where
       → (n : ℕ) × (more ≡ suc n) × (read_plan (pairs_plan size count more s) c ≡ read_plan (pairs_plan size count n (with_pair s (pair gap marks))) d)
   pairs-step zero index before s c d gap marks index-is before-is lt le e = absurd (omega arith)
   pairs-step (suc more) index before s c d gap marks index-is before-is lt le e =
-      let good : record_at pair_shape (pair_conditions size count s.index (length s.documents)) c ≡ Ok (pair gap marks, d) = rw (index-is, before-is) e in
-      (
+      let good : record_at pair_shape (pair_conditions size count s.index (length s.documents)) c ≡ Ok (pair gap marks, d) = rw (index-is, before-is) e in (
         more,
         refl,
         ap (λ (p : Plan (List ℕ) DelRecord). read_plan p c) (pairs-due more s (omega (arith, before-is)))
-        ∙ read_due pair_shape (λ place r. pair_conditions size count s.index (length s.documents) r) (λ place r. pairs_plan size count more (with_pair s r)) c (pair gap marks) d good,
+            ∙ read_due pair_shape (λ place r. pair_conditions size count s.index (length s.documents) r) (λ place r. pairs_plan size count more (with_pair s r)) c (pair gap marks) d good,
       )
 
   pub pairs-end : (more : ℕ) (s : Pairs) (c : Cursor) → count ≤ length s.documents → read_plan (pairs_plan size count more s) c ≡ Ok (s.documents, c)

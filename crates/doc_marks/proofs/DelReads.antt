@@ -1,12 +1,12 @@
 -- What is written of deletions is bytes, and is read.
-use Rattle.std.proofs.Common.{◌≡◌, ℕ, ℤ, pos, zero, suc, ◌+◌, ◌-◌, ◌*◌, ◌/◌, ◌%◌, ◌^◌, ◌<◌, ◌≤◌, Bool, true, false, eqb, ltb, List, [], ◌∷◌, ◌++◌, length, pow-suc, refl, sym, ap, subst, arith, inl, inr}
+use Rattle.std.proofs.Common.{◌≡◌, ℕ, ℤ, pos, zero, suc, ◌+◌, ◌-◌, ◌/◌, ◌%◌, ◌^◌, ◌<◌, true, false, ltb, List, [], ◌∷◌, ◌++◌, length, pow-suc, sym, subst, arith, inl, inr}
 use Rattle.std.proofs.lemmas.Bool.{cases_Bool, cases_eq, cases_lt, lt-ltb, le-ltb}
 use Rattle.std.specs.Int.{w32, cast_unsigned}
 use Rattle.lu_grammar.specs.Bytes.{IsBytes}
 use Rattle.lu_grammar.specs.Parts.{int32, spelling, groups}
 use Rattle.lu_grammar.specs.Meaning.{Reads}
 use Rattle.lu_grammar.proofs.Files.{Reads-from}
-use Rattle.lu_grammar.proofs.Writers.{Writes, read_file-Writes}
+use Rattle.lu_grammar.proofs.Writers.{read_file-Writes}
 use Rattle.doc_marks.specs.Marking.{AreRising}
 use Rattle.doc_marks.specs.Deletions.{sparse_mark, body_bytes, del_plan}
 use Rattle.doc_marks.specs.Spelling.{marks_of, sizes_bytes, dense_bytes, pairs_bytes, sparse_bytes, is_sparse, del_bytes}

@@ -1,12 +1,12 @@
 -- Worked rows of deletions on the definitions.
-use Rattle.std.proofs.Common.{◌≡◌, ℕ, List, [], ◌∷◌, ◌++◌, Result, Ok, Err, refl}
+use Rattle.std.proofs.Common.{◌≡◌, ℕ, List, [], ◌∷◌, Result, Ok, Err, refl}
 use Rattle.lu_grammar.specs.Parts.{groups}
 use Rattle.lu_grammar.specs.Reading.{read, read_groups}
 use Rattle.lu_grammar.specs.Records.{record_at}
 use Rattle.lu_grammar.specs.Plans.{read_plan, read_file, Broken}
-use Rattle.doc_marks.specs.Marking.{bits, flags, places, is_in, flags_of, number_of_bits, marking, marked}
+use Rattle.doc_marks.specs.Marking.{bits, flags, places, is_in, flags_of, number_of_bits, marking}
 use Rattle.doc_marks.specs.Deletions.{pairs_plan, del_plan}
-use Rattle.doc_marks.specs.Spelling.{pairs_bytes, del_bytes, dense_bytes}
+use Rattle.doc_marks.specs.Spelling.{pairs_bytes, del_bytes}
 
 fault : ℕ → ℕ → Result (List ℕ) Broken
 fault offset rule = Err (record { offset = offset; rule = rule })

@@ -1,9 +1,9 @@
 -- A whole `.del`, as the check reads it.
-use Rattle.std.proofs.Common.{◌≡◌, ℕ, ℤ, pos, ◌+◌, ◌<◌, ◌≤◌, Bool, true, false, not, eqb, ltb, cond, List, [], ◌++◌, length, drop, Option, Some, None, Result, Ok, Err, refl, sym, ap, subst, ◌∙◌, arith, inl, inr}
+use Rattle.std.proofs.Common.{◌≡◌, ℕ, ℤ, pos, ◌+◌, ◌<◌, ◌≤◌, Bool, true, false, not, eqb, ltb, List, length, drop, Ok, Err, refl, sym, ap, subst, ◌∙◌, arith, inl, inr}
 use mathlib.Core.Bool.{true≢false}
 use Rattle.std.specs.Borrow.{Bor}
 use Rattle.std.specs.Ordering.{int_eq}
-use Rattle.std.proofs.lemmas.Bool.{cases_Bool, cases_lt, lt-ltb, le-ltb, eqb-true}
+use Rattle.std.proofs.lemmas.Bool.{cases_lt, lt-ltb, le-ltb, eqb-true}
 use Rattle.std.proofs.lemmas.List.{drop-drop, length-drop}
 use Rattle.lu_grammar.specs.Bytes.{IsBytes, Cursor, start_of, moved}
 use Rattle.lu_grammar.specs.Parts.{int32}
@@ -21,7 +21,7 @@ use Rattle.doc_marks.specs.Lent.{behind_header, IsSound}
 use Rattle.doc_marks.specs.declared.segment.Segment.{Segment}
 use Rattle.doc_marks.specs.declared.form.Form.TheVariants.{Dense, Sparse}
 use Rattle.doc_marks.proofs.Steps.{record_at-was, part_was, due_was}
-use Rattle.doc_marks.proofs.MarkLemmas.{length-flags, AreRising-places, AreRising-not_past}
+use Rattle.doc_marks.proofs.MarkLemmas.{AreRising-places, AreRising-not_past}
 use Rattle.doc_marks.proofs.PairLemmas.{first-good, pairs-later}
 
 -- ---- the header
@@ -60,10 +60,9 @@ heading_was size count del s n d e =
     let first = part_was int32 (λ z. sizes_shape (int_eq z sparse_mark) z) (start_of del) (header true s n) d was.0 in
     let one = int32-taken (start_of del) first.0 first.1 in
     let more = sizes_were (int_eq first.0.0 sparse_mark) first.0.0 s n first.0.1 d first.2 in
-    let left : length first.0.1.rest ≡ length (drop 4 del) = ap (λ (x : Cursor). length x.rest) one.0 in
-    (
+    let left : length first.0.1.rest ≡ length (drop 4 del) = ap (λ (x : Cursor). length x.rest) one.0 in (
       more.0 ∙ ap (λ (x : Cursor). moved 4 (moved 4 x)) one.0
-      ∙ ap (λ (t : List ℕ). at 12 t) (ap (drop 4) (drop-drop 4 4 del) ∙ drop-drop 4 8 del),
+          ∙ ap (λ (t : List ℕ). at 12 t) (ap (drop 4) (drop-drop 4 4 del) ∙ drop-drop 4 8 del),
       omega (arith, left, length-drop 4 del, more.1, one.1),
     )
 

@@ -1,11 +1,11 @@
 -- Bits and the documents that they mark.
-use Rattle.std.proofs.Common.{◌≡◌, ℕ, zero, suc, ◌+◌, ◌-◌, ◌*◌, ◌/◌, ◌%◌, ◌^◌, ◌<◌, ◌≤◌, Bool, true, false, ◌||◌, eqb, leb, List, [], ◌∷◌, ◌++◌, length, get_or, refl, sym, ap, subst, ◌∙◌, append_assoc, arith, inl, inr, pow-suc}
+use Rattle.std.proofs.Common.{◌≡◌, ℕ, zero, suc, ◌+◌, ◌*◌, ◌/◌, ◌%◌, ◌^◌, ◌<◌, ◌≤◌, Bool, true, false, ◌||◌, eqb, leb, List, [], ◌∷◌, ◌++◌, length, refl, sym, ap, subst, ◌∙◌, arith, inl, inr, pow-suc}
 use mathlib.Core.Bool.{true≢false}
 use Rattle.std.specs.List.{list_any}
-use Rattle.std.proofs.lemmas.Bool.{leb-false, eq-eqb, ne_eqb, eqb-true, eqb-false, cases_Bool, cases_eq, cases_lt}
-use Rattle.std.proofs.lemmas.List.{append-nil, length-append, append_cancel_right}
+use Rattle.std.proofs.lemmas.Bool.{leb-false, eq-eqb, ne_eqb, cases_Bool, cases_eq}
+use Rattle.std.proofs.lemmas.List.{length-append}
 use Rattle.lu_grammar.specs.Bytes.{IsBytes}
-use Rattle.doc_marks.specs.Marking.{bits, flags, places, marked, marked_at, is_in, flags_of, number_of_bits, marking, AreRising}
+use Rattle.doc_marks.specs.Marking.{bits, flags, places, marked, is_in, flags_of, number_of_bits, marking, AreRising}
 
 -- ---- bits and numbers
 

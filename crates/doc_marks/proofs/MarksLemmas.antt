@@ -1,16 +1,16 @@
 -- Marks that are set one by one.
-use Rattle.std.proofs.Common.{◌≡◌, ◌≢◌, ℕ, zero, suc, ◌+◌, ◌-◌, ◌*◌, ◌/◌, ◌%◌, ◌^◌, ◌<◌, ◌≤◌, Bool, true, false, ◌||◌, eqb, leb, List, [], ◌∷◌, ◌++◌, length, take, drop, get_or, set, replicate, refl, sym, ap, subst, ◌∙◌, append_assoc, arith, inl, inr, pow-suc}
+use Rattle.std.proofs.Common.{◌≡◌, ℕ, zero, suc, ◌+◌, ◌-◌, ◌*◌, ◌/◌, ◌%◌, ◌^◌, ◌<◌, ◌≤◌, Bool, true, false, ◌||◌, leb, List, [], ◌∷◌, ◌++◌, length, take, drop, get_or, set, replicate, refl, sym, ap, subst, ◌∙◌, append_assoc, arith}
 use mathlib.Core.Bool.{true≢false}
 use Rattle.std.specs.List.{list_any}
 use Rattle.std.proofs.Math.Seq.{take-set-lt}
-use Rattle.std.proofs.lemmas.Bool.{cases_Bool, lt-leb}
-use Rattle.std.proofs.lemmas.List.{set-append_right, append-nil, length-append, take-append-drop, length-take, length-drop, length-set, length-replicate, get_or-take, replicate-append-replicate, take-replicate}
+use Rattle.std.proofs.lemmas.Bool.{lt-leb}
+use Rattle.std.proofs.lemmas.List.{set-append_right, append-nil, length-append, take-append-drop, length-take, length-set, length-replicate, get_or-take, replicate-append-replicate, take-replicate}
 use Rattle.std.proofs.lemmas.List.Folds.{list_any-append}
 use Rattle.lu_grammar.specs.Bytes.{IsBytes}
 use Rattle.doc_marks.specs.Marking.{bits, flags, flags_of, is_in, places, marked, documents_of, AreRising, AreMarks}
 use Rattle.doc_marks.specs.Deletions.{is_past}
-use Rattle.doc_marks.proofs.MarkLemmas.{length-flags_of, flags_of-append, length-bits, length-flags, places-append, AreRising-places, AreRising-not_past}
-use Rattle.doc_marks.proofs.FlagLemmas.{get-bits, bits-set, bit-fits, get-flags, flags-set}
+use Rattle.doc_marks.proofs.MarkLemmas.{length-flags_of, flags_of-append, length-flags, places-append, AreRising-places, AreRising-not_past}
+use Rattle.doc_marks.proofs.FlagLemmas.{bits-set, bit-fits, get-flags, flags-set}
 
 -- ---- the documents below the size
 

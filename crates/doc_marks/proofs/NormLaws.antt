@@ -1,14 +1,13 @@
 -- Written norms are read, and nothing else is read so.
-use Rattle.std.proofs.Common.{◌≡◌, ℕ, zero, suc, ◌+◌, ◌*◌, ◌<◌, ◌≤◌, List, [], ◌∷◌, ◌++◌, length, take, drop, flat_map, Ok, refl, sym, ap, subst, ◌∙◌, arith}
-use Rattle.std.proofs.lemmas.List.{append-nil, length-append, take_at, drop_at, nil_from_length, take-append-drop, length-drop, length-take}
+use Rattle.std.proofs.Common.{◌≡◌, ℕ, zero, suc, ◌*◌, ◌<◌, ◌≤◌, List, [], ◌∷◌, ◌++◌, length, take, drop, flat_map, Ok, refl, sym, ap, subst, ◌∙◌, arith}
+use Rattle.std.proofs.lemmas.List.{append-nil, length-append, take_at, drop_at, nil_from_length, take-append-drop, length-drop}
 use Rattle.lu_grammar.specs.Bytes.{IsBytes, Cursor, start_of, moved}
-use Rattle.lu_grammar.specs.Parts.{bytes}
 use Rattle.lu_grammar.specs.Records.{record_at}
 use Rattle.lu_grammar.specs.Plans.{done, one, each, times, read_plan}
 use Rattle.lu_grammar.specs.Meaning.{Reads}
 use Rattle.lu_grammar.proofs.Records.{ok_pair, same_pair}
 use Rattle.lu_grammar.proofs.Loops.{read_plan-and_then, then_ok, one-was}
-use Rattle.lu_grammar.proofs.Files.{read_file-Reads, file-read}
+use Rattle.lu_grammar.proofs.Files.{read_file-Reads}
 use Rattle.doc_marks.specs.Norms.{norm_header, bytes_shape, header_conditions, one_column, nrm_plan, separate_plan, column_of, AreColumns, columns_in, nrm_spelling}
 use Rattle.doc_marks.proofs.Steps.{bytes-given, block_was, due_was, file_was}
 use Rattle.doc_marks.proofs.NormLemmas.{header-read, header_was, columns-given, AreColumns-columns_in, nrm-read, separate-read}
@@ -80,8 +79,7 @@ nrm-only found columns count documents h =
     let same = same_pair columns (columns_in count documents rest) file.0 (moved (count * documents) c) (sym read ∙ columns-given count documents [] c le) in
     let none : length (drop (count * documents) rest) ≡ 0 = ap (λ (x : Cursor). length x.rest) (sym same.1) ∙ file.2 in
     let long : length rest ≡ count * documents = omega (arith, none, length-drop (count * documents) rest, le) in
-    let whole : found ≡ norm_header ++ rest = sym (take-append-drop 4 found) ∙ ap (λ (t : List ℕ). t ++ rest) header.0 in
-    (
+    let whole : found ≡ norm_header ++ rest = sym (take-append-drop 4 found) ∙ ap (λ (t : List ℕ). t ++ rest) header.0 in (
       whole ∙ ap (λ (t : List ℕ). norm_header ++ t) (sym (joined-columns_in count documents rest long) ∙ ap joined (sym same.0)),
       subst (AreColumns count documents) (sym same.0) (AreColumns-columns_in count documents rest le),
     )

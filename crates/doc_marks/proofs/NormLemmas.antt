@@ -1,5 +1,5 @@
 -- The columns of norms, as they stand in the bytes.
-use Rattle.std.proofs.Common.{◌≡◌, ℕ, zero, suc, ◌+◌, ◌-◌, ◌*◌, ◌<◌, ◌≤◌, Bool, true, false, not, List, [], ◌∷◌, ◌++◌, length, take, drop, get_or, Option, Some, None, Result, Ok, Err, refl, sym, ap, subst, ◌∙◌, append_assoc, arith, inl, inr}
+use Rattle.std.proofs.Common.{◌≡◌, ℕ, zero, suc, ◌+◌, ◌-◌, ◌*◌, ◌<◌, ◌≤◌, true, false, List, [], ◌∷◌, ◌++◌, length, take, drop, Some, None, Result, Ok, Err, refl, sym, ap, subst, ◌∙◌, append_assoc, arith, inl, inr}
 use Rattle.std.specs.Str.{bytes_eq}
 use Rattle.std.proofs.lemmas.Bool.{cases_Bool}
 use Rattle.std.proofs.lemmas.List.{append-nil, drop-drop, length-drop, length-take}
@@ -7,7 +7,7 @@ use Rattle.std.proofs.lemmas.Slice.Eq.{bytes_eq-Decides}
 use Rattle.lu_grammar.specs.Bytes.{IsBytes, Cursor, start_of, moved}
 use Rattle.lu_grammar.specs.Parts.{bytes}
 use Rattle.lu_grammar.specs.Reading.{◌>>=◌, read_part}
-use Rattle.lu_grammar.specs.Records.{first_broken, rule_of, record_at}
+use Rattle.lu_grammar.specs.Records.{rule_of, record_at}
 use Rattle.lu_grammar.specs.declared.bad.Bad.{Bad}
 use Rattle.lu_grammar.specs.Plans.{done, one, each, times, read_plan, Broken}
 use Rattle.lu_grammar.specs.Meaning.{Reads, FirstFault}
@@ -73,12 +73,11 @@ columns-step k documents c d e le is found read =
     let taken = bytes-taken documents d found e read in
     let before = k * documents in
     let left : length d.rest ≡ length c.rest - before = ap (λ (x : Cursor). length x.rest) is ∙ length-drop before c.rest in
-    let more : (k + 1) * documents ≡ before + documents = omega arith in
-    (
+    let more : (k + 1) * documents ≡ before + documents = omega arith in (
       omega (arith, left, taken.2, more),
       taken.1 ∙ ap (moved documents) is ∙ ap (λ (t : List ℕ). at (c.place + before + documents) t) (drop-drop documents before c.rest)
-      ∙ ap (λ (m : ℕ). at m (drop (before + documents) c.rest)) (let e : c.place + before + documents ≡ c.place + (k + 1) * documents = omega arith in e)
-      ∙ ap (λ (m : ℕ). at (c.place + (k + 1) * documents) (drop m c.rest)) (sym more),
+          ∙ ap (λ (m : ℕ). at m (drop (before + documents) c.rest)) (let e : c.place + before + documents ≡ c.place + (k + 1) * documents = omega arith in e)
+          ∙ ap (λ (m : ℕ). at (c.place + (k + 1) * documents) (drop m c.rest)) (sym more),
     )
 
 -- a column that ends too soon is the fault of all

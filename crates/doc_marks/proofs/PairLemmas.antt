@@ -1,16 +1,15 @@
 -- What pairs that were read mark: rising documents, those of a later pair behind those of the pairs before.
-use Rattle.std.proofs.Common.{◌≡◌, ◌≢◌, ℕ, zero, suc, ◌+◌, ◌-◌, ◌*◌, ◌/◌, ◌^◌, ◌<◌, ◌≤◌, Bool, true, false, not, ◌||◌, ◌&&◌, eqb, leb, ltb, cond, List, [], ◌∷◌, ◌++◌, length, drop, Option, Some, None, Result, Ok, Err, refl, sym, ap, subst, ◌∙◌, append_assoc, arith, inl, inr}
+use Rattle.std.proofs.Common.{◌≡◌, ◌≢◌, ℕ, zero, suc, ◌+◌, ◌*◌, ◌^◌, ◌<◌, ◌≤◌, Bool, true, false, eqb, ltb, cond, List, [], ◌++◌, length, Option, Some, None, Result, Ok, refl, sym, ap, subst, ◌∙◌, append_assoc, arith, inl, inr}
 use mathlib.Core.Bool.{true≢false}
 use Rattle.std.specs.Prelude.{MatchResult}
-use Rattle.std.proofs.lemmas.Bool.{eq-eqb, ne_eqb, eqb-true, eqb-false, cases_Bool, cases_lt, lt-ltb, le-ltb, ltb-false}
+use Rattle.std.proofs.lemmas.Bool.{ne_eqb, eqb-false, cases_lt, ltb-false}
 use Rattle.std.proofs.lemmas.List.{length-append, append-nil}
 use Rattle.lu_grammar.specs.Bytes.{IsBytes, Cursor}
 use Rattle.lu_grammar.specs.Records.{first_broken, Spells, Breaks, record_at}
-use Rattle.lu_grammar.specs.Plans.{Plan, due, done, Broken, read_plan}
+use Rattle.lu_grammar.specs.Plans.{Plan, read_plan}
 use Rattle.lu_grammar.proofs.Records.{ok_pair, same_pair, record_at-judges, IsGoodRecord}
-use Rattle.lu_grammar.proofs.Plans.{ok_of}
-use Rattle.doc_marks.specs.Marking.{bits, places, marked_at, AreRising}
-use Rattle.doc_marks.specs.Deletions.{DelRecord, pair, pair_shape, pair_conditions, is_past, is_wrong_gap, Pairs, no_pairs, with_pair, pairs_plan}
+use Rattle.doc_marks.specs.Marking.{bits, marked_at, AreRising}
+use Rattle.doc_marks.specs.Deletions.{DelRecord, pair, pair_shape, pair_conditions, is_past, is_wrong_gap, Pairs, with_pair, pairs_plan}
 use Rattle.doc_marks.proofs.Steps.{due_was}
 use Rattle.doc_marks.proofs.MarkLemmas.{length-bits, AreRising-append, AreRising-later, AreRising-places, AreRising-not_past}
 use Rattle.doc_marks.proofs.DelLemmas.{marked_at-some, pairs-due, pairs-end}

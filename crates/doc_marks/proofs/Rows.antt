@@ -1,8 +1,8 @@
 -- Worked rows on the definitions.
-use Rattle.std.proofs.Common.{◌≡◌, ℕ, List, [], ◌∷◌, Result, Ok, Err, refl}
+use Rattle.std.proofs.Common.{◌≡◌, [], ◌∷◌, Ok, Err, refl}
 use Rattle.lu_grammar.specs.Reading.{read}
 use Rattle.lu_grammar.specs.Records.{record_at}
-use Rattle.lu_grammar.specs.Plans.{each, read_plan, read_file, Broken}
+use Rattle.lu_grammar.specs.Plans.{each, read_plan, read_file}
 use Rattle.doc_marks.specs.Norms.{nrm_plan, separate_plan, nrm_spelling}
 
 one_norm : read_file (nrm_plan 1 1) (0x4E ∷ 0x52 ∷ 0x4D ∷ 0xFF ∷ 0x7C ∷ []) ≡ Ok ((0x7C ∷ []) ∷ [])

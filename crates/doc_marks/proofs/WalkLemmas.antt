@@ -1,16 +1,16 @@
 -- A walk over pairs, beside documents that do not fall.
-use Rattle.std.proofs.Common.{◌≡◌, ◌≢◌, ℕ, zero, suc, ◌+◌, ◌-◌, ◌*◌, ◌/◌, ◌<◌, ◌≤◌, Bool, true, false, not, ◌||◌, ◌&&◌, ◌⊎◌, eqb, ltb, cond, List, [], ◌∷◌, ◌++◌, length, drop, Result, Ok, Err, refl, sym, ap, subst, ◌∙◌, append_assoc, arith, inl, inr}
+use Rattle.std.proofs.Common.{◌≡◌, ℕ, ◌+◌, ◌*◌, ◌/◌, ◌<◌, ◌≤◌, Bool, true, false, ◌||◌, ◌&&◌, ◌⊎◌, eqb, ltb, List, [], ◌++◌, length, drop, Ok, Err, refl, sym, ap, subst, ◌∙◌, arith, inl, inr}
 use mathlib.Core.Bool.{true≢false}
-use Rattle.std.proofs.lemmas.Bool.{eqb-true, eqb-false, ltb-true, ltb-false, cases_Bool, cases_eq, cases_lt, ne_eqb, eq-eqb}
-use Rattle.std.proofs.lemmas.List.{length-append, append-nil, nil_from_length}
+use Rattle.std.proofs.lemmas.Bool.{eqb-true, eqb-false, ltb-true, ltb-false, cases_Bool}
+use Rattle.std.proofs.lemmas.List.{length-append, nil_from_length}
 use Rattle.lu_grammar.specs.Bytes.{IsBytes, Cursor}
 use Rattle.lu_grammar.specs.Records.{record_at}
-use Rattle.lu_grammar.specs.Plans.{read_plan, Broken}
+use Rattle.lu_grammar.specs.Plans.{read_plan}
 use Rattle.lu_grammar.proofs.Parts.{IsBytes-drop}
-use Rattle.lu_grammar.proofs.Records.{ok_pair, same_pair}
-use Rattle.lu_grammar.proofs.Plans.{ok_of, err_is_not_ok}
+use Rattle.lu_grammar.proofs.Records.{same_pair}
+use Rattle.lu_grammar.proofs.Plans.{err_is_not_ok}
 use Rattle.doc_marks.specs.Marking.{bits, places, marked_at, is_in, AreRising}
-use Rattle.doc_marks.specs.Deletions.{pair, pair_shape, pair_conditions, Pairs, no_pairs, with_pair, pairs_plan, pairs_documents}
+use Rattle.doc_marks.specs.Deletions.{pair, pair_shape, pair_conditions, Pairs, no_pairs, pairs_plan, pairs_documents}
 use Rattle.std.specs.Borrow.{Bor}
 use Rattle.doc_marks.specs.Lent.{behind_header, IsSound}
 use Rattle.doc_marks.specs.Walking.{PairsAt, needs_more, Stands, IsWalk}
@@ -34,8 +34,7 @@ either false b e = inr e
 
 pub more-needed : (count index documents wanted : ℕ) → needs_more count index documents wanted ≡ true → (documents < count) × ((documents ≡ 0) ⊎ (index < wanted))
 more-needed count index documents wanted e =
-    let h = both (ltb documents count) (eqb documents 0 || ltb index wanted) e in
-    (
+    let h = both (ltb documents count) (eqb documents 0 || ltb index wanted) e in (
       ltb-true documents count h.0,
       elim (either (eqb documents 0) (ltb index wanted) h.1) [
         | inl none ↦ inl (eqb-true documents 0 none)

@@ -1,9 +1,9 @@
 -- Deleted documents, as they are lent from the bytes of a `.del`.
-use Rattle.std.specs.Prelude.{◌≡◌, ℕ, zero, suc, ◌+◌, ◌*◌, ◌/◌, ◌<◌, ◌≤◌, Bool, true, false, List, [], ◌∷◌, ◌++◌, length, drop, Ok}
+use Rattle.std.specs.Prelude.{◌≡◌, ℕ, ◌≤◌, List, [], length, drop, Ok}
 use Rattle.lu_grammar.specs.Bytes.{IsBytes, Cursor}
 use Rattle.lu_grammar.specs.Plans.{read_plan}
-use Rattle.doc_marks.specs.Marking.{marked, marked_at, is_in, AreRising}
-use Rattle.doc_marks.specs.Deletions.{body_bytes, Pairs, no_pairs, pairs_plan, pairs_documents}
+use Rattle.doc_marks.specs.Marking.{marked, AreRising}
+use Rattle.doc_marks.specs.Deletions.{body_bytes, no_pairs, pairs_plan, pairs_documents}
 use Rattle.doc_marks.specs.declared.segment.Segment.{Segment}
 use Rattle.doc_marks.specs.declared.form.Form.{Form}
 use Rattle.doc_marks.specs.declared.form.Form.TheVariants.{Nothing, Dense, Sparse}

@@ -1,10 +1,10 @@
 -- A walk over the pairs of a sparse `.del`, beside documents that do not fall.
-use Rattle.std.specs.Prelude.{◌≡◌, ℕ, ◌+◌, ◌/◌, ◌<◌, ◌≤◌, Bool, false, ◌&&◌, ◌||◌, List, ◌++◌, length, Ok, nat_lt, ◌==◌}
+use Rattle.std.specs.Prelude.{◌≡◌, ℕ, ◌+◌, ◌/◌, ◌≤◌, Bool, false, ◌&&◌, ◌||◌, List, ◌++◌, length, Ok, nat_lt, ◌==◌}
 use Rattle.lu_grammar.specs.Bytes.{IsBytes, Cursor}
 use Rattle.lu_grammar.specs.Plans.{read_plan}
 use Rattle.doc_marks.specs.Marking.{marked_at, is_in}
 use Rattle.doc_marks.specs.Deletions.{pairs_plan, pairs_documents}
-use Rattle.doc_marks.specs.Lent.{behind_header, documents_in, IsSound}
+use Rattle.doc_marks.specs.Lent.{behind_header, IsSound}
 use Rattle.doc_marks.specs.declared.form.Form.{Form}
 use Rattle.doc_marks.specs.declared.form.Form.TheVariants.{Nothing, Dense, Sparse}
 use Rattle.doc_marks.specs.declared.pair_walk.PairWalk.{PairWalk}

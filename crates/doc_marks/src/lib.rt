@@ -18,9 +18,9 @@ mod writing;
 
 pub use live::Live;
 pub use marks::Marks;
+pub use norms::{NormWriter, Norms, check_separate};
 pub use walk::LiveWalk;
 pub use writing::write_del;
-pub use norms::{NormWriter, Norms, check_separate};
 
 #[cfg(test)]
 mod tests;

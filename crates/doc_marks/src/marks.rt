@@ -1,6 +1,5 @@
 //! Marks on the documents of a segment, a bit each, and the `.del` that is written of them (format page, "Deletions").
 ghost use Rattle.std.specs.Prelude.{◌≡◌, ◌↔◌, ◌+◌, ◌<◌, ◌^◌, true, false, not, length, get_or, slice_set, replicate, IfOk};
-
 ghost use Rattle.doc_marks.specs.Marking.{bits, flags, places, documents_of};
 ghost use Rattle.doc_marks.specs.Spelling.{marks_of};
 

@@ -39,8 +39,14 @@ impl<'a> PairWalk<'a> {
     /// Before the first pair, which stands at this place of the file.
     pub fn at_start(del: &'a [u8], place: usize, segment: Segment) -> PairWalk<'a>
         requires { place ≤ length del.now }
-        ensures { result ≡ record { del = del.entry; segment = segment; cur = record { place = place; rest = drop place del.entry.now };
-            passed = record { index = 0; documents = 0 }; marks = 0; from = 0 } }
+        ensures { result ≡ record {
+          del = del.entry;
+          segment = segment;
+          cur = record { place = place; rest = drop place del.entry.now };
+          passed = record { index = 0; documents = 0 };
+          marks = 0;
+          from = 0;
+        } }
     {
         PairWalk {
             del,

@@ -20,13 +20,32 @@ fn norms_are_checked(rt: HostRuntime) {
         (b"NRM\xff\x7c".as_slice(), 1, 1, None),
         (b"NRM\xff".as_slice(), 1, 1, spot(FileKind::Nrm, 4, ENDS)),
         (b"NRM\xff".as_slice(), 3, 0, None),
-        (b"NRM\xff\x01\x02\x03".as_slice(), 2, 2, spot(FileKind::Nrm, 6, ENDS)),
-        (b"NRM\xff\x01\x02\x03".as_slice(), 1, 2, spot(FileKind::Nrm, 6, TRAILING)),
-        (b"NRM\xfe\x7c".as_slice(), 1, 1, spot(FileKind::Nrm, 0, NORM_HEADER)),
+        (
+            b"NRM\xff\x01\x02\x03".as_slice(),
+            2,
+            2,
+            spot(FileKind::Nrm, 6, ENDS),
+        ),
+        (
+            b"NRM\xff\x01\x02\x03".as_slice(),
+            1,
+            2,
+            spot(FileKind::Nrm, 6, TRAILING),
+        ),
+        (
+            b"NRM\xfe\x7c".as_slice(),
+            1,
+            1,
+            spot(FileKind::Nrm, 0, NORM_HEADER),
+        ),
         (b"NR".as_slice(), 0, 0, spot(FileKind::Nrm, 0, ENDS)),
     ];
     for (nrm, columns, documents, fault) in rows {
-        assert_eq!(rt; Norms::check_norms(nrm, columns, documents).err(), fault, "at {nrm:?}");
+        assert_eq!(rt;
+            Norms::check_norms(nrm, columns, documents).err(),
+            fault,
+            "at {nrm:?}"
+        );
     }
 }
 
@@ -36,10 +55,18 @@ fn separate_norms_are_checked(rt: HostRuntime) {
         (b"\xc8".as_slice(), 1, None),
         (b"".as_slice(), 0, None),
         (b"".as_slice(), 1, spot(FileKind::Sep(7), 0, ENDS)),
-        (b"\xc8\x00".as_slice(), 1, spot(FileKind::Sep(7), 1, TRAILING)),
+        (
+            b"\xc8\x00".as_slice(),
+            1,
+            spot(FileKind::Sep(7), 1, TRAILING),
+        ),
     ];
     for (bytes, documents, fault) in rows {
-        assert_eq!(rt; check_separate(bytes, 7, documents).err(), fault, "at {bytes:?}");
+        assert_eq!(rt;
+            check_separate(bytes, 7, documents).err(),
+            fault,
+            "at {bytes:?}"
+        );
     }
 }
 
@@ -63,23 +90,108 @@ fn deletions_are_checked(rt: HostRuntime) {
     let rows = [
         (b"\0\0\0\x08\0\0\0\x01\x80\0".as_slice(), 8, 1, None),
         (b"\0\0\0\0\0\0\0\0\0".as_slice(), 0, 0, None),
-        (b"\0\0\0\x08\0\0\0\x01\x80".as_slice(), 8, 1, Some((8, ENDS))),
-        (b"\0\0\0\x08\0\0\0\x01\x80\0\0".as_slice(), 8, 1, Some((10, TRAILING))),
-        (b"\0\0\0\x08\0\0\0\x01\x80\0".as_slice(), 9, 1, Some((0, DEL_SIZE))),
-        (b"\0\0\0\x08\0\0\0\x01\x80\0".as_slice(), 8, 2, Some((0, DEL_COUNT))),
-        (b"\0\0\0\x07\0\0\0\x01\x80".as_slice(), 7, 1, Some((8, DEL_PAST))),
-        (b"\0\0\0\x08\0\0\0\x01\0\x01".as_slice(), 8, 1, Some((8, DEL_PAST))),
-        (b"\0\0\0\x08\0\0\0\x01\x81\0".as_slice(), 8, 1, Some((8, DEL_TOTAL))),
-        (b"\xff\xff\xff\xff\0\0\x1f\x40\0\0\0\x03\x01\x14\x03\x01".as_slice(), 8000, 3, None),
-        (b"\xff\xff\xff\xff\0\0\x1f\x40\0\0\0\x03\x01\x14".as_slice(), 8000, 3, Some((14, ENDS))),
-        (b"\xff\xff\xff\xff\0\0\x1f\x40\0\0\0\x03\x01\x14\0\x01".as_slice(), 8000, 3, Some((14, DEL_GAP))),
-        (b"\xff\xff\xff\xff\0\0\x1f\x40\0\0\0\x02\x00\x14".as_slice(), 8000, 2, None),
-        (b"\xff\xff\xff\xff\0\0\0\x08\0\0\0\x01\x02\x01".as_slice(), 8, 1, Some((12, DEL_GAP))),
-        (b"\xff\xff\xff\xff\0\0\0\x08\0\0\0\x01\x01\x01".as_slice(), 8, 1, Some((12, DEL_PAST))),
-        (b"\xff\xff\xff\xff\0\0\0\x0c\0\0\0\x01\x01\x10".as_slice(), 12, 1, Some((12, DEL_PAST))),
-        (b"\xff\xff\xff\xff\0\0\0\x08\0\0\0\x01\0\0".as_slice(), 8, 1, Some((12, DEL_BYTE))),
-        (b"\xff\xff\xff\xff\0\0\0\x08\0\0\0\x01\0\x03".as_slice(), 8, 1, Some((12, DEL_TOTAL))),
-        (b"\xff\xff\xff\xff\0\0\0\x08\0\0\0\x01\0\x01\0".as_slice(), 8, 1, Some((14, TRAILING))),
+        (
+            b"\0\0\0\x08\0\0\0\x01\x80".as_slice(),
+            8,
+            1,
+            Some((8, ENDS)),
+        ),
+        (
+            b"\0\0\0\x08\0\0\0\x01\x80\0\0".as_slice(),
+            8,
+            1,
+            Some((10, TRAILING)),
+        ),
+        (
+            b"\0\0\0\x08\0\0\0\x01\x80\0".as_slice(),
+            9,
+            1,
+            Some((0, DEL_SIZE)),
+        ),
+        (
+            b"\0\0\0\x08\0\0\0\x01\x80\0".as_slice(),
+            8,
+            2,
+            Some((0, DEL_COUNT)),
+        ),
+        (
+            b"\0\0\0\x07\0\0\0\x01\x80".as_slice(),
+            7,
+            1,
+            Some((8, DEL_PAST)),
+        ),
+        (
+            b"\0\0\0\x08\0\0\0\x01\0\x01".as_slice(),
+            8,
+            1,
+            Some((8, DEL_PAST)),
+        ),
+        (
+            b"\0\0\0\x08\0\0\0\x01\x81\0".as_slice(),
+            8,
+            1,
+            Some((8, DEL_TOTAL)),
+        ),
+        (
+            b"\xff\xff\xff\xff\0\0\x1f\x40\0\0\0\x03\x01\x14\x03\x01".as_slice(),
+            8000,
+            3,
+            None,
+        ),
+        (
+            b"\xff\xff\xff\xff\0\0\x1f\x40\0\0\0\x03\x01\x14".as_slice(),
+            8000,
+            3,
+            Some((14, ENDS)),
+        ),
+        (
+            b"\xff\xff\xff\xff\0\0\x1f\x40\0\0\0\x03\x01\x14\0\x01".as_slice(),
+            8000,
+            3,
+            Some((14, DEL_GAP)),
+        ),
+        (
+            b"\xff\xff\xff\xff\0\0\x1f\x40\0\0\0\x02\x00\x14".as_slice(),
+            8000,
+            2,
+            None,
+        ),
+        (
+            b"\xff\xff\xff\xff\0\0\0\x08\0\0\0\x01\x02\x01".as_slice(),
+            8,
+            1,
+            Some((12, DEL_GAP)),
+        ),
+        (
+            b"\xff\xff\xff\xff\0\0\0\x08\0\0\0\x01\x01\x01".as_slice(),
+            8,
+            1,
+            Some((12, DEL_PAST)),
+        ),
+        (
+            b"\xff\xff\xff\xff\0\0\0\x0c\0\0\0\x01\x01\x10".as_slice(),
+            12,
+            1,
+            Some((12, DEL_PAST)),
+        ),
+        (
+            b"\xff\xff\xff\xff\0\0\0\x08\0\0\0\x01\0\0".as_slice(),
+            8,
+            1,
+            Some((12, DEL_BYTE)),
+        ),
+        (
+            b"\xff\xff\xff\xff\0\0\0\x08\0\0\0\x01\0\x03".as_slice(),
+            8,
+            1,
+            Some((12, DEL_TOTAL)),
+        ),
+        (
+            b"\xff\xff\xff\xff\0\0\0\x08\0\0\0\x01\0\x01\0".as_slice(),
+            8,
+            1,
+            Some((14, TRAILING)),
+        ),
     ];
     for (del, size, count, fault) in rows {
         let found = match Live::check_del(del, size, count) {
@@ -122,7 +234,10 @@ fn marks_are_set(rt: HostRuntime) -> Result<(), Fail> {
 fn deletions_are_written(rt: HostRuntime) -> Result<(), Fail> {
     let three = marked(rt.alloc(), 8000, &[10, 12, 32])?;
     let del = write_del(rt.alloc(), &three)?;
-    assert_eq!(rt; del.as_slice(), b"\xff\xff\xff\xff\0\0\x1f\x40\0\0\0\x03\x01\x14\x03\x01".as_slice());
+    assert_eq!(rt;
+        del.as_slice(),
+        b"\xff\xff\xff\xff\0\0\x1f\x40\0\0\0\x03\x01\x14\x03\x01".as_slice()
+    );
     let mut dense = Vec::new(rt.alloc());
     put_dense(&mut dense, &three)?;
     assert_eq!(rt; dense.len(), 1009);
@@ -130,11 +245,20 @@ fn deletions_are_written(rt: HostRuntime) -> Result<(), Fail> {
     if let Some(last) = dense.get_mut(1008) {
         *last = 1;
     }
-    assert_eq!(rt; Live::check_del(&dense, 8000, 3).err(), spot(FileKind::Del, 8, DEL_PAST));
+    assert_eq!(rt;
+        Live::check_del(&dense, 8000, 3).err(),
+        spot(FileKind::Del, 8, DEL_PAST)
+    );
     let one = marked(rt.alloc(), 8, &[7])?;
-    assert_eq!(rt; write_del(rt.alloc(), &one)?.as_slice(), b"\0\0\0\x08\0\0\0\x01\x80\0".as_slice());
+    assert_eq!(rt;
+        write_del(rt.alloc(), &one)?.as_slice(),
+        b"\0\0\0\x08\0\0\0\x01\x80\0".as_slice()
+    );
     let none = marked(rt.alloc(), 0, &[])?;
-    assert_eq!(rt; write_del(rt.alloc(), &none)?.as_slice(), b"\0\0\0\0\0\0\0\0\0".as_slice());
+    assert_eq!(rt;
+        write_del(rt.alloc(), &none)?.as_slice(),
+        b"\0\0\0\0\0\0\0\0\0".as_slice()
+    );
     Ok(())
 }
 
@@ -154,9 +278,18 @@ fn is_written_sparse(alloc: Global, size: u32, count: u32) -> Result<bool, Fail>
 fn the_form_changes_at_its_border(rt: HostRuntime) -> Result<(), Fail> {
     let borders = [(5, 840), (10, 2440), (500, 160_040), (50_000, 20_000_040)];
     for (count, border) in borders {
-        assert!(rt; !is_written_sparse(rt.alloc(), border - 1, count)?, "below {border}");
-        assert!(rt; !is_written_sparse(rt.alloc(), border, count)?, "at {border}");
-        assert!(rt; is_written_sparse(rt.alloc(), border + 1, count)?, "above {border}");
+        assert!(rt;
+            !is_written_sparse(rt.alloc(), border - 1, count)?,
+            "below {border}"
+        );
+        assert!(rt;
+            !is_written_sparse(rt.alloc(), border, count)?,
+            "at {border}"
+        );
+        assert!(rt;
+            is_written_sparse(rt.alloc(), border + 1, count)?,
+            "above {border}"
+        );
     }
     Ok(())
 }
@@ -208,10 +341,20 @@ fn drawn_sets_are_written_in_both_forms_and_read(rt: HostRuntime) -> Result<(), 
         let marks = drawn(rt.alloc(), size, state)?;
         let mut dense = Vec::new(rt.alloc());
         put_dense(&mut dense, &marks)?;
-        agrees(&rt, rt.alloc(), &Live::check_del(&dense, size, marks.count())?, &marks)?;
+        agrees(
+            &rt,
+            rt.alloc(),
+            &Live::check_del(&dense, size, marks.count())?,
+            &marks,
+        )?;
         let mut sparse = Vec::new(rt.alloc());
         put_sparse(&mut sparse, &marks)?;
-        agrees(&rt, rt.alloc(), &Live::check_del(&sparse, size, marks.count())?, &marks)?;
+        agrees(
+            &rt,
+            rt.alloc(),
+            &Live::check_del(&sparse, size, marks.count())?,
+            &marks,
+        )?;
     }
     let none = Marks::new(rt.alloc(), 20)?;
     agrees(&rt, rt.alloc(), &Live::all(20), &none)

@@ -1,4 +1,4 @@
-use Rattle.std.proofs.Common.{◌≡◌, ℕ, length, ◌*◌, arith, sym, ap, ◌∙◌}
+use Rattle.std.proofs.Common.{ℕ, length, ◌*◌, arith, ap, ◌∙◌}
 use Rattle.doc_marks.specs.Marking.{places, bits}
 use Rattle.doc_marks.specs.Deletions.{is_past}
 use Rattle.doc_marks.proofs.DelLemmas.{seen-set, seen-clear, seen-all}

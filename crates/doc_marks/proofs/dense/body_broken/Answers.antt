@@ -1,6 +1,6 @@
-use Rattle.std.proofs.Common.{◌≡◌, ◌*◌, ◌≤◌, ◌||◌, Bool, true, false, eqb, not, List, [], length, drop, get_or, refl, arith, sym, ap, ◌∙◌}
+use Rattle.std.proofs.Common.{◌≡◌, true, false, eqb, length, get_or, refl, arith, sym, ap, ◌∙◌}
 use Rattle.std.proofs.lemmas.Bool.{eq-eqb, ne_eqb}
-use Rattle.doc_marks.specs.Marking.{flags, places, marked, marked_at}
+use Rattle.doc_marks.specs.Marking.{marked, marked_at}
 use Rattle.doc_marks.specs.Deletions.{is_past}
 use Rattle.doc_marks.proofs.DelLemmas.{seen-byte, seen-body}
 use Rattle.doc_marks.proofs.dense.body_broken.Goals as goal

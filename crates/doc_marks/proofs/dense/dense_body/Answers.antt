@@ -1,8 +1,7 @@
-use Rattle.std.proofs.Common.{◌≡◌, ◌+◌, ◌/◌, List, length, take, Ok, refl, sym, ap, ◌∙◌, arith}
+use Rattle.std.proofs.Common.{length, refl, sym, ap, arith}
 use Rattle.std.proofs.lemmas.List.{length-take}
 use Rattle.lu_grammar.specs.Parts.{bytes}
-use Rattle.lu_grammar.specs.Reading.{read_part}
-use Rattle.doc_marks.specs.Deletions.{DelRecord, body as body_of, body_bytes, body_conditions}
+use Rattle.doc_marks.specs.Deletions.{body as body_of, body_bytes, body_conditions}
 use Rattle.doc_marks.proofs.Steps.{alone_read, alone_breaks, alone_unread, bytes-taken}
 use Rattle.doc_marks.proofs.DelLemmas.{body-fault, body-read}
 use Rattle.doc_marks.proofs.dense.dense_body.Goals as goal

@@ -1,4 +1,4 @@
-use Rattle.std.proofs.Common.{◌≡◌, Bool, pos, Ok, None, sym, ap, ◌∙◌}
+use Rattle.std.proofs.Common.{◌≡◌, None, sym}
 use Rattle.lu_grammar.specs.Records.{first_broken}
 use Rattle.lu_grammar.proofs.Records.{record_at-read, record_at-breaks, record_at-unread}
 use Rattle.doc_marks.specs.Deletions.{header as header_of, header_shape, header_conditions}

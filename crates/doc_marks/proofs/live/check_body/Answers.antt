@@ -1,4 +1,4 @@
-use Rattle.std.proofs.Common.{◌≡◌, Ok, ap, sym, ◌∙◌}
+use Rattle.std.proofs.Common.{◌≡◌, Ok}
 use Rattle.lu_grammar.specs.Plans.{read_plan}
 use Rattle.doc_marks.specs.Deletions.{no_pairs, pairs_plan, pairs_documents}
 use Rattle.doc_marks.specs.Lent.{behind_header}

@@ -1,4 +1,4 @@
-use Rattle.std.proofs.Common.{◌%◌, ◌/◌, eqb, sym, ap, ◌∙◌}
+use Rattle.std.proofs.Common.{sym}
 use Rattle.doc_marks.proofs.FlagLemmas.{get-bits}
 use Rattle.doc_marks.proofs.marks.has_bit.Goals as goal
 

@@ -1,6 +1,4 @@
-use Rattle.std.proofs.Common.{refl, ◌≡◌, ◌*◌, ◌+◌, ◌≤◌, length, drop, sym, ap, ◌∙◌, arith}
-use Rattle.std.proofs.lemmas.List.{drop-drop, length-drop}
-use Rattle.lu_grammar.specs.Bytes.{Cursor}
+use Rattle.std.proofs.Common.{refl, arith}
 use Rattle.doc_marks.proofs.NormLemmas.{columns-fault, columns-step, columns-passed}
 use Rattle.doc_marks.proofs.norms.pass_columns.Goals as goal
 

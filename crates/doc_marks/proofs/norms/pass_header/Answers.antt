@@ -1,6 +1,4 @@
-use Rattle.std.proofs.Common.{◌≡◌, true, false, rules}
-use Rattle.std.specs.Str.{bytes_eq}
-use Rattle.doc_marks.specs.Norms.{norm_header}
+use Rattle.std.proofs.Common.{rules}
 use Rattle.doc_marks.proofs.NormLemmas.{header-read, header-other, header-unread}
 use Rattle.doc_marks.proofs.norms.pass_header.Goals as goal
 

@@ -1,4 +1,3 @@
-use Rattle.std.proofs.Common.{sym}
 use Rattle.lu_grammar.proofs.Records.{record_at-read, record_at-breaks, record_at-unread}
 use Rattle.doc_marks.specs.Deletions.{pair as pair_of, pair_shape, pair_conditions}
 use Rattle.doc_marks.proofs.pairs.next_pair.Goals as goal

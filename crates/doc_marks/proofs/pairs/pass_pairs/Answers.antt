@@ -1,4 +1,4 @@
-use Rattle.std.proofs.Common.{◌≡◌, ◌+◌, ◌≤◌, length, refl, sym, ap, ◌∙◌, arith}
+use Rattle.std.proofs.Common.{◌+◌, length, refl, ap, ◌∙◌, arith}
 use Rattle.std.proofs.lemmas.List.{length-append}
 use Rattle.doc_marks.specs.Marking.{marked_at}
 use Rattle.doc_marks.specs.Deletions.{no_pairs, pair as pair_of, with_pair}
@@ -24,8 +24,7 @@ loop-passed-preserved c =
     let p = c.loop-passed.passed in
     let h = c.loop-passed.invariant in
     let found = c.in-Ok.pair in
-    let step = pairs-step s.size s.count h.1 p.index p.documents h.0 c.loop-passed.cur c.next_pair.new.cur found.gap found.marks h.3 h.4 c.loop-passed-test.true h.5 c.in-Ok.ensures.gives in
-    (
+    let step = pairs-step s.size s.count h.1 p.index p.documents h.0 c.loop-passed.cur c.next_pair.new.cur found.gap found.marks h.3 h.4 c.loop-passed-test.true h.5 c.in-Ok.ensures.gives in (
       with_pair h.0 (pair_of found.gap found.marks),
       step.0,
       h.2 ∙ step.2,

@@ -1,4 +1,4 @@
-use Rattle.std.proofs.Common.{◌≡◌, ◌+◌, ◌-◌, ◌/◌, ◌≤◌, ℕ, List, length}
+use Rattle.std.proofs.Common.{◌≡◌, ◌+◌, ◌-◌, ◌/◌, ◌≤◌, ℕ, length}
 use Rattle.lu_grammar.specs.Plans.{read_plan}
 use Rattle.doc_marks.specs.Deletions.{Pairs, no_pairs, pairs_plan}
 use Rattle.doc_marks.proofs.pairs.pass_pairs.Given as goal

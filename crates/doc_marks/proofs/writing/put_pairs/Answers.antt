@@ -1,6 +1,5 @@
-use Rattle.std.proofs.Common.{◌≡◌, ℕ, List, [], ◌∷◌, ◌++◌, ◌+◌, ◌-◌, ◌≤◌, get_or, drop, refl, sym, ap, ◌∙◌, arith}
+use Rattle.std.proofs.Common.{◌≡◌, ℕ, List, [], ◌∷◌, ◌++◌, ◌-◌, get_or, refl, ap, ◌∙◌, arith}
 use Rattle.lu_grammar.specs.Parts.{groups}
-use Rattle.doc_marks.specs.Spelling.{pairs_bytes}
 use Rattle.doc_marks.proofs.WriteLemmas.{pass-zero, put-some, all-put}
 use Rattle.doc_marks.proofs.writing.put_pairs.Goals as goal
 use Rattle.doc_marks.proofs.writing.put_pairs.Goals.{then-byte-ne0+in_ok-put_vint+in_ok-push, else-byte-ne0}

@@ -1,8 +1,7 @@
-use Rattle.std.proofs.Common.{◌≡◌, pos, Ok, Err, refl, arith, ap, sym, ◌∙◌, true}
+use Rattle.std.proofs.Common.{◌≡◌, pos, Ok, Err, refl, arith}
 use Rattle.lu_grammar.specs.Bytes.{start_of}
 use Rattle.lu_grammar.specs.Records.{record_at}
-use Rattle.lu_grammar.specs.Plans.{read_plan}
-use Rattle.doc_marks.specs.Deletions.{header as header_of, header_shape, header_conditions, after_header}
+use Rattle.doc_marks.specs.Deletions.{header as header_of, header_shape, header_conditions}
 use Rattle.doc_marks.specs.Lent.{documents_in}
 use Rattle.doc_marks.proofs.FileLemmas.{heading_was, del-heading_fault, del-fault, del-left, del-read}
 use Rattle.doc_marks.proofs.live.Live.check_del.Goals as goal

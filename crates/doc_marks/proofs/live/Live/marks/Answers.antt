@@ -1,4 +1,4 @@
-use Rattle.std.proofs.Common.{◌≡◌, ℕ, Bool, List, ◌++◌, ◌-◌, ◌+◌, true, false, not, length, replicate, set, refl, sym, ap, subst, ◌∙◌, arith}
+use Rattle.std.proofs.Common.{◌≡◌, ℕ, Bool, List, ◌-◌, ◌+◌, true, false, not, length, replicate, set, refl, sym, ap, subst, ◌∙◌, arith}
 use Rattle.std.proofs.lemmas.List.{length-append, length-replicate}
 use Rattle.doc_marks.specs.Marking.{flags_of, is_in, documents_of, AreRising}
 use Rattle.doc_marks.specs.Walking.{Walked}

@@ -1,4 +1,4 @@
-use Rattle.std.proofs.Common.{◌≡◌, ℕ, List, length, take, sym, ap, ◌∙◌, arith}
+use Rattle.std.proofs.Common.{ℕ, List, length, take, sym, ap, ◌∙◌, arith}
 use Rattle.doc_marks.specs.Marking.{flags, marking, marked, documents_of}
 use Rattle.doc_marks.specs.Spelling.{marks_of}
 use Rattle.doc_marks.proofs.MarkLemmas.{marking-marked}

@@ -1,6 +1,5 @@
-use Rattle.std.proofs.Common.{◌≡◌, ◌+◌, ◌*◌, ◌≤◌, List, [], Ok, Err, length, drop, refl, sym, ap, ◌∙◌, subst, arith}
-use Rattle.std.proofs.lemmas.List.{length-drop}
-use Rattle.lu_grammar.specs.Bytes.{Cursor, start_of, moved}
+use Rattle.std.proofs.Common.{◌≡◌, ◌*◌, ◌≤◌, List, [], Ok, Err, length, drop, refl, sym, ap, ◌∙◌, arith}
+use Rattle.lu_grammar.specs.Bytes.{start_of}
 use Rattle.lu_grammar.specs.Records.{record_at}
 use Rattle.lu_grammar.specs.Plans.{times, read_plan}
 use Rattle.doc_marks.specs.Norms.{norm_header, bytes_shape, header_conditions, one_column, columns_in}

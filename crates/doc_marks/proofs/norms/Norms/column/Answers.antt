@@ -1,6 +1,6 @@
-use Rattle.std.proofs.Common.{◌≡◌, ℕ, List, take, ◌<◌, ◌+◌, ◌*◌, ◌≤◌, length, sym, ap, ◌∙◌, arith}
+use Rattle.std.proofs.Common.{ℕ, List, take, ◌<◌, ◌*◌, length, sym, ap, ◌∙◌, arith}
 use Rattle.std.proofs.lemmas.List.{length-drop}
-use Rattle.doc_marks.specs.Norms.{column_of, columns_in}
+use Rattle.doc_marks.specs.Norms.{column_of}
 use Rattle.doc_marks.proofs.NormLemmas.{column_of-columns_in, length-columns_in, column-fits}
 use Rattle.doc_marks.proofs.norms.Norms.column.Goals as goal
 

@@ -1,5 +1,5 @@
-use Rattle.std.proofs.Common.{◌≡◌, true, false, arith, sym, ap, ◌∙◌}
-use Rattle.doc_marks.proofs.WalkLemmas.{more-needed, no_fault, PairsAt-later, PairsAt-next}
+use Rattle.std.proofs.Common.{sym, ◌∙◌}
+use Rattle.doc_marks.proofs.WalkLemmas.{more-needed, no_fault, PairsAt-next}
 use Rattle.doc_marks.proofs.pair_walk.PairWalk.pass_to.Goals as goal
 
 pub unreachable-requires : goal.unreachable-requires

@@ -1,6 +1,6 @@
-use Rattle.std.proofs.Common.{◌≡◌, subst, sym, ap, ◌∙◌}
+use Rattle.std.proofs.Common.{subst, sym, ap, ◌∙◌}
 use Rattle.doc_marks.specs.Lent.{IsSound}
-use Rattle.doc_marks.specs.Walking.{IsWalk, Stands}
+use Rattle.doc_marks.specs.Walking.{IsWalk}
 use Rattle.doc_marks.specs.declared.form.Form.TheVariants.{Nothing, Dense, Sparse}
 use Rattle.doc_marks.specs.declared.pair_walk.PairWalk.{PairWalk}
 use Rattle.doc_marks.proofs.WalkLemmas.{IsWalk-unpaired, IsWalk-sparse}

@@ -8,3 +8,4 @@ pub mod PackLemmas
 pub mod KindLemmas
 pub mod WrittenLemmas
 pub mod PackedLemmas
+pub mod FoundLemmas

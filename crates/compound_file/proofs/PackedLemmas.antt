@@ -75,23 +75,23 @@ text-name number kind small part =
 
 -- ---- no two names are one
 
-same_kind-refl : (kind : FileKind) → is_same kind kind ≡ true
+pub same_kind-refl : (kind : FileKind) → is_same kind kind ≡ true
 same_kind-refl kind =
     let first : eqb (turn kind).0 (turn kind).0 ≡ true = eq-eqb _ _ refl in
     let second : eqb (turn kind).1 (turn kind).1 ≡ true = eq-eqb _ _ refl in
     rw (first, second) refl
 
 -- the kind is among these
-has : FileKind → List FileKind → Bool
+unfoldable pub has : FileKind → List FileKind → Bool
 has kind [] = false
 has kind (k ∷ ks) = is_same k kind || has kind ks
 
 -- no kind is among those after it
-differ : List FileKind → Bool
+unfoldable pub differ : List FileKind → Bool
 differ [] = true
 differ (k ∷ ks) = not (has k ks) && differ ks
 
-part_kinds-differ : differ part_kinds ≡ true
+pub part_kinds-differ : differ part_kinds ≡ true
 unfolding differ has
 part_kinds-differ = refl
 

@@ -6,7 +6,7 @@ use Rattle.lu_grammar.specs.Parts.{byte, int32, num, bytes}
 use Rattle.lu_grammar.specs.Records.{Shape, whole, part, Condition}
 use Rattle.lu_grammar.specs.Plans.{Plan, done, due, Broken, read_plan}
 use Rattle.lu_grammar.specs.Bytes.{Cursor}
-use Rattle.lu_types.specs.declared.rules.TheConstants.{DEL_SIZE, DEL_COUNT, DEL_GAP, DEL_BYTE, DEL_PAST, DEL_TOTAL}
+use Rattle.lu_types.specs.RuleNumbers as number
 use Rattle.doc_marks.specs.Marking.{marked, marked_at}
 
 -- the number -1, with which the sparse form begins
@@ -36,7 +36,7 @@ header_shape = part int32 (λ first. sizes_shape (int_eq first sparse_mark) firs
 
 -- what a header may not be, in a segment of this size with so many deleted documents
 abbrev pub header_conditions : ℕ → ℕ → DelRecord → List Condition
-header_conditions size count (header is_sparse s n) = record { rule = DEL_SIZE; broken = not (int_eq s (pos size)) } ∷ record { rule = DEL_COUNT; broken = not (int_eq n (pos count)) } ∷ []
+header_conditions size count (header is_sparse s n) = record { rule = number.del_size; broken = not (int_eq s (pos size)) } ∷ record { rule = number.del_count; broken = not (int_eq n (pos count)) } ∷ []
 header_conditions size count (body found) = []
 header_conditions size count (pair gap marks) = []
 
@@ -58,7 +58,7 @@ body_documents (pair gap marks) = []
 
 -- what a body may not be
 abbrev pub body_conditions : ℕ → ℕ → DelRecord → List Condition
-body_conditions size count r = record { rule = DEL_PAST; broken = is_past size (body_documents r) } ∷ record { rule = DEL_TOTAL; broken = not (length (body_documents r) == count) } ∷ []
+body_conditions size count r = record { rule = number.del_past; broken = is_past size (body_documents r) } ∷ record { rule = number.del_total; broken = not (length (body_documents r) == count) } ∷ []
 
 -- the body, and nothing more
 abbrev pub dense_plan : ℕ → ℕ → Plan (List ℕ) DelRecord
@@ -88,10 +88,10 @@ abbrev pub pair_conditions : (size count index before : ℕ) → DelRecord → L
 pair_conditions size count index before (header is_sparse n m) = []
 pair_conditions size count index before (body found) = []
 pair_conditions size count index before (pair gap marks) =
-    record { rule = DEL_GAP; broken = is_wrong_gap size index before gap }
-    ∷ record { rule = DEL_BYTE; broken = marks == 0 }
-    ∷ record { rule = DEL_PAST; broken = is_past size (marked_at (index + gap) marks) }
-    ∷ record { rule = DEL_TOTAL; broken = nat_lt count (before + length (marked_at (index + gap) marks)) } ∷ []
+    record { rule = number.del_gap; broken = is_wrong_gap size index before gap }
+    ∷ record { rule = number.del_byte; broken = marks == 0 }
+    ∷ record { rule = number.del_past; broken = is_past size (marked_at (index + gap) marks) }
+    ∷ record { rule = number.del_total; broken = nat_lt count (before + length (marked_at (index + gap) marks)) } ∷ []
 
 -- the pairs with this one
 abbrev pub with_pair : Pairs → DelRecord → Pairs

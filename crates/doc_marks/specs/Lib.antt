@@ -1,4 +1,3 @@
-pub mod Words
 pub mod Norms
 pub mod Marking
 pub mod Deletions

@@ -5,7 +5,7 @@ use Rattle.std.specs.Str.{bytes_eq}
 use Rattle.lu_grammar.specs.Parts.{bytes}
 use Rattle.lu_grammar.specs.Records.{Shape, whole, part, Condition}
 use Rattle.lu_grammar.specs.Plans.{Plan, done, due, Kind, times}
-use Rattle.lu_types.specs.declared.rules.TheConstants.{NORM_HEADER}
+use Rattle.lu_types.specs.RuleNumbers as number
 
 -- what `.nrm` begins with: `NRM`, and the number of the format
 abbrev pub norm_header : List ℕ
@@ -17,7 +17,7 @@ bytes_shape n = part (bytes n) (λ found. whole found)
 
 -- what a header may not be
 abbrev pub header_conditions : List ℕ → List Condition
-header_conditions found = record { rule = NORM_HEADER; broken = not (bytes_eq found norm_header) } ∷ []
+header_conditions found = record { rule = number.norm_header; broken = not (bytes_eq found norm_header) } ∷ []
 
 -- the norms of one field: a byte a document, after the columns before
 abbrev pub one_column : ℕ → Kind (List (List ℕ)) (List ℕ)

@@ -3,7 +3,7 @@ ghost use Rattle.std.specs.Prelude.{◌≡◌, length, IfOk};
 ghost use Rattle.lu_grammar.specs.Records.{first_broken};
 ghost use Rattle.lu_grammar.specs.Plans.{read_plan};
 ghost use Rattle.lu_types.specs.declared.kind.FileKind.TheVariants.{Del};
-ghost use Rattle.doc_marks.specs.Words.{GivesInPlain};
+ghost use Rattle.lu_types.specs.Judging.{GivesInPlain};
 ghost use Rattle.doc_marks.specs.Marking.{marked};
 ghost use Rattle.doc_marks.specs.Deletions.{body as body_of, body_bytes, body_conditions, dense_plan};
 

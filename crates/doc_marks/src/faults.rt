@@ -7,9 +7,5 @@ use lu_types::{FileKind, Spot};
 pub fn spot(kind: FileKind, offset: usize, rule: u16) -> Spot
     ensures { result ≡ record { kind = kind; offset = offset; rule = rule } }
 {
-    Spot {
-        kind,
-        offset: offset as u64,
-        rule,
-    }
+    Spot::at(kind, offset, rule)
 }

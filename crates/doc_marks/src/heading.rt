@@ -1,7 +1,7 @@
 //! The header of `.del` (format page, "Deletions").
 ghost use Rattle.std.specs.Prelude.{◌≡◌, pos, OnOk, OnErr};
 ghost use Rattle.lu_grammar.specs.Records.{first_broken, read_shape, record_at};
-ghost use Rattle.doc_marks.specs.Words.{Gives};
+ghost use Rattle.lu_grammar.specs.Answers.{Gives};
 ghost use Rattle.doc_marks.specs.Deletions.{header as header_of, header_shape, sizes_shape, header_conditions};
 
 use crate::segment::Segment;

@@ -2,7 +2,7 @@
 ghost use Rattle.std.specs.Prelude.{◌≡◌, true, not, pos, [], ◌≤◌, ◌<◌, ◌^◌, length, IfOk};
 ghost use Rattle.lu_grammar.specs.Plans.{read_plan};
 ghost use Rattle.lu_types.specs.declared.kind.FileKind.TheVariants.{Del};
-ghost use Rattle.doc_marks.specs.Words.{ChecksPlain, GivesInPlain};
+ghost use Rattle.lu_types.specs.Judging.{ChecksPlain, GivesInPlain};
 ghost use Rattle.doc_marks.specs.Marking.{is_in, flags_of, documents_of, AreRising};
 ghost use Rattle.doc_marks.specs.Deletions.{header as header_of, after_header, del_plan};
 ghost use Rattle.doc_marks.specs.Lent.{behind_header, documents_in, IsSound};

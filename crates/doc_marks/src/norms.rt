@@ -3,7 +3,8 @@ ghost use Rattle.std.specs.Prelude.{◌≡◌, ℕ, [], ◌∷◌, ◌++◌, ◌
 ghost use Rattle.lu_grammar.specs.Records.{record_at};
 ghost use Rattle.lu_grammar.specs.Plans.{times, read_plan};
 ghost use Rattle.lu_types.specs.declared.kind.FileKind.TheVariants.{Nrm, Sep};
-ghost use Rattle.doc_marks.specs.Words.{ChecksPlain, Gives, GivesInPlain};
+ghost use Rattle.lu_types.specs.Judging.{ChecksPlain, GivesInPlain};
+ghost use Rattle.lu_grammar.specs.Answers.{Gives};
 ghost use Rattle.doc_marks.specs.Norms.{norm_header, bytes_shape, header_conditions, one_column, nrm_plan, separate_plan, column_of, AreColumns, nrm_bytes, columns_in};
 
 use crate::faults::spot;

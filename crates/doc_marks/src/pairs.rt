@@ -4,7 +4,8 @@ ghost use Rattle.std.specs.Prelude.{◌≡◌, ◌+◌, ◌/◌, ◌^◌, ◌<�
 ghost use Rattle.lu_grammar.specs.Records.{first_broken, read_shape, record_at};
 ghost use Rattle.lu_grammar.specs.Plans.{read_plan};
 ghost use Rattle.lu_types.specs.declared.kind.FileKind.TheVariants.{Del};
-ghost use Rattle.doc_marks.specs.Words.{Gives, GivesInPlain};
+ghost use Rattle.lu_grammar.specs.Answers.{Gives};
+ghost use Rattle.lu_types.specs.Judging.{GivesInPlain};
 ghost use Rattle.doc_marks.specs.Marking.{marked_at};
 ghost use Rattle.doc_marks.specs.Deletions.{pair as pair_of, pair_shape, is_wrong_gap, pair_conditions, no_pairs, pairs_plan, pairs_documents};
 

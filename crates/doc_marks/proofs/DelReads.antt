@@ -5,8 +5,7 @@ use Rattle.std.specs.Int.{w32, cast_unsigned}
 use Rattle.lu_grammar.specs.Bytes.{IsBytes}
 use Rattle.lu_grammar.specs.Parts.{int32, spelling, groups}
 use Rattle.lu_grammar.specs.Meaning.{Reads}
-use Rattle.lu_grammar.proofs.Files.{Reads-from}
-use Rattle.lu_grammar.proofs.Writers.{read_file-Writes}
+use Rattle.lu_grammar.proofs.Codecs.{Reads-from, read_file-Writes, IsBytes-nil, IsBytes-cons, IsBytes-append, IsBytes-groups, IsBytes-four}
 use Rattle.doc_marks.specs.Marking.{AreRising}
 use Rattle.doc_marks.specs.Deletions.{sparse_mark, body_bytes, del_plan}
 use Rattle.doc_marks.specs.Spelling.{marks_of, sizes_bytes, dense_bytes, pairs_bytes, sparse_bytes, is_sparse, del_bytes}
@@ -15,40 +14,8 @@ use Rattle.doc_marks.proofs.MarksLemmas.{length-AreRising}
 use Rattle.doc_marks.proofs.WriteLemmas.{pairs_bytes-zero, pairs_bytes-some}
 use Rattle.doc_marks.proofs.DelLaws.{dense-written, sparse-written}
 
-IsBytes-nil : IsBytes []
-IsBytes-nil i = omega arith
-
-IsBytes-cons : (b : ℕ) (bs : List ℕ) → b < 256 → IsBytes bs → IsBytes (b ∷ bs)
-IsBytes-cons b bs fits rest zero = fits
-IsBytes-cons b bs fits rest (suc i) = rest i
-
-IsBytes-append : (a b : List ℕ) → IsBytes a → IsBytes b → IsBytes (a ++ b)
-IsBytes-append [] b front back i = back i
-IsBytes-append (x ∷ a) b front back zero = front zero
-IsBytes-append (x ∷ a) b front back (suc i) = IsBytes-append a b (λ j. front (suc j)) back i
-
-IsBytes-groups : (more n : ℕ) → n < 128 ^ suc more → IsBytes (groups more n)
-unfolding groups
-IsBytes-groups zero n below = IsBytes-cons n [] (omega arith) IsBytes-nil
-IsBytes-groups (suc more) n below =
-    elim (cases_lt n 128) [
-      | inl low ↦ let last : ltb n 128 ≡ true = lt-ltb n 128 low in rw last (IsBytes-cons n [] (omega arith) IsBytes-nil)
-      | inr high ↦
-          let above : ltb n 128 ≡ false = le-ltb n 128 high in
-          rw above (IsBytes-cons (128 + n % 128) (groups more (n / 128)) (omega arith) (IsBytes-groups more (n / 128) (omega (arith, pow-suc 128 (suc more)))))
-    ]
-
-IsBytes-four : (a b c d : ℕ) → a < 256 → b < 256 → c < 256 → d < 256 → IsBytes (a ∷ b ∷ c ∷ d ∷ [])
-IsBytes-four a b c d first second third last =
-    IsBytes-cons a (b ∷ c ∷ d ∷ []) first (IsBytes-cons b (c ∷ d ∷ []) second (IsBytes-cons c (d ∷ []) third (IsBytes-cons d [] last IsBytes-nil)))
-
-IsBytes-int32 : (z : ℤ) → IsBytes (spelling int32 z)
-IsBytes-int32 z =
-    let n = cast_unsigned w32 z in
-    IsBytes-four (n / 16777216 % 256) (n / 65536 % 256) (n / 256 % 256) (n % 256) (omega arith) (omega arith) (omega arith) (omega arith)
-
 IsBytes-sizes : (size count : ℕ) → IsBytes (sizes_bytes size count)
-IsBytes-sizes size count = IsBytes-append (spelling int32 (pos size)) (spelling int32 (pos count)) (IsBytes-int32 (pos size)) (IsBytes-int32 (pos count))
+IsBytes-sizes size count = IsBytes-append (spelling int32 (pos size)) (spelling int32 (pos count)) (IsBytes-four (cast_unsigned w32 (pos size))) (IsBytes-four (cast_unsigned w32 (pos count)))
 
 IsBytes-pairs : (last index : ℕ) (found : List ℕ) → index + length found < 2 ^ 31 → IsBytes found → IsBytes (pairs_bytes last index found)
 unfolding pairs_bytes

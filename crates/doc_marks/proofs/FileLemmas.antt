@@ -20,7 +20,8 @@ use Rattle.doc_marks.specs.Deletions.{DelRecord, header, header_shape, sizes_sha
 use Rattle.doc_marks.specs.Lent.{behind_header, IsSound}
 use Rattle.doc_marks.specs.declared.segment.Segment.{Segment}
 use Rattle.doc_marks.specs.declared.form.Form.TheVariants.{Dense, Sparse}
-use Rattle.doc_marks.proofs.Steps.{record_at-was, part_was, due_was}
+use Rattle.lu_grammar.proofs.Codecs.{record_at-was, due_was}
+use Rattle.doc_marks.proofs.Steps.{part_was}
 use Rattle.doc_marks.proofs.MarkLemmas.{AreRising-places, AreRising-not_past}
 use Rattle.doc_marks.proofs.PairLemmas.{first-good, pairs-later}
 

@@ -9,7 +9,8 @@ use Rattle.lu_grammar.proofs.Records.{ok_pair, same_pair}
 use Rattle.lu_grammar.proofs.Loops.{read_plan-and_then, then_ok, one-was}
 use Rattle.lu_grammar.proofs.Files.{read_file-Reads}
 use Rattle.doc_marks.specs.Norms.{norm_header, bytes_shape, header_conditions, one_column, nrm_plan, separate_plan, column_of, AreColumns, columns_in, nrm_spelling}
-use Rattle.doc_marks.proofs.Steps.{bytes-given, block_was, due_was, file_was}
+use Rattle.lu_grammar.proofs.Codecs.{due_was, file_was}
+use Rattle.doc_marks.proofs.Steps.{bytes-given, block_was}
 use Rattle.doc_marks.proofs.NormLemmas.{header-read, header_was, columns-given, AreColumns-columns_in, nrm-read, separate-read}
 
 -- the columns, one after another

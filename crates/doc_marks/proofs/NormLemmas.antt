@@ -16,7 +16,8 @@ use Rattle.lu_grammar.proofs.Plans.{read_due, read_due_broken}
 use Rattle.lu_grammar.proofs.Loops.{read_plan-and_then, each-none, one-read, times-fault}
 use Rattle.lu_grammar.proofs.Files.{file-fault, file-left, file-read}
 use Rattle.doc_marks.specs.Norms.{norm_header, bytes_shape, header_conditions, one_column, nrm_plan, separate_plan, column_of, AreColumns, columns_in}
-use Rattle.doc_marks.proofs.Steps.{alone_read, alone_breaks, alone_unread, bytes-given, bytes-taken, block_was}
+use Rattle.lu_grammar.proofs.Codecs.{alone_read, alone_breaks, alone_unread}
+use Rattle.doc_marks.proofs.Steps.{bytes-given, bytes-taken, block_was}
 
 -- ---- the header
 

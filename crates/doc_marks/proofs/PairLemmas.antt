@@ -10,7 +10,7 @@ use Rattle.lu_grammar.specs.Plans.{Plan, read_plan}
 use Rattle.lu_grammar.proofs.Records.{ok_pair, same_pair, record_at-judges, IsGoodRecord}
 use Rattle.doc_marks.specs.Marking.{bits, marked_at, AreRising}
 use Rattle.doc_marks.specs.Deletions.{DelRecord, pair, pair_shape, pair_conditions, is_past, is_wrong_gap, Pairs, with_pair, pairs_plan}
-use Rattle.doc_marks.proofs.Steps.{due_was}
+use Rattle.lu_grammar.proofs.Codecs.{due_was}
 use Rattle.doc_marks.proofs.MarkLemmas.{length-bits, AreRising-append, AreRising-later, AreRising-places, AreRising-not_past}
 use Rattle.doc_marks.proofs.DelLemmas.{marked_at-some, pairs-due, pairs-end}
 

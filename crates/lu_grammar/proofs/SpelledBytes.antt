@@ -79,14 +79,14 @@ IsBytes-encodes (c ∷ cs) are =
 pub IsBytes-utf8 : (bs : List ℕ) → IsUtf8 bs → IsBytes bs
 IsBytes-utf8 bs (cs, (are, spell)) = subst IsBytes spell (IsBytes-encodes cs are)
 
-IsBytes-four : (n : ℕ) → IsBytes (to_be_bytes w32 n)
+pub IsBytes-four : (n : ℕ) → IsBytes (to_be_bytes w32 n)
 IsBytes-four n zero = omega arith
 IsBytes-four n (suc zero) = omega arith
 IsBytes-four n (suc (suc zero)) = omega arith
 IsBytes-four n (suc (suc (suc zero))) = omega arith
 IsBytes-four n (suc (suc (suc (suc i)))) = omega arith
 
-IsBytes-eight : (n : ℕ) → IsBytes (to_be_bytes w64 n)
+pub IsBytes-eight : (n : ℕ) → IsBytes (to_be_bytes w64 n)
 IsBytes-eight n zero = omega arith
 IsBytes-eight n (suc zero) = omega arith
 IsBytes-eight n (suc (suc zero)) = omega arith

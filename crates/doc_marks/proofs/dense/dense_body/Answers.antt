@@ -2,7 +2,8 @@ use Rattle.std.proofs.Common.{length, refl, sym, ap, arith}
 use Rattle.std.proofs.lemmas.List.{length-take}
 use Rattle.lu_grammar.specs.Parts.{bytes}
 use Rattle.doc_marks.specs.Deletions.{body as body_of, body_bytes, body_conditions}
-use Rattle.doc_marks.proofs.Steps.{alone_read, alone_breaks, alone_unread, bytes-taken}
+use Rattle.lu_grammar.proofs.Codecs.{alone_read, alone_breaks, alone_unread}
+use Rattle.doc_marks.proofs.Steps.{bytes-taken}
 use Rattle.doc_marks.proofs.DelLemmas.{body-fault, body-read}
 use Rattle.doc_marks.proofs.dense.dense_body.Goals as goal
 

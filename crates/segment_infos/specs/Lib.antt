@@ -1,0 +1,6 @@
+pub mod Numbers
+pub mod Values
+pub mod Records
+pub mod Conditions
+pub mod Format
+pub mod Spelling

@@ -1,0 +1,12 @@
+//! Commits: the file `segments_N`, what it says of segments, and the names that files have (format page, "segments_N" and
+//! "Names of files").
+#![tactic(auto)]
+
+mod commit;
+mod infos;
+mod lists;
+mod record;
+
+pub use commit::Commit;
+pub use infos::{MapPair, SegInfo};
+pub use lists::{NormGens, Pairs, Segments};

@@ -4,3 +4,5 @@ pub mod Records
 pub mod Conditions
 pub mod Format
 pub mod Spelling
+pub mod Words
+pub mod Answers

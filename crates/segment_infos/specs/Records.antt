@@ -1,5 +1,5 @@
 -- The records of `segments_N`: the header, the segments, the user data and the checksum (docs/FORMAT.md, "segments_N").
-use Rattle.std.specs.Prelude.{ℕ, not, List, [], ℤ}
+use Rattle.std.specs.Prelude.{ℕ, Bool, not, List, [], Option, ℤ}
 use Rattle.lu_grammar.specs.Parts.{byte, int32, int64, text}
 use Rattle.lu_grammar.specs.Records.{Shape, whole, part, followed, optional, repeated}
 use Rattle.segment_infos.specs.declared.infos.MapPair.{MapPair}
@@ -31,10 +31,14 @@ heading_shape = part int32 (λ format. part int64 (λ version. part int32 (λ co
 abbrev pub store_shape : Shape StorePart
 store_shape = part text (λ name. part byte (λ flag. whole (record { name = name; flag = flag })))
 
+-- the store where it is there
+abbrev pub store_if : Bool → Shape (Option StorePart)
+store_if there = optional there store_shape (λ store. whole store)
+
 -- SegName, SegSize, DelGen and DocStoreOffset, and where that is not -1 the store
 abbrev pub front_shape : Shape FrontPart
 front_shape = part text (λ name. part int32 (λ size. part int64 (λ del_gen. part int32 (λ offset.
-    optional (not (is_none_number offset)) store_shape (λ store. whole (record { name = name; size = size; del_gen = del_gen; offset = offset; store = store }))))))
+    followed (store_if (not (is_none_number offset))) (λ store. whole (record { name = name; size = size; del_gen = del_gen; offset = offset; store = store }))))))
 
 -- NormGen
 abbrev pub gen_shape : Shape ℤ

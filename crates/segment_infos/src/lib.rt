@@ -5,7 +5,10 @@
 mod commit;
 mod infos;
 mod lists;
+mod numbers;
+mod parts;
 mod record;
+mod stop;
 
 pub use commit::Commit;
 pub use infos::{MapPair, SegInfo};

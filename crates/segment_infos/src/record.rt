@@ -1,4 +1,6 @@
 //! The records of `segments_N` as they stand in the file, before anything is asked of them.
+ghost use Rattle.std.specs.Prelude.{◌≡◌};
+
 use crate::lists::{NormGens, Pairs};
 use std::marker::Model;
 
@@ -26,6 +28,22 @@ impl<'a> Model for Lent<'a> {
     ghost Value = { List ℕ };
 
     ghost view = { λ t. t.text.now };
+}
+
+impl<'a> Lent<'a> {
+    /// The text.
+    pub fn new(text: &'a str) -> Lent<'a>
+        ensures { result ≡ text.entry.now }
+    {
+        Lent { text }
+    }
+
+    /// The text, as long as the bytes are there.
+    pub fn as_str(&self) -> &'a str
+        ensures { result.now ≡ self.now }
+    {
+        self.text
+    }
 }
 
 /// The header.

@@ -53,14 +53,18 @@ abbrev pub has_other_flag : Option StorePart → Bool
 has_other_flag None = false
 has_other_flag (Some store) = nat_lt PACKED store.flag
 
--- what the first parts of a segment must not be after the segments before it
-abbrev pub front_conditions : List SegInfo → FrontPart → List Condition
-front_conditions segments f =
-    rule rules.SEG_NAME (is_none (number_in f.name))
-    ∷ rule rules.SEG_TWICE (is_twice segments (number_in f.name))
-    ∷ rule rules.SEG_SIZE (is_no_size f.size)
-    ∷ rule rules.SIZE_SUM (nat_lt MOST_DOCUMENTS (total_size segments + count_of f.size))
-    ∷ rule rules.DEL_GEN (is_no_generation f.del_gen)
+-- what the name of a segment must not be after the segments before it
+abbrev pub name_conditions : List SegInfo → FrontPart → List Condition
+name_conditions segments f = rule rules.SEG_NAME (is_none (number_in f.name)) ∷ rule rules.SEG_TWICE (is_twice segments (number_in f.name)) ∷ []
+
+-- what its size must not be after the segments before it
+abbrev pub size_conditions : List SegInfo → FrontPart → List Condition
+size_conditions segments f = rule rules.SEG_SIZE (is_no_size f.size) ∷ rule rules.SIZE_SUM (nat_lt MOST_DOCUMENTS (total_size segments + count_of f.size)) ∷ []
+
+-- what its generation and its store must not be
+abbrev pub store_conditions : FrontPart → List Condition
+store_conditions f =
+    rule rules.DEL_GEN (is_no_generation f.del_gen)
     ∷ rule rules.SHARED_STORE (is_below_none f.offset)
     ∷ rule rules.STORE_NAME (has_other_store f.store)
     ∷ rule rules.STORE_FLAG (has_other_flag f.store)
@@ -96,7 +100,8 @@ map_conditions m = rule rules.MAP_COUNT (is_negative m.count) ∷ []
 
 -- what a segment must not be after the segments before it
 abbrev pub line_conditions : List SegInfo → Line → List Condition
-line_conditions segments l = front_conditions segments l.front ++ (norm_conditions l.norms ++ (flag_conditions l.front l.flags ++ map_conditions l.map))
+line_conditions segments l =
+    name_conditions segments l.front ++ (size_conditions segments l.front ++ (store_conditions l.front ++ (norm_conditions l.norms ++ (flag_conditions l.front l.flags ++ map_conditions l.map))))
 
 -- the checksum must not be another than that of the bytes before it
 abbrev pub seal_conditions : List ℕ → ℤ → List Condition

@@ -6,3 +6,5 @@ pub mod Format
 pub mod Spelling
 pub mod Words
 pub mod Answers
+pub mod Taking
+pub mod Unsealed

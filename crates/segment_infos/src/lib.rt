@@ -4,12 +4,17 @@
 
 mod commit;
 mod infos;
+mod judging;
 mod lists;
 mod numbers;
 mod parts;
+mod reading;
 mod record;
+mod segment;
 mod stop;
+mod taking;
 
 pub use commit::Commit;
 pub use infos::{MapPair, SegInfo};
 pub use lists::{NormGens, Pairs, Segments};
+pub use reading::read;

@@ -1,10 +1,19 @@
 //! Numbers with a sign that stand for numbers, for generations or for nothing (format page, "segments_N").
 ghost use Rattle.std.specs.Prelude.{◌≡◌, ◌<◌, ◌^◌};
 ghost use Rattle.std.specs.Option.{ForSome};
-ghost use Rattle.segment_infos.specs.Numbers.{is_negative, is_below_none, is_none_number, is_no_generation, count_of, given, number_or_none};
+ghost use Rattle.segment_infos.specs.Numbers.{is_negative, is_below_none, is_none_number, is_no_generation, count_of, given, number_or_none, number_in};
+
+use lu_types::segment_number;
 
 /// Whether the number is below 0.
-pub fn is_negative(number: i64) -> bool
+pub fn is_negative(number: i32) -> bool
+    ensures { result ≡ is_negative number }
+{
+    number < 0
+}
+
+/// The same of a greater number.
+pub fn is_long_negative(number: i64) -> bool
     ensures { result ≡ is_negative number }
 {
     number < 0
@@ -67,4 +76,11 @@ pub fn number_or_none(number: Option<u64>) -> i64
         Some(number) => number as i64,
         None => -1,
     }
+}
+
+/// The number of the segment that has the name; `None` where it is no segment name.
+pub fn number_in(name: &str) -> Option<u32>
+    ensures { result ≡ number_in name.now }
+{
+    segment_number(name)
 }

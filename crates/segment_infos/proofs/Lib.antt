@@ -10,3 +10,8 @@ pub mod SpelledPieces
 pub mod OnlyParts
 pub mod OnlyFronts
 pub mod OnlyFiles
+pub mod WrittenPlans
+pub mod LineParts
+pub mod LineBack
+pub mod WrittenCommits
+pub mod PutLemmas

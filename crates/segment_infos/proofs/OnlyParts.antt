@@ -18,7 +18,7 @@ use Rattle.segment_infos.specs.declared.record.NormPart.{NormPart}
 use Rattle.segment_infos.specs.declared.record.FlagPart.{FlagPart}
 use Rattle.segment_infos.specs.declared.record.MapPart.{MapPart}
 use Rattle.segment_infos.specs.Numbers.{is_negative, is_below_none, is_none_number, is_no_generation, count_of, given, number_or_none, number_in}
-use Rattle.segment_infos.specs.Values.{IsPair, IsMap, IsGeneration, IsStore, AreNormGens, AreDeleted}
+use Rattle.segment_infos.specs.Values.{IsPair, IsMap, IsGeneration, IsStore, IsNormGen, AreNormGens, AreDeleted}
 use Rattle.segment_infos.specs.Records.{many, store_shape, store_if, front_shape, gen_shape, norm_shape, flag_shape, pair_shape, map_shape}
 use Rattle.segment_infos.specs.Conditions.{rule, is_no_flag, is_no_deletion, has_other_store, has_other_flag, store_conditions, norm_conditions, flag_conditions, map_conditions}
 use Rattle.segment_infos.specs.Format.{store_of, norm_gens_of}
@@ -75,22 +75,27 @@ empty_list : {X : Type 0} (xs : List X) → length xs ≡ 0 → xs ≡ []
 empty_list [] e = refl
 empty_list (x ∷ xs) e = absurd (omega arith)
 
-gen-is : (g : ℤ) (a : List ℕ) → Spells gen_shape g a → Unit {0} × (a ≡ spelling int64 g)
-gen-is g a (z, back, fits, is, (made, none)) = (tt, is ∙ ap (λ (t : List ℕ). spelling int64 z ++ t) none ∙ append-nil (spelling int64 z) ∙ ap (spelling int64) made)
+gen-is : (g : ℤ) (a : List ℕ) → Spells gen_shape g a → FitsSigned w64 g × (a ≡ spelling int64 g)
+gen-is g a (z, back, fits, is, (made, none)) = (subst (FitsSigned w64) made fits, is ∙ ap (λ (t : List ℕ). spelling int64 z ++ t) none ∙ append-nil (spelling int64 z) ∙ ap (spelling int64) made)
+
+-- a number that fits, and that is one of a generation or -1
+gen-ok : (g : ℤ) → FitsSigned w64 g → is_no_generation g ≡ false → IsNormGen g
+gen-ok (pos n) fits h = let some : n ≡ 0 → ⊥ = eqb-false n 0 h in (omega arith, omega (arith, fits))
+gen-ok (negsuc n) fits h = none_number n h
 
 pub record IsNormPart (n : NormPart) (a : List ℕ) : Type 0 where
   pub is : AreNormGens (norm_gens_of n)
   pub spelled : a ≡ spelling byte 1 ++ gens_bytes (norm_gens_of n)
 
-norm-made : (single : ℕ) (count : ℤ) (gens : List ℤ) (a : List ℕ) → FitsSigned w32 count → length gens ≡ count_of count → a ≡ spelling byte single ++ (spelling int32 count ++ flat_map (spelling int64) gens)
+norm-made : (single : ℕ) (count : ℤ) (gens : List ℤ) (a : List ℕ) → FitsSigned w32 count → All (FitsSigned w64) gens → length gens ≡ count_of count → a ≡ spelling byte single ++ (spelling int32 count ++ flat_map (spelling int64) gens)
     → first_broken (norm_conditions (record { single = single; count = count; gens = gens })) ≡ None → IsNormPart (record { single = single; count = count; gens = gens }) a
-norm-made single (pos k) gens a fits number bytes good =
+norm-made single (pos k) gens a fits each number bytes good =
     let one = not_first rules.OLD_NORMS (not (eqb single 1)) (rule rules.NUM_FIELD false ∷ rule rules.SEPARATE_NORMS (list_any is_no_generation gens) ∷ []) good in
     let is_one : single ≡ 1 = same_one one.0 in
     let two = not_first rules.NUM_FIELD false (rule rules.SEPARATE_NORMS (list_any is_no_generation gens) ∷ []) one.1 in
     let three = not_first rules.SEPARATE_NORMS (list_any is_no_generation gens) [] two.1 in
     record {
-      is = (omega (arith, number, fits), all_fail is_no_generation gens three.0);
+      is = (omega (arith, number, fits), λ i d lt. gen-ok (get_or gens i d) (each i d lt) (all_fail is_no_generation gens three.0 i d lt));
       spelled = bytes ∙ ap (λ (s : ℕ). spelling byte s ++ (spelling int32 (pos k) ++ flat_map (spelling int64) gens)) is_one ∙ ap (λ (m : ℕ). spelling byte 1 ++ (spelling int32 (pos m) ++ flat_map (spelling int64) gens)) (sym number);
     }
   where
@@ -99,7 +104,7 @@ norm-made single (pos k) gens a fits number bytes good =
       | inl same ↦ eqb-true single 1 same
       | inr other ↦ absurd (let bad : true ≡ false = rw other at h in cc)
     ]
-norm-made single (negsuc k) gens a fits number bytes good =
+norm-made single (negsuc k) gens a fits each number bytes good =
     let one = not_first rules.OLD_NORMS (not (eqb single 1)) (rule rules.NUM_FIELD (not (eqb k 0)) ∷ rule rules.SEPARATE_NORMS (list_any is_no_generation gens) ∷ []) good in
     let is_one : single ≡ 1 = same_one one.0 in
     let two = not_first rules.NUM_FIELD (not (eqb k 0)) (rule rules.SEPARATE_NORMS (list_any is_no_generation gens) ∷ []) one.1 in
@@ -123,11 +128,11 @@ pub norm-is : (n : NormPart) (a : List ℕ) → Spells norm_shape n a → first_
 norm-is n a (single, back, one_byte, is, (count, end, fits, more, spells)) good =
     let next = λ (gens : List ℤ). whole (let made : NormPart = record { single = single; count = count; gens = gens } in made) in
     let then = followed-spelled (many gen_shape (count_of count)) next n end spells in
-    let gens = many-are gen_shape (λ g. Unit {0}) (spelling int64) gen-is (count_of count) then.it then.bytes then.first in
+    let gens = many-are gen_shape (FitsSigned w64) (spelling int64) gen-is (count_of count) then.it then.bytes then.first in
     let made : record { single = single; count = count; gens = then.it } ≡ n = then.second.0 in
     let bytes : a ≡ spelling byte single ++ (spelling int32 count ++ flat_map (spelling int64) then.it) =
     is ∙ ap (λ (t : List ℕ). spelling byte single ++ t) (more ∙ ap (λ (t : List ℕ). spelling int32 count ++ t) (then.split ∙ ap (λ (t : List ℕ). then.bytes ++ t) then.second.1 ∙ append-nil then.bytes ∙ gens.spelled)) in
-    subst (λ (m : NormPart). first_broken (norm_conditions m) ≡ None → IsNormPart m a) made (norm-made single count then.it a fits gens.count bytes) good
+    subst (λ (m : NormPart). first_broken (norm_conditions m) ≡ None → IsNormPart m a) made (norm-made single count then.it a fits gens.each gens.count bytes) good
 
 -- ---- flags
 

@@ -1,5 +1,5 @@
 -- The bytes of a commit (docs/FORMAT.md, "segments_N").
-use Rattle.std.specs.Prelude.{ℕ, ◌-◌, List, [], ◌∷◌, ◌++◌, length, take, slice_index, Option, Some, None, ℤ, pos, negsuc, if◌then◌else◌}
+use Rattle.std.specs.Prelude.{ℕ, ◌-◌, List, [], ◌∷◌, ◌++◌, length, Option, Some, None, ℤ, pos, negsuc, if◌then◌else◌}
 use Rattle.std.specs.List.{flat_map}
 use Rattle.lu_grammar.specs.Parts.{byte, int32, int64, text, spelling}
 use Rattle.lu_prims.specs.Checksum.{checksum}
@@ -55,4 +55,6 @@ commit_bytes c = unsealed_bytes c ++ spelling int64 (pos (checksum (unsealed_byt
 
 -- the pending form of a commit: every bit of its last byte is turned
 abbrev pub pending : List ℕ → List ℕ
-pending bytes = take (length bytes - 1) bytes ++ (255 - slice_index bytes (length bytes - 1)) ∷ []
+pending [] = []
+pending (b ∷ []) = (255 - b) ∷ []
+pending (b ∷ c ∷ rest) = b ∷ pending (c ∷ rest)

@@ -1,12 +1,11 @@
 -- What a commit says (docs/FORMAT.md, "segments_N").
-use Rattle.std.specs.Prelude.{◌≡◌, ◌≢◌, ℕ, ◌^◌, ◌<◌, ◌≤◌, Bool, false, List, length, Option, Some, None, ℤ, All, AllPairs, sum_by}
+use Rattle.std.specs.Prelude.{◌≡◌, ◌≢◌, ℕ, ◌^◌, ◌<◌, ◌≤◌, List, length, Option, Some, None, ℤ, pos, negsuc, All, AllPairs, sum_by}
 use Rattle.lu_grammar.specs.Parts.{text, IsValue}
 use Rattle.lu_types.specs.declared.stored.SharedStore.{SharedStore}
 use Rattle.lu_types.specs.declared.names.TheConstants.{GREATEST_SEGMENT}
 use Rattle.segment_infos.specs.declared.infos.MapPair.{MapPair}
 use Rattle.segment_infos.specs.declared.infos.SegInfo.{SegInfo}
 use Rattle.segment_infos.specs.declared.record.TheConstants.{MOST_DOCUMENTS}
-use Rattle.segment_infos.specs.Numbers.{is_no_generation}
 
 -- the version, the name counter, the segments with what their lines say, and the pairs of the user data
 pub record CommitValue : Type 0 where
@@ -33,10 +32,15 @@ abbrev pub IsStore : Option SharedStore → Type 0
 IsStore None = Unit {0}
 IsStore (Some store) = (store.offset < 2 ^ 31) × (store.number ≤ GREATEST_SEGMENT)
 
--- norm generations, if they are counted: each is -1 or at least 1
+-- -1, or the number of a generation
+abbrev pub IsNormGen : ℤ → Type 0
+IsNormGen (pos n) = (1 ≤ n) × (n < 2 ^ 63)
+IsNormGen (negsuc n) = n ≡ 0
+
+-- norm generations, if they are counted
 abbrev pub AreNormGens : Option (List ℤ) → Type 0
 AreNormGens None = Unit {0}
-AreNormGens (Some gens) = (length gens < 2 ^ 31) × All (λ g. is_no_generation g ≡ false) gens
+AreNormGens (Some gens) = (length gens < 2 ^ 31) × All IsNormGen gens
 
 -- there are no more deleted documents than documents, and none where there is no file of them
 abbrev pub AreDeleted : Option ℕ → ℕ → ℕ → Type 0

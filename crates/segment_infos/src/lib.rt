@@ -5,6 +5,8 @@
 mod commit;
 mod infos;
 mod judging;
+
+pub mod laws;
 mod lists;
 mod numbers;
 mod parts;
@@ -13,8 +15,10 @@ mod record;
 mod segment;
 mod stop;
 mod taking;
+mod writing;
 
 pub use commit::Commit;
 pub use infos::{MapPair, SegInfo};
 pub use lists::{NormGens, Pairs, Segments};
 pub use reading::read;
+pub use writing::{write, write_pending};

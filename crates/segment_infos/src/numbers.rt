@@ -1,7 +1,6 @@
 //! Numbers with a sign that stand for numbers, for generations or for nothing (format page, "segments_N").
 ghost use Rattle.std.specs.Prelude.{◌≡◌, ◌<◌, ◌^◌};
-ghost use Rattle.std.specs.Option.{ForSome};
-ghost use Rattle.segment_infos.specs.Numbers.{is_negative, is_below_none, is_none_number, is_no_generation, count_of, given, number_or_none, number_in};
+ghost use Rattle.segment_infos.specs.Numbers.{is_negative, is_below_none, is_none_number, is_no_generation, count_of, given, number_in};
 
 use lu_types::segment_number;
 
@@ -64,17 +63,6 @@ pub fn given(number: i64) -> Option<u64>
         None
     } else {
         Some(number as u64)
-    }
-}
-
-/// The number that stands for this one, or for nothing.
-pub fn number_or_none(number: Option<u64>) -> i64
-    requires { ForSome number (λ n. n < 2 ^ 63) }
-    ensures { result ≡ number_or_none number }
-{
-    match number {
-        Some(number) => number as i64,
-        None => -1,
     }
 }
 

@@ -99,9 +99,13 @@ pair-spells : (p : MapPair) → IsPair p → Spells pair_shape p (pair_bytes p)
 pair-spells p is = (p.key, spelling text p.value, is.0, refl, (p.value, [], is.1, sym (append-nil (spelling text p.value)), (refl, refl)))
 
 pub map-spells : (pairs : List MapPair) → IsMap pairs → Spells map_shape (map_of pairs) (map_bytes pairs)
-map-spells pairs is =
-    (pos (length pairs), flat_map pair_bytes pairs, omega (arith, is.0), refl,
-      wrapped-spells (many pair_shape (length pairs)) (λ (ps : List MapPair). let m : MapPart = record { count = pos (length pairs); pairs = ps } in m) pairs (flat_map pair_bytes pairs) (many-spells pair_shape pair_bytes pairs [] (λ k d lt. pair-spells (get_or pairs k d) (is.1 k d lt))))
+map-spells pairs is = (
+  pos (length pairs),
+  flat_map pair_bytes pairs,
+  omega (arith, is.0),
+  refl,
+  wrapped-spells (many pair_shape (length pairs)) (λ (ps : List MapPair). let m : MapPart = record { count = pos (length pairs); pairs = ps } in m) pairs (flat_map pair_bytes pairs) (many-spells pair_shape pair_bytes pairs [] (λ k d lt. pair-spells (get_or pairs k d) (is.1 k d lt))),
+)
 
 gen-fits : (g : ℤ) → IsNormGen g → FitsSigned w64 g
 gen-fits (pos n) is = omega (arith, is.1)
@@ -116,14 +120,28 @@ gen-spells g is = (g, [], gen-fits g is, sym (append-nil (spelling int64 g)), (r
 pub norm-spells : (gens : Option (List ℤ)) → AreNormGens gens → Spells norm_shape (norms_in gens) (spelling byte 1 ++ gens_bytes gens)
 unfolding Rattle.lu_grammar.specs.Records.repeated
 norm-spells None is = (1, spelling int32 (negsuc 0), omega arith, refl, (negsuc 0, [], none-fits, sym (append-nil (spelling int32 (negsuc 0))), (refl, refl)))
-norm-spells (Some gens) is =
-    (1, spelling int32 (pos (length gens)) ++ flat_map (spelling int64) gens, omega arith, refl, (pos (length gens), flat_map (spelling int64) gens, omega (arith, is.0), refl,
-      wrapped-spells (many gen_shape (length gens)) (λ (gs : List ℤ). let n : NormPart = record { single = 1; count = pos (length gens); gens = gs } in n) gens (flat_map (spelling int64) gens) (many-spells gen_shape (spelling int64) gens [] (λ k d lt. gen-spells (get_or gens k d) (is.1 k d lt)))))
+norm-spells (Some gens) is = (
+  1,
+  spelling int32 (pos (length gens)) ++ flat_map (spelling int64) gens,
+  omega arith,
+  refl,
+  (
+    pos (length gens),
+    flat_map (spelling int64) gens,
+    omega (arith, is.0),
+    refl,
+    wrapped-spells (many gen_shape (length gens)) (λ (gs : List ℤ). let n : NormPart = record { single = 1; count = pos (length gens); gens = gs } in n) gens (flat_map (spelling int64) gens) (many-spells gen_shape (spelling int64) gens [] (λ k d lt. gen-spells (get_or gens k d) (is.1 k d lt))),
+  ),
+)
 
 pub flag-spells : (s : SegInfo) → s.deleted ≤ s.size → s.size ≤ MOST_DOCUMENTS → Spells flag_shape (flags_of s) (flag_bytes s)
-flag-spells s few most =
-    (cond s.compound PACKED NOT_PACKED, spelling int32 (pos s.deleted) ++ spelling byte (cond s.has_prox 1 0), is_byte s.compound, refl,
-      (pos s.deleted, spelling byte (cond s.has_prox 1 0), omega arith, refl, (cond s.has_prox 1 0, [], is_bit s.has_prox, refl, (refl, refl))))
+flag-spells s few most = (
+  cond s.compound PACKED NOT_PACKED,
+  spelling int32 (pos s.deleted) ++ spelling byte (cond s.has_prox 1 0),
+  is_byte s.compound,
+  refl,
+  (pos s.deleted, spelling byte (cond s.has_prox 1 0), omega arith, refl, (cond s.has_prox 1 0, [], is_bit s.has_prox, refl, (refl, refl))),
+)
   where
     is_byte : (b : Bool) → cond b PACKED NOT_PACKED < 256
     is_byte true = omega arith
@@ -136,9 +154,13 @@ flag-spells s few most =
 store-spells : (store : Option SharedStore) → IsStore store → (next : ℤ → Option StorePart → FrontPart)
     → Spells (part int32 (λ offset. followed (store_if (not (is_none_number offset))) (λ st. whole (next offset st)))) (next (offset_in store) (store_in store)) (store_bytes store)
 store-spells None is next = (negsuc 0, [], none-fits, sym (append-nil (spelling int32 (negsuc 0))), (refl, refl))
-store-spells (Some s) is next =
-    (pos s.offset, spelling text (segment_name s.number) ++ spelling byte (cond s.compound PACKED 0), omega (arith, is.0), refl,
-      (segment_name s.number, spelling byte (cond s.compound PACKED 0), name-value s.number is.1, refl, (cond s.compound PACKED 0, [], is_byte s.compound, refl, (refl, refl))))
+store-spells (Some s) is next = (
+  pos s.offset,
+  spelling text (segment_name s.number) ++ spelling byte (cond s.compound PACKED 0),
+  omega (arith, is.0),
+  refl,
+  (segment_name s.number, spelling byte (cond s.compound PACKED 0), name-value s.number is.1, refl, (cond s.compound PACKED 0, [], is_byte s.compound, refl, (refl, refl))),
+)
   where
     is_byte : (b : Bool) → cond b PACKED 0 < 256
     is_byte true = omega arith
@@ -149,11 +171,25 @@ del_gen-fits None is = search rules
 del_gen-fits (Some n) is = omega (arith, is.1)
 
 pub front-spells : (s : SegInfo) → IsLine s → Spells front_shape (front_of s) (front_bytes s)
-front-spells s is =
-    (segment_name s.number, spelling int32 (pos s.size) ++ (spelling int64 (number_or_none s.del_gen) ++ store_bytes s.store), name-value s.number is.number, refl,
-      (pos s.size, spelling int64 (number_or_none s.del_gen) ++ store_bytes s.store, omega (arith, is.size), refl,
-        (number_or_none s.del_gen, store_bytes s.store, del_gen-fits s.del_gen is.del_gen, refl,
-          store-spells s.store is.store (λ offset store. record { name = segment_name s.number; size = pos s.size; del_gen = number_or_none s.del_gen; offset = offset; store = store }))))
+front-spells s is = (
+  segment_name s.number,
+  spelling int32 (pos s.size) ++ (spelling int64 (number_or_none s.del_gen) ++ store_bytes s.store),
+  name-value s.number is.number,
+  refl,
+  (
+    pos s.size,
+    spelling int64 (number_or_none s.del_gen) ++ store_bytes s.store,
+    omega (arith, is.size),
+    refl,
+    (
+      number_or_none s.del_gen,
+      store_bytes s.store,
+      del_gen-fits s.del_gen is.del_gen,
+      refl,
+      store-spells s.store is.store (λ offset store. record { name = segment_name s.number; size = pos s.size; del_gen = number_or_none s.del_gen; offset = offset; store = store }),
+    ),
+  ),
+)
 
 deleted-most : (g : Option ℕ) (size deleted : ℕ) → AreDeleted g size deleted → deleted ≤ size
 deleted-most None size deleted is = omega (arith, is)

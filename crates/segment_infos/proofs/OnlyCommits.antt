@@ -166,19 +166,19 @@ fits_w64 z n fits is = let f : FitsSigned w64 (pos n) = subst (FitsSigned w64) i
 pub heading-is : (h : Heading) (a : List ℕ) → Spells heading_shape h a → first_broken (heading_conditions h) ≡ None → IsHeading h a
 heading-is h a (format, b, fits, is, (version, c, fits_2, is_2, (counter, d, fits_3, is_3, (count, e, fits_4, is_4, (made, none))))) good =
     subst (λ (g : Heading). first_broken (heading_conditions g) ≡ None → IsHeading g a) made (λ unbroken.
-        let one = not_first rules.FORMAT (not (int_eq format FORMAT_NUMBER)) (rule rules.VERSION (is_negative version) ∷ rule rules.NAME_COUNTER (is_negative counter) ∷ rule rules.SEG_COUNT (is_negative count) ∷ []) unbroken in
-        let two = not_first rules.VERSION (is_negative version) (rule rules.NAME_COUNTER (is_negative counter) ∷ rule rules.SEG_COUNT (is_negative count) ∷ []) one.1 in
-        let three = not_first rules.NAME_COUNTER (is_negative counter) (rule rules.SEG_COUNT (is_negative count) ∷ []) two.1 in
-        let four = not_first rules.SEG_COUNT (is_negative count) [] three.1 in
-        let bytes : a ≡ spelling int32 format ++ (spelling int64 version ++ (spelling int32 counter ++ spelling int32 count)) =
-        is ∙ ap (λ (t : List ℕ). spelling int32 format ++ t) (is_2 ∙ ap (λ (t : List ℕ). spelling int64 version ++ t) (is_3 ∙ ap (λ (t : List ℕ). spelling int32 counter ++ t) (is_4 ∙ ap (λ (t : List ℕ). spelling int32 count ++ t) none ∙ append-nil (spelling int32 count)))) in
-        record {
-          version = within (2 ^ 63) version (omega arith) (λ n p. fits_w64 version n fits_2 p);
-          counter = within (2 ^ 31) counter (omega arith) (λ n p. fits_w32 counter n fits_3 p);
-          count = within (2 ^ 31) count (omega arith) (λ n p. fits_w32 count n fits_4 p);
-          spelled = bytes
-              ∙ ap (λ (z : ℤ). spelling int32 z ++ (spelling int64 version ++ (spelling int32 counter ++ spelling int32 count))) (same_number format FORMAT_NUMBER one.0)
-              ∙ ap (λ (z : ℤ). spelling int32 FORMAT_NUMBER ++ (spelling int64 z ++ (spelling int32 counter ++ spelling int32 count))) (not_negative version two.0)
-              ∙ ap (λ (z : ℤ). spelling int32 FORMAT_NUMBER ++ (spelling int64 (pos (count_of version)) ++ (spelling int32 z ++ spelling int32 count))) (not_negative counter three.0)
-              ∙ ap (λ (z : ℤ). spelling int32 FORMAT_NUMBER ++ (spelling int64 (pos (count_of version)) ++ (spelling int32 (pos (count_of counter)) ++ spelling int32 z))) (not_negative count four.0);
-        }) good
+    let one = not_first rules.FORMAT (not (int_eq format FORMAT_NUMBER)) (rule rules.VERSION (is_negative version) ∷ rule rules.NAME_COUNTER (is_negative counter) ∷ rule rules.SEG_COUNT (is_negative count) ∷ []) unbroken in
+    let two = not_first rules.VERSION (is_negative version) (rule rules.NAME_COUNTER (is_negative counter) ∷ rule rules.SEG_COUNT (is_negative count) ∷ []) one.1 in
+    let three = not_first rules.NAME_COUNTER (is_negative counter) (rule rules.SEG_COUNT (is_negative count) ∷ []) two.1 in
+    let four = not_first rules.SEG_COUNT (is_negative count) [] three.1 in
+    let bytes : a ≡ spelling int32 format ++ (spelling int64 version ++ (spelling int32 counter ++ spelling int32 count)) =
+    is ∙ ap (λ (t : List ℕ). spelling int32 format ++ t) (is_2 ∙ ap (λ (t : List ℕ). spelling int64 version ++ t) (is_3 ∙ ap (λ (t : List ℕ). spelling int32 counter ++ t) (is_4 ∙ ap (λ (t : List ℕ). spelling int32 count ++ t) none ∙ append-nil (spelling int32 count)))) in
+    record {
+      version = within (2 ^ 63) version (omega arith) (λ n p. fits_w64 version n fits_2 p);
+      counter = within (2 ^ 31) counter (omega arith) (λ n p. fits_w32 counter n fits_3 p);
+      count = within (2 ^ 31) count (omega arith) (λ n p. fits_w32 count n fits_4 p);
+      spelled = bytes
+          ∙ ap (λ (z : ℤ). spelling int32 z ++ (spelling int64 version ++ (spelling int32 counter ++ spelling int32 count))) (same_number format FORMAT_NUMBER one.0)
+          ∙ ap (λ (z : ℤ). spelling int32 FORMAT_NUMBER ++ (spelling int64 z ++ (spelling int32 counter ++ spelling int32 count))) (not_negative version two.0)
+          ∙ ap (λ (z : ℤ). spelling int32 FORMAT_NUMBER ++ (spelling int64 (pos (count_of version)) ++ (spelling int32 z ++ spelling int32 count))) (not_negative counter three.0)
+          ∙ ap (λ (z : ℤ). spelling int32 FORMAT_NUMBER ++ (spelling int64 (pos (count_of version)) ++ (spelling int32 (pos (count_of counter)) ++ spelling int32 z))) (not_negative count four.0);
+    }) good

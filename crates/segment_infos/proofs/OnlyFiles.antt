@@ -105,7 +105,7 @@ front-only (s ∷ ss) v good none =
     let head = heading-is h then.bytes then.first unbroken in
     let there = 0 + length s.front in
     let split = split_records (times lines_kind (count_of h.count) []) (λ segments. user_plan h segments) there ss v
-        (subst (λ (q : CommitRecord). AreGood (after_heading q) there ss) (sym is) good.1) (subst (λ (q : CommitRecord). due_after (after_heading q) there ss ≡ done v) (sym is) none) in
+    (subst (λ (q : CommitRecord). AreGood (after_heading q) there ss) (sym is) good.1) (subst (λ (q : CommitRecord). due_after (after_heading q) there ss ≡ done v) (sym is) none) in
     let no_lines : AreLines [] = record { lines = λ k d lt. absurd (omega arith); apart = λ i j d lt inside. absurd (omega arith); sizes = omega arith } in
     let lines = lines-only (count_of h.count) [] there split.first split.value no_lines split.good split.none in
     let said = user-only h split.value (there + length (bytes_of split.first)) split.second v split.others_good split.others_none in
@@ -159,11 +159,12 @@ commit-only bytes v h =
     let here = 0 + length (bytes_of split.first) in
     let sealed = seal-only bytes split.value v here split.second split.others_good split.others_none in
     let all : bytes ≡ bytes_of split.first ++ bytes_of split.second = h.front ∙ append-nil (bytes_of h.records) ∙ split.all in
-    let before : take here bytes ≡ bytes_of split.first = ap (take here) all ∙ take_at (bytes_of split.first) (bytes_of split.second) here (omega arith) in
-    (subst IsCommit (sym sealed.same) front.is,
+    let before : take here bytes ≡ bytes_of split.first = ap (take here) all ∙ take_at (bytes_of split.first) (bytes_of split.second) here (omega arith) in (
+      subst IsCommit (sym sealed.same) front.is,
       all ∙ ap (λ (t : List ℕ). t ++ bytes_of split.second) front.spelled
-      ∙ ap (λ (t : List ℕ). unsealed_bytes split.value ++ t) (sealed.spelled ∙ ap (λ (t : List ℕ). spelling int64 (pos (checksum t))) (before ∙ front.spelled))
-      ∙ ap commit_bytes (sym sealed.same))
+          ∙ ap (λ (t : List ℕ). unsealed_bytes split.value ++ t) (sealed.spelled ∙ ap (λ (t : List ℕ). spelling int64 (pos (checksum t))) (before ∙ front.spelled))
+          ∙ ap commit_bytes (sym sealed.same),
+    )
 
 pub Reads-IsCommit : (bytes : List ℕ) (v : CommitValue) → Reads (commit_plan bytes) bytes v → IsCommit v
 Reads-IsCommit bytes v h = (commit-only bytes v h).0

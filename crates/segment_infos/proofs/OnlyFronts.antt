@@ -57,14 +57,14 @@ pub record IsStorePart (offset : ℤ) (store : Option StorePart) (a : List ℕ) 
 store-there : (n : ℕ) (store : Option StorePart) (a : List ℕ) → FitsSigned w32 (pos n) → Spells (store_if true) store a → has_other_store store ≡ false → has_other_flag store ≡ false → IsStorePart (pos n) store a
 store-there n store a fits (name, b, text_fits, is, (flag, c, byte_fits, is_2, (made, none))) good_name good_flag =
     subst (λ (s : Option StorePart). has_other_store s ≡ false → has_other_flag s ≡ false → IsStorePart (pos n) s a) made (λ has_name has_flag.
-        let number = named name has_name in
-        let bytes : a ≡ spelling text name ++ spelling byte flag = is ∙ ap (λ (t : List ℕ). spelling text name ++ t) (is_2 ∙ ap (λ (t : List ℕ). spelling byte flag ++ t) none ∙ append-nil (spelling byte flag)) in
-        record {
-          is = (omega (arith, fits), number.0);
-          spelled = ap (λ (t : List ℕ). spelling int32 (pos n) ++ t)
-              (bytes ∙ ap (λ (t : List ℕ). spelling text t ++ spelling byte flag) number.1
-              ∙ ap (λ (k : ℕ). spelling text (segment_name (unwrap_or (number_in name) 0)) ++ spelling byte k) (sym (same_pack flag has_flag)));
-        }) good_name good_flag
+    let number = named name has_name in
+    let bytes : a ≡ spelling text name ++ spelling byte flag = is ∙ ap (λ (t : List ℕ). spelling text name ++ t) (is_2 ∙ ap (λ (t : List ℕ). spelling byte flag ++ t) none ∙ append-nil (spelling byte flag)) in
+    record {
+      is = (omega (arith, fits), number.0);
+      spelled = ap (λ (t : List ℕ). spelling int32 (pos n) ++ t)
+          (bytes ∙ ap (λ (t : List ℕ). spelling text t ++ spelling byte flag) number.1
+          ∙ ap (λ (k : ℕ). spelling text (segment_name (unwrap_or (number_in name) 0)) ++ spelling byte k) (sym (same_pack flag has_flag)));
+    }) good_name good_flag
 
 store-absent : (offset : ℤ) (store : Option StorePart) (a : List ℕ) → offset ≡ negsuc 0 → Spells (store_if false) store a → IsStorePart offset store a
 store-absent offset store a is_none_offset (made, none) =

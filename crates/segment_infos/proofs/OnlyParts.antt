@@ -179,15 +179,15 @@ deleted-are front deleted h =
 pub flag-is : (front : FrontPart) (f : FlagPart) (a : List ℕ) → Spells flag_shape f a → first_broken (flag_conditions front f) ≡ None → IsFlagPart front f a
 flag-is front f a (compound, b, fits, is, (deleted, c, fits_2, is_2, (prox, d, fits_3, is_3, (made, none)))) good =
     subst (λ (g : FlagPart). first_broken (flag_conditions front g) ≡ None → IsFlagPart front g a) made (λ unbroken.
-        let one = not_first rules.COMPOUND_FLAG (is_no_flag compound) (rule rules.DELETION_COUNT (is_no_deletion front deleted) ∷ rule rules.PROX_FLAG (ltb 1 prox) ∷ []) unbroken in
-        let two = not_first rules.DELETION_COUNT (is_no_deletion front deleted) (rule rules.PROX_FLAG (ltb 1 prox) ∷ []) one.1 in
-        let three = not_first rules.PROX_FLAG (ltb 1 prox) [] two.1 in
-        let count = deleted-are front deleted two.0 in
-        let bytes : a ≡ spelling byte compound ++ (spelling int32 deleted ++ spelling byte prox) =
-        is ∙ ap (λ (t : List ℕ). spelling byte compound ++ t) (is_2 ∙ ap (λ (t : List ℕ). spelling int32 deleted ++ t) (is_3 ∙ ap (λ (t : List ℕ). spelling byte prox ++ t) none ∙ append-nil (spelling byte prox))) in
-        record {
-          deleted = count.0;
-          spelled = bytes ∙ ap (λ (n : ℕ). spelling byte n ++ (spelling int32 deleted ++ spelling byte prox)) (sym (same_flag compound one.0))
-              ∙ ap (λ (z : ℤ). spelling byte (cond (eqb compound PACKED) PACKED NOT_PACKED) ++ (spelling int32 z ++ spelling byte prox)) count.1
-              ∙ ap (λ (n : ℕ). spelling byte (cond (eqb compound PACKED) PACKED NOT_PACKED) ++ (spelling int32 (pos (count_of deleted)) ++ spelling byte n)) (sym (same_bit prox three.0));
-        }) good
+    let one = not_first rules.COMPOUND_FLAG (is_no_flag compound) (rule rules.DELETION_COUNT (is_no_deletion front deleted) ∷ rule rules.PROX_FLAG (ltb 1 prox) ∷ []) unbroken in
+    let two = not_first rules.DELETION_COUNT (is_no_deletion front deleted) (rule rules.PROX_FLAG (ltb 1 prox) ∷ []) one.1 in
+    let three = not_first rules.PROX_FLAG (ltb 1 prox) [] two.1 in
+    let count = deleted-are front deleted two.0 in
+    let bytes : a ≡ spelling byte compound ++ (spelling int32 deleted ++ spelling byte prox) =
+    is ∙ ap (λ (t : List ℕ). spelling byte compound ++ t) (is_2 ∙ ap (λ (t : List ℕ). spelling int32 deleted ++ t) (is_3 ∙ ap (λ (t : List ℕ). spelling byte prox ++ t) none ∙ append-nil (spelling byte prox))) in
+    record {
+      deleted = count.0;
+      spelled = bytes ∙ ap (λ (n : ℕ). spelling byte n ++ (spelling int32 deleted ++ spelling byte prox)) (sym (same_flag compound one.0))
+          ∙ ap (λ (z : ℤ). spelling byte (cond (eqb compound PACKED) PACKED NOT_PACKED) ++ (spelling int32 z ++ spelling byte prox)) count.1
+          ∙ ap (λ (n : ℕ). spelling byte (cond (eqb compound PACKED) PACKED NOT_PACKED) ++ (spelling int32 (pos (count_of deleted)) ++ spelling byte n)) (sym (same_bit prox three.0));
+    }) good

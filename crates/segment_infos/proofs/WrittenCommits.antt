@@ -86,10 +86,19 @@ heading_of v = record { format = FORMAT_NUMBER; version = pos v.version; counter
 
 heading-spells : (v : CommitValue) → IsCommit v → Spells heading_shape (heading_of v) (heading_bytes v)
 unfolding heading_of
-heading-spells v is =
-    (FORMAT_NUMBER, spelling int64 (pos v.version) ++ (spelling int32 (pos v.counter) ++ spelling int32 (pos (length v.segments))), format-fits, refl,
-      (pos v.version, spelling int32 (pos v.counter) ++ spelling int32 (pos (length v.segments)), omega (arith, is.version), refl,
-        (pos v.counter, spelling int32 (pos (length v.segments)), omega (arith, is.counter), refl, (pos (length v.segments), [], omega (arith, is.count), sym (append-nil (spelling int32 (pos (length v.segments)))), (refl, refl)))))
+heading-spells v is = (
+  FORMAT_NUMBER,
+  spelling int64 (pos v.version) ++ (spelling int32 (pos v.counter) ++ spelling int32 (pos (length v.segments))),
+  format-fits,
+  refl,
+  (
+    pos v.version,
+    spelling int32 (pos v.counter) ++ spelling int32 (pos (length v.segments)),
+    omega (arith, is.version),
+    refl,
+    (pos v.counter, spelling int32 (pos (length v.segments)), omega (arith, is.counter), refl, (pos (length v.segments), [], omega (arith, is.count), sym (append-nil (spelling int32 (pos (length v.segments)))), (refl, refl))),
+  ),
+)
   where
     format-fits : FitsSigned w32 FORMAT_NUMBER
     format-fits = omega arith

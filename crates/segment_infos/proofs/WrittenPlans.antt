@@ -48,7 +48,7 @@ ok_at v place rest = Ok (v, at place rest)
 pub written-then : {V W R : Type 0} (plan : Plan V R) (next : V → Plan W R) (place : ℕ) (a b : List ℕ) (v : V) (w : W) → Written plan place a v → Written (next v) (place + length a) b w → Written (and_then plan next) place (a ++ b) w
 written-then {V} {W} {R} plan next place a b v w first second =
     let joined = join plan place first.records first.good first.none_due second.records
-        (subst (λ (n : ℕ). AreGood (next v) (place + n) second.records) (ap length first.spelled) second.good) (subst (λ (n : ℕ). due_after (next v) (place + n) second.records ≡ done w) (ap length first.spelled) second.none_due) in
+    (subst (λ (n : ℕ). AreGood (next v) (place + n) second.records) (ap length first.spelled) second.good) (subst (λ (n : ℕ). due_after (next v) (place + n) second.records ≡ done w) (ap length first.spelled) second.none_due) in
     record { records = first.records ++ second.records; good = joined.0; none_due = joined.1; spelled = ap (λ (t : List ℕ). t ++ b) first.spelled ∙ ap (λ (t : List ℕ). bytes_of first.records ++ t) second.spelled ∙ sym (joined.2) }
   where
     join : (p : Plan V R) (here : ℕ) (xs : List (Spelled R)) → AreGood p here xs → due_after p here xs ≡ done v → (ys : List (Spelled R)) → AreGood (next v) (here + length (bytes_of xs)) ys → due_after (next v) (here + length (bytes_of xs)) ys ≡ done w

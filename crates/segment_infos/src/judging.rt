@@ -11,7 +11,8 @@ use crate::numbers::{
     count_of, is_below_none, is_long_negative, is_negative, is_no_generation, number_in,
 };
 use crate::record::{
-    FORMAT_NUMBER, FlagPart, FrontPart, Heading, Line, MOST_DOCUMENTS, MapPart, NOT_PACKED, NormPart, PACKED, StorePart,
+    FORMAT_NUMBER, FlagPart, FrontPart, Heading, Line, MOST_DOCUMENTS, MapPart, NOT_PACKED,
+    NormPart, PACKED, StorePart,
 };
 use crate::taking::Taking;
 use lu_types::rules::{
@@ -124,8 +125,7 @@ fn store_broken(front: &FrontPart<'_>) -> Option<u16>
 fn has_no_generation(gens: &[i64]) -> bool
     ensures { result ≡ list_any is_no_generation gens.now }
 {
-    gens.iter()
-        .any(|generation| is_no_generation(*generation))
+    gens.iter().any(|generation| is_no_generation(*generation))
 }
 
 /// The first rule that what is said of the norms breaks.

@@ -5,7 +5,6 @@
 mod commit;
 mod infos;
 mod judging;
-
 pub mod laws;
 mod lists;
 mod numbers;

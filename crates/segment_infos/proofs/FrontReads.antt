@@ -1,7 +1,7 @@
 -- A commit is read record by record.
 use Rattle.std.proofs.Common.{◌≡◌, ℕ, ◌+◌, ◌<◌, ◌≤◌, List, [], ◌∷◌, ◌++◌, length, take, ℤ, Result, Ok, Err, refl, sym, ap, ◌∙◌, arith}
 use Rattle.std.proofs.lemmas.List.{length-append}
-use Rattle.lu_grammar.specs.declared.general.TheConstants.{TRAILING}
+use Rattle.lu_grammar.specs.RuleNumbers.{trailing}
 use Rattle.lu_grammar.specs.Bytes.{IsBytes, Cursor, start_of}
 use Rattle.lu_grammar.specs.Reading.{◌>>=◌}
 use Rattle.lu_grammar.specs.Records.{record_at}
@@ -24,7 +24,7 @@ use Rattle.segment_infos.specs.Numbers.{count_of}
 use Rattle.segment_infos.specs.Values.{CommitValue}
 use Rattle.segment_infos.specs.Records.{CommitRecord, heading, line, user, seal, heading_record, line_record, user_record, seal_record}
 use Rattle.segment_infos.specs.Format.{of_heading, of_line, of_user, of_seal, lines_kind, commit_of, user_plan, after_heading, front_plan, seal_plan, commit_plan}
-use Rattle.segment_infos.specs.Words.{GivesIn, Checks}
+use Rattle.lu_types.specs.Judging.{GivesIn, Checks}
 use Rattle.segment_infos.specs.Answers.{GivesOr}
 use Rattle.segment_infos.specs.Unsealed.{unsealed_value, fault_of}
 
@@ -95,7 +95,7 @@ module _ (bytes : List ℕ) (fits : IsBytes bytes) where
       commit-sealed = commit-front ∙ read_due seal_record (λ place r. of_seal (take place bytes) r) (λ _ _. done v) d (seal z) e second
 
       -- bytes after it, and none
-      pub commit-left : 0 < length e.rest → FirstFault (commit_plan bytes) bytes e.place TRAILING
+      pub commit-left : 0 < length e.rest → FirstFault (commit_plan bytes) bytes e.place trailing
       commit-left some = file-left (commit_plan bytes) bytes v e fits commit-sealed some
 
       pub commit-read : length e.rest ≡ 0 → Reads (commit_plan bytes) bytes v

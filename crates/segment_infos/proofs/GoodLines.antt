@@ -3,7 +3,7 @@ use Rattle.std.proofs.Common.{◌≡◌, ℕ, ◌+◌, ◌<◌, ◌≤◌, Bool,
 use Rattle.std.specs.Prelude.{is_none, unwrap_or}
 use Rattle.std.proofs.lemmas.Bool.{cases_Bool, ltb-false}
 use Rattle.lu_grammar.specs.Records.{Condition, first_broken}
-use Rattle.lu_types.specs.declared.rules.TheConstants as rules
+use Rattle.lu_types.specs.RuleNumbers as rules
 use Rattle.segment_infos.specs.declared.infos.SegInfo.{SegInfo}
 use Rattle.segment_infos.specs.declared.record.TheConstants.{MOST_DOCUMENTS}
 use Rattle.segment_infos.specs.declared.record.FrontPart.{FrontPart}
@@ -55,9 +55,9 @@ pub record IsNewName (segments : List SegInfo) (name : List ℕ) : Type 0 where
 pub name-new : (segments : List SegInfo) (f : FrontPart) → first_broken (name_conditions segments f) ≡ None → IsNewName segments f.name
 name-new segments f e = go (number_in f.name) refl e
   where
-    go : (o : Option ℕ) → number_in f.name ≡ o → first_broken (rule rules.SEG_NAME (is_none o) ∷ rule rules.SEG_TWICE (is_twice segments o) ∷ []) ≡ None → IsNewName segments f.name
+    go : (o : Option ℕ) → number_in f.name ≡ o → first_broken (rule rules.seg_name (is_none o) ∷ rule rules.seg_twice (is_twice segments o) ∷ []) ≡ None → IsNewName segments f.name
     go None is h = absurd (some_is_none h)
-    go (Some n) is h = record { number = n; is = is; new = (not_first rules.SEG_TWICE (has_number segments n) [] h).0 }
+    go (Some n) is h = record { number = n; is = is; new = (not_first rules.seg_twice (has_number segments n) [] h).0 }
 
 -- the number of a segment is new after those before it
 pub segment_of-new : (segments : List SegInfo) (l : Line) → first_broken (line_conditions segments l) ≡ None → has_number segments (segment_of l).number ≡ false
@@ -70,6 +70,6 @@ segment_of-new segments l e =
 pub segment_of-room : (segments : List SegInfo) (l : Line) → first_broken (line_conditions segments l) ≡ None → total_size segments + (segment_of l).size ≤ MOST_DOCUMENTS
 unfolding segment_of
 segment_of-room segments l e =
-    let sizes = not_first rules.SEG_SIZE (is_no_size l.front.size) (rule rules.SIZE_SUM (ltb MOST_DOCUMENTS (total_size segments + count_of l.front.size)) ∷ []) (line-unbroken segments l e).sizes in
-    let sum = not_first rules.SIZE_SUM (ltb MOST_DOCUMENTS (total_size segments + count_of l.front.size)) [] sizes.1 in
+    let sizes = not_first rules.seg_size (is_no_size l.front.size) (rule rules.size_sum (ltb MOST_DOCUMENTS (total_size segments + count_of l.front.size)) ∷ []) (line-unbroken segments l e).sizes in
+    let sum = not_first rules.size_sum (ltb MOST_DOCUMENTS (total_size segments + count_of l.front.size)) [] sizes.1 in
     ltb-false MOST_DOCUMENTS (total_size segments + count_of l.front.size) sum.0

@@ -6,10 +6,9 @@ use Rattle.std.specs.List.{list_any}
 use Rattle.std.proofs.lemmas.Bool.{le-ltb, eq-eqb, ne_eqb}
 use Rattle.std.proofs.lemmas.List.Folds.{list_any_none}
 use Rattle.lu_grammar.specs.Records.{Condition, first_broken}
-use Rattle.lu_types.specs.declared.rules.TheConstants as rules
-use Rattle.lu_types.specs.declared.names.TheConstants.{GREATEST_SEGMENT}
+use Rattle.lu_types.specs.RuleNumbers as rules
 use Rattle.lu_types.specs.declared.stored.SharedStore.{SharedStore}
-use Rattle.lu_types.specs.Names.{segment_name}
+use Rattle.lu_types.specs.Names.{greatest_segment, segment_name}
 use Rattle.segment_infos.specs.declared.infos.MapPair.{MapPair}
 use Rattle.segment_infos.specs.declared.infos.SegInfo.{SegInfo}
 use Rattle.segment_infos.specs.declared.record.TheConstants.{MOST_DOCUMENTS, PACKED, NOT_PACKED}
@@ -28,15 +27,15 @@ both_none a b e f = first_broken-append a b ∙ ap (λ (o : Option ℕ). option_
 
 module _ (segments : List SegInfo) (s : SegInfo) (is : IsLine s) (new : has_number segments s.number ≡ false) (room : total_size segments + s.size ≤ MOST_DOCUMENTS) where
   names : first_broken (name_conditions segments (front_of s)) ≡ None
-  names = ap (λ (o : Option ℕ). first_broken (rule rules.SEG_NAME (is_none o) ∷ rule rules.SEG_TWICE (is_twice segments o) ∷ [])) (number_in-segment_name s.number is.number)
-      ∙ ap (λ (b : Bool). first_broken (rule rules.SEG_NAME false ∷ rule rules.SEG_TWICE b ∷ [])) new
+  names = ap (λ (o : Option ℕ). first_broken (rule rules.seg_name (is_none o) ∷ rule rules.seg_twice (is_twice segments o) ∷ [])) (number_in-segment_name s.number is.number)
+      ∙ ap (λ (b : Bool). first_broken (rule rules.seg_name false ∷ rule rules.seg_twice b ∷ [])) new
 
   sizes : first_broken (size_conditions segments (front_of s)) ≡ None
   sizes =
       let size : ltb MOST_DOCUMENTS s.size ≡ false = le-ltb MOST_DOCUMENTS s.size is.size in
       let sum : ltb MOST_DOCUMENTS (total_size segments + s.size) ≡ false = le-ltb MOST_DOCUMENTS (total_size segments + s.size) room in
-      ap (λ (b : Bool). first_broken (rule rules.SEG_SIZE b ∷ rule rules.SIZE_SUM (ltb MOST_DOCUMENTS (total_size segments + s.size)) ∷ [])) size
-      ∙ ap (λ (b : Bool). first_broken (rule rules.SEG_SIZE false ∷ rule rules.SIZE_SUM b ∷ [])) sum
+      ap (λ (b : Bool). first_broken (rule rules.seg_size b ∷ rule rules.size_sum (ltb MOST_DOCUMENTS (total_size segments + s.size)) ∷ [])) size
+      ∙ ap (λ (b : Bool). first_broken (rule rules.seg_size false ∷ rule rules.size_sum b ∷ [])) sum
 
 gen-good : (g : Option ℕ) → IsGeneration g → is_no_generation (number_or_none g) ≡ false
 gen-good None is = refl
@@ -60,10 +59,10 @@ flag-good (Some s) = pack-good s.compound
 
 stores : (s : SegInfo) → IsLine s → first_broken (store_conditions (front_of s)) ≡ None
 stores s is =
-    ap (λ (b : Bool). first_broken (rule rules.DEL_GEN b ∷ rule rules.SHARED_STORE (is_below_none (offset_in s.store)) ∷ rule rules.STORE_NAME (has_other_store (store_in s.store)) ∷ rule rules.STORE_FLAG (has_other_flag (store_in s.store)) ∷ [])) (gen-good s.del_gen is.del_gen)
-    ∙ ap (λ (b : Bool). first_broken (rule rules.SHARED_STORE b ∷ rule rules.STORE_NAME (has_other_store (store_in s.store)) ∷ rule rules.STORE_FLAG (has_other_flag (store_in s.store)) ∷ [])) (offset-good s.store)
-    ∙ ap (λ (b : Bool). first_broken (rule rules.STORE_NAME b ∷ rule rules.STORE_FLAG (has_other_flag (store_in s.store)) ∷ [])) (store-good s.store is.store)
-    ∙ ap (λ (b : Bool). first_broken (rule rules.STORE_FLAG b ∷ [])) (flag-good s.store)
+    ap (λ (b : Bool). first_broken (rule rules.del_gen b ∷ rule rules.shared_store (is_below_none (offset_in s.store)) ∷ rule rules.store_name (has_other_store (store_in s.store)) ∷ rule rules.store_flag (has_other_flag (store_in s.store)) ∷ [])) (gen-good s.del_gen is.del_gen)
+    ∙ ap (λ (b : Bool). first_broken (rule rules.shared_store b ∷ rule rules.store_name (has_other_store (store_in s.store)) ∷ rule rules.store_flag (has_other_flag (store_in s.store)) ∷ [])) (offset-good s.store)
+    ∙ ap (λ (b : Bool). first_broken (rule rules.store_name b ∷ rule rules.store_flag (has_other_flag (store_in s.store)) ∷ [])) (store-good s.store is.store)
+    ∙ ap (λ (b : Bool). first_broken (rule rules.store_flag b ∷ [])) (flag-good s.store)
 
 norm_gen-good : (g : ℤ) → IsNormGen g → is_no_generation g ≡ false
 norm_gen-good (pos n) is = ne_eqb n 0 (λ e. omega (arith, is.0))
@@ -71,7 +70,7 @@ norm_gen-good (negsuc n) is = ap not (eq-eqb n 0 is)
 
 norms : (gens : Option (List ℤ)) → AreNormGens gens → first_broken (norm_conditions (norms_in gens)) ≡ None
 norms None is = refl
-norms (Some gens) is = ap (λ (b : Bool). first_broken (rule rules.SEPARATE_NORMS b ∷ [])) (list_any_none is_no_generation gens (λ k d lt. norm_gen-good _ (is.1 k d lt)))
+norms (Some gens) is = ap (λ (b : Bool). first_broken (rule rules.separate_norms b ∷ [])) (list_any_none is_no_generation gens (λ k d lt. norm_gen-good _ (is.1 k d lt)))
 
 compound-good : (b : Bool) → is_no_flag (cond b PACKED NOT_PACKED) ≡ false
 compound-good true = refl
@@ -95,9 +94,9 @@ deletion-good s are = go s.del_gen are
 
 flags : (s : SegInfo) → IsLine s → first_broken (flag_conditions (front_of s) (flags_of s)) ≡ None
 flags s is =
-    ap (λ (b : Bool). first_broken (rule rules.COMPOUND_FLAG b ∷ rule rules.DELETION_COUNT (is_no_deletion (front_of s) (pos s.deleted)) ∷ rule rules.PROX_FLAG (ltb 1 (cond s.has_prox 1 0)) ∷ [])) (compound-good s.compound)
-    ∙ ap (λ (b : Bool). first_broken (rule rules.DELETION_COUNT b ∷ rule rules.PROX_FLAG (ltb 1 (cond s.has_prox 1 0)) ∷ [])) (deletion-good s is.deleted)
-    ∙ ap (λ (b : Bool). first_broken (rule rules.PROX_FLAG b ∷ [])) (prox-good s.has_prox)
+    ap (λ (b : Bool). first_broken (rule rules.compound_flag b ∷ rule rules.deletion_count (is_no_deletion (front_of s) (pos s.deleted)) ∷ rule rules.prox_flag (ltb 1 (cond s.has_prox 1 0)) ∷ [])) (compound-good s.compound)
+    ∙ ap (λ (b : Bool). first_broken (rule rules.deletion_count b ∷ rule rules.prox_flag (ltb 1 (cond s.has_prox 1 0)) ∷ [])) (deletion-good s is.deleted)
+    ∙ ap (λ (b : Bool). first_broken (rule rules.prox_flag b ∷ [])) (prox-good s.has_prox)
 
 pub line_of-good : (segments : List SegInfo) (s : SegInfo) → IsLine s → has_number segments s.number ≡ false → total_size segments + s.size ≤ MOST_DOCUMENTS → first_broken (line_conditions segments (line_of s)) ≡ None
 unfolding line_of

@@ -17,10 +17,9 @@ use Rattle.std.proofs.lemmas.List.Folds.{list_any_none}
 use Rattle.lu_grammar.specs.Parts.{byte, int32, int64, text, IsValue, spelling}
 use Rattle.lu_grammar.specs.Records.{Shape, whole, part, followed, Condition, Spells, first_broken}
 use Rattle.lu_grammar.proofs.Records.{Spells-followed}
-use Rattle.lu_types.specs.declared.rules.TheConstants as numbers
-use Rattle.lu_types.specs.declared.names.TheConstants.{GREATEST_SEGMENT}
+use Rattle.lu_types.specs.RuleNumbers as rules
 use Rattle.lu_types.specs.declared.stored.SharedStore.{SharedStore}
-use Rattle.lu_types.specs.Names.{segment_name}
+use Rattle.lu_types.specs.Names.{greatest_segment, segment_name}
 use Rattle.segment_infos.specs.declared.infos.MapPair.{MapPair}
 use Rattle.segment_infos.specs.declared.infos.SegInfo.{SegInfo}
 use Rattle.segment_infos.specs.declared.record.TheConstants.{MOST_DOCUMENTS, PACKED, NOT_PACKED}
@@ -85,7 +84,7 @@ ascii (b ∷ bs) plain zero = let p = plain zero (omega arith) in plain-ascii b 
 ascii (b ∷ bs) plain (suc i) = ascii bs (λ k lt. plain (suc k) (omega arith)) i
 
 -- the name of a segment is a text that a file can hold
-pub name-value : (n : ℕ) → n ≤ GREATEST_SEGMENT → IsValue text (segment_name n)
+pub name-value : (n : ℕ) → n ≤ greatest_segment → IsValue text (segment_name n)
 name-value n most =
     let few : length (digits_of 36 n) ≤ 6 = length-digits_of-le 36 6 n (omega arith) (omega arith) in
     let plain = (spelled_plain n).0.1 in

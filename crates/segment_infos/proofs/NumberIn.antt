@@ -5,15 +5,14 @@ use Rattle.std.specs.Str.Parse.{digits_value}
 use Rattle.std.proofs.lemmas.Bool.{cases_Bool, le-leb, leb-true}
 use Rattle.lu_prims.specs.Base36.{base36}
 use Rattle.lu_prims.proofs.Base36Lemmas.{spelled_value}
-use Rattle.lu_types.specs.Names.{segment_name, Names, IsSegmentName}
-use Rattle.lu_types.specs.declared.names.TheConstants.{GREATEST_SEGMENT}
+use Rattle.lu_types.specs.Names.{greatest_segment, segment_name, Names, IsSegmentName}
 use Rattle.segment_infos.specs.Numbers.{if_spelled, number_in}
 
 -- the name of a segment has its number
-pub number_in-segment_name : (n : ℕ) → n ≤ GREATEST_SEGMENT → number_in (segment_name n) ≡ Some n
+pub number_in-segment_name : (n : ℕ) → n ≤ greatest_segment → number_in (segment_name n) ≡ Some n
 number_in-segment_name n most =
     let is : digits_value 36 (base36 n) ≡ n = spelled_value n in
-    let within : leb n GREATEST_SEGMENT ≡ true = le-leb n GREATEST_SEGMENT most in
+    let within : leb n greatest_segment ≡ true = le-leb n greatest_segment most in
     let same : bytes_eq (segment_name n) (segment_name n) ≡ true = (bytes_decides (segment_name n) (segment_name n)).1 refl in
     ap (if_spelled (segment_name n)) is ∙ rw (within, same) refl
 
@@ -25,14 +24,14 @@ pub Names-number_in : (text : List ℕ) (n : ℕ) → number_in text ≡ Some n 
 Names-number_in text n e = go (digits_value 36 (drop 1 text)) e
   where
     go : (m : ℕ) → if_spelled text m ≡ Some n → Names text n
-    go m h = elim (cases_Bool (leb m GREATEST_SEGMENT)) [
+    go m h = elim (cases_Bool (leb m greatest_segment)) [
       | inr over ↦ absurd (let bad : None ≡ Some n = rw over at h in cc)
       | inl within ↦ elim (cases_Bool (bytes_eq text (segment_name m))) [
         | inr other ↦ absurd (let bad : None ≡ Some n = rw (within, other) at h in cc)
         | inl same ↦
             let is : Some m ≡ Some n = rw (within, same) at h in
             let number : m ≡ n = cc in
-            subst (Names text) number (leb-true m GREATEST_SEGMENT within, (bytes_decides text (segment_name m)).0 same)
+            subst (Names text) number (leb-true m greatest_segment within, (bytes_decides text (segment_name m)).0 same)
       ]
     ]
 

@@ -14,7 +14,7 @@ use Rattle.lu_grammar.specs.Records.{whole, Spells, first_broken}
 use Rattle.lu_grammar.specs.Plans.{Plan, done, due, and_then, each, times}
 use Rattle.lu_grammar.specs.Meaning.{Spelled, bytes_of, AreGood, due_after, Reads}
 use Rattle.lu_prims.specs.Checksum.{checksum}
-use Rattle.lu_types.specs.declared.rules.TheConstants as rules
+use Rattle.lu_types.specs.RuleNumbers as rules
 use Rattle.segment_infos.specs.declared.infos.SegInfo.{SegInfo}
 use Rattle.segment_infos.specs.declared.record.TheConstants.{FORMAT_NUMBER, MOST_DOCUMENTS}
 use Rattle.segment_infos.specs.declared.record.Heading.{Heading}
@@ -47,7 +47,7 @@ line-made segments m a w x y z front norms flags map bytes unbroken =
     let f = front-is segments m.front w front each.names each.sizes each.stores in
     let n = norm-is m.norms x norms each.norms in
     let g = flag-is m.front m.flags y flags each.flags in
-    let d = map-is m.map z map (not_first rules.MAP_COUNT (is_negative m.map.count) [] each.maps).0 in
+    let d = map-is m.map z map (not_first rules.map_count (is_negative m.map.count) [] each.maps).0 in
     let s = segment_of m in
     let fs : w ≡ front_bytes s = f.spelled in
     let ns : x ≡ spelling byte 1 ++ gens_bytes s.norm_gens = n.spelled in
@@ -166,10 +166,10 @@ fits_w64 z n fits is = let f : FitsSigned w64 (pos n) = subst (FitsSigned w64) i
 pub heading-is : (h : Heading) (a : List ℕ) → Spells heading_shape h a → first_broken (heading_conditions h) ≡ None → IsHeading h a
 heading-is h a (format, b, fits, is, (version, c, fits_2, is_2, (counter, d, fits_3, is_3, (count, e, fits_4, is_4, (made, none))))) good =
     subst (λ (g : Heading). first_broken (heading_conditions g) ≡ None → IsHeading g a) made (λ unbroken.
-    let one = not_first rules.FORMAT (not (int_eq format FORMAT_NUMBER)) (rule rules.VERSION (is_negative version) ∷ rule rules.NAME_COUNTER (is_negative counter) ∷ rule rules.SEG_COUNT (is_negative count) ∷ []) unbroken in
-    let two = not_first rules.VERSION (is_negative version) (rule rules.NAME_COUNTER (is_negative counter) ∷ rule rules.SEG_COUNT (is_negative count) ∷ []) one.1 in
-    let three = not_first rules.NAME_COUNTER (is_negative counter) (rule rules.SEG_COUNT (is_negative count) ∷ []) two.1 in
-    let four = not_first rules.SEG_COUNT (is_negative count) [] three.1 in
+    let one = not_first rules.format (not (int_eq format FORMAT_NUMBER)) (rule rules.version (is_negative version) ∷ rule rules.name_counter (is_negative counter) ∷ rule rules.seg_count (is_negative count) ∷ []) unbroken in
+    let two = not_first rules.version (is_negative version) (rule rules.name_counter (is_negative counter) ∷ rule rules.seg_count (is_negative count) ∷ []) one.1 in
+    let three = not_first rules.name_counter (is_negative counter) (rule rules.seg_count (is_negative count) ∷ []) two.1 in
+    let four = not_first rules.seg_count (is_negative count) [] three.1 in
     let bytes : a ≡ spelling int32 format ++ (spelling int64 version ++ (spelling int32 counter ++ spelling int32 count)) =
     is ∙ ap (λ (t : List ℕ). spelling int32 format ++ t) (is_2 ∙ ap (λ (t : List ℕ). spelling int64 version ++ t) (is_3 ∙ ap (λ (t : List ℕ). spelling int32 counter ++ t) (is_4 ∙ ap (λ (t : List ℕ). spelling int32 count ++ t) none ∙ append-nil (spelling int32 count)))) in
     record {

@@ -8,7 +8,7 @@ use Rattle.lu_grammar.specs.Records.{whole, Spells, first_broken}
 use Rattle.lu_grammar.specs.Plans.{Plan, done, due, and_then, times}
 use Rattle.lu_grammar.specs.Meaning.{Spelled, bytes_of, AreGood, due_after, Reads}
 use Rattle.lu_prims.specs.Checksum.{checksum}
-use Rattle.lu_types.specs.declared.rules.TheConstants as rules
+use Rattle.lu_types.specs.RuleNumbers as rules
 use Rattle.segment_infos.specs.declared.infos.SegInfo.{SegInfo}
 use Rattle.segment_infos.specs.declared.record.TheConstants.{FORMAT_NUMBER}
 use Rattle.segment_infos.specs.declared.record.Heading.{Heading}
@@ -87,7 +87,7 @@ user-only h segments place (s ∷ []) v good none =
     let is : user then.it ≡ s.it = then.second.0 in
     let bytes : s.front ≡ then.bytes = then.split ∙ ap (λ (t : List ℕ). then.bytes ++ t) then.second.1 ∙ append-nil then.bytes in
     let unbroken : first_broken (map_conditions then.it) ≡ None = subst (λ (q : CommitRecord). first_broken (of_user q) ≡ None) (sym is) good.0.1 in
-    let m = map-is then.it then.bytes then.first (not_first rules.MAP_COUNT (is_negative then.it.count) [] unbroken).0 in
+    let m = map-is then.it then.bytes then.first (not_first rules.map_count (is_negative then.it.count) [] unbroken).0 in
     let says : commit_of h segments (user then.it) ≡ v = ap (commit_of h segments) is ∙ ap (value_of v) none in
     subst (λ (w : CommitValue). IsUser h segments w (s.front ++ [])) says (record { is = m.is; version = refl; counter = refl; segments_are = refl; spelled = append-nil s.front ∙ bytes ∙ m.spelled })
 user-only h segments place (s ∷ t ∷ ss) v good none = absurd good.1
@@ -144,7 +144,7 @@ seal-only bytes v w place (s ∷ []) good none = go s.it s.front good.0.0 good.0
     go : (r : CommitRecord) (front : List ℕ) → Spells seal_record r front → first_broken (of_seal (take place bytes) r) ≡ None → IsSealed v w (take place bytes) (front ++ [])
     go r front (z, back, fits, is, (made, nothing)) unbroken =
         let good_sum : first_broken (of_seal (take place bytes) (seal z)) ≡ None = subst (λ (q : CommitRecord). first_broken (of_seal (take place bytes) q) ≡ None) (sym made) unbroken in
-        let sum : z ≡ pos (checksum (take place bytes)) = same_number z (pos (checksum (take place bytes))) (not_first rules.CHECKSUM (not (int_eq z (pos (checksum (take place bytes))))) [] good_sum).0 in
+        let sum : z ≡ pos (checksum (take place bytes)) = same_number z (pos (checksum (take place bytes))) (not_first rules.checksum (not (int_eq z (pos (checksum (take place bytes))))) [] good_sum).0 in
         record {
           same = ap (value_of w) (sym none);
           spelled = append-nil front ∙ is ∙ ap (λ (t : List ℕ). spelling int64 z ++ t) nothing ∙ append-nil (spelling int64 z) ∙ ap (spelling int64) sum;

@@ -5,10 +5,9 @@ use Rattle.std.proofs.lemmas.Bool.{cases_Bool, eqb-true, eqb-false, ltb-false}
 use Rattle.std.proofs.lemmas.List.{append-nil}
 use Rattle.lu_grammar.specs.Parts.{byte, int32, int64, text, IsValue, spelling}
 use Rattle.lu_grammar.specs.Records.{whole, Spells, first_broken}
-use Rattle.lu_types.specs.declared.rules.TheConstants as rules
-use Rattle.lu_types.specs.declared.names.TheConstants.{GREATEST_SEGMENT}
+use Rattle.lu_types.specs.RuleNumbers as rules
 use Rattle.lu_types.specs.declared.stored.SharedStore.{SharedStore}
-use Rattle.lu_types.specs.Names.{segment_name}
+use Rattle.lu_types.specs.Names.{greatest_segment, segment_name}
 use Rattle.segment_infos.specs.declared.infos.SegInfo.{SegInfo}
 use Rattle.segment_infos.specs.declared.record.TheConstants.{MOST_DOCUMENTS, PACKED}
 use Rattle.segment_infos.specs.declared.record.StorePart.{StorePart}
@@ -35,10 +34,10 @@ gen-made (negsuc n) fits h = (tt, ap (λ (k : ℕ). negsuc k) (none_number n h))
 -- ---- a store
 
 -- a name that is one has its number
-named : (name : List ℕ) → is_none (number_in name) ≡ false → (unwrap_or (number_in name) 0 ≤ GREATEST_SEGMENT) × (name ≡ segment_name (unwrap_or (number_in name) 0))
+named : (name : List ℕ) → is_none (number_in name) ≡ false → (unwrap_or (number_in name) 0 ≤ greatest_segment) × (name ≡ segment_name (unwrap_or (number_in name) 0))
 named name h = go (number_in name) refl h
   where
-    go : (o : Option ℕ) → number_in name ≡ o → is_none o ≡ false → (unwrap_or o 0 ≤ GREATEST_SEGMENT) × (name ≡ segment_name (unwrap_or o 0))
+    go : (o : Option ℕ) → number_in name ≡ o → is_none o ≡ false → (unwrap_or o 0 ≤ greatest_segment) × (name ≡ segment_name (unwrap_or o 0))
     go None is e = absurd (let bad : true ≡ false = e in cc)
     go (Some n) is e = Names-number_in name n is
 
@@ -82,7 +81,7 @@ store-is (negsuc n) store a fits spells good good_name good_flag =
 -- ---- the first parts
 
 pub record IsFrontPart (f : FrontPart) (a : List ℕ) : Type 0 where
-  pub number : unwrap_or (number_in f.name) 0 ≤ GREATEST_SEGMENT
+  pub number : unwrap_or (number_in f.name) 0 ≤ greatest_segment
   pub size : count_of f.size ≤ MOST_DOCUMENTS
   pub del_gen : IsGeneration (given f.del_gen)
   pub store : IsStore (store_of f.offset f.store)
@@ -106,16 +105,16 @@ front-is segments f a (name, b, fits, is, (size, c, fits_2, is_2, (del_gen, d, f
         let new = name-new segments g names in
         let number = Names-number_in name new.number new.is in
         let is_number : unwrap_or (number_in name) 0 ≡ new.number = ap (λ (o : Option ℕ). unwrap_or o 0) new.is in
-        let one = not_first rules.SEG_SIZE (is_no_size size) (rule rules.SIZE_SUM (ltb MOST_DOCUMENTS (total_size segments + count_of size)) ∷ []) sizes in
+        let one = not_first rules.seg_size (is_no_size size) (rule rules.size_sum (ltb MOST_DOCUMENTS (total_size segments + count_of size)) ∷ []) sizes in
         let two = or_false (is_negative size) (ltb MOST_DOCUMENTS (count_of size)) one.0 in
-        let three = not_first rules.DEL_GEN (is_no_generation del_gen) (rule rules.SHARED_STORE (is_below_none offset) ∷ rule rules.STORE_NAME (has_other_store store) ∷ rule rules.STORE_FLAG (has_other_flag store) ∷ []) stores in
-        let four = not_first rules.SHARED_STORE (is_below_none offset) (rule rules.STORE_NAME (has_other_store store) ∷ rule rules.STORE_FLAG (has_other_flag store) ∷ []) three.1 in
-        let five = not_first rules.STORE_NAME (has_other_store store) (rule rules.STORE_FLAG (has_other_flag store) ∷ []) four.1 in
-        let six = not_first rules.STORE_FLAG (has_other_flag store) [] five.1 in
+        let three = not_first rules.del_gen (is_no_generation del_gen) (rule rules.shared_store (is_below_none offset) ∷ rule rules.store_name (has_other_store store) ∷ rule rules.store_flag (has_other_flag store) ∷ []) stores in
+        let four = not_first rules.shared_store (is_below_none offset) (rule rules.store_name (has_other_store store) ∷ rule rules.store_flag (has_other_flag store) ∷ []) three.1 in
+        let five = not_first rules.store_name (has_other_store store) (rule rules.store_flag (has_other_flag store) ∷ []) four.1 in
+        let six = not_first rules.store_flag (has_other_flag store) [] five.1 in
         let gen = gen-made del_gen fits_3 three.0 in
         let shared = store-is offset store bs fits_4 spelled four.0 five.0 six.0 in
         record {
-          number = subst (λ (k : ℕ). k ≤ GREATEST_SEGMENT) (sym is_number) number.0;
+          number = subst (λ (k : ℕ). k ≤ greatest_segment) (sym is_number) number.0;
           size = ltb-false MOST_DOCUMENTS (count_of size) two.1;
           del_gen = gen.0;
           store = shared.is;

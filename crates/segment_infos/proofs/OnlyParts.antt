@@ -6,10 +6,9 @@ use Rattle.std.proofs.lemmas.Bool.{cases_Bool, eqb-true, eqb-false, ltb-false}
 use Rattle.std.proofs.lemmas.List.{append-nil}
 use Rattle.lu_grammar.specs.Parts.{byte, int32, int64, text, IsValue, spelling}
 use Rattle.lu_grammar.specs.Records.{whole, optional, Spells, first_broken}
-use Rattle.lu_types.specs.declared.rules.TheConstants as rules
-use Rattle.lu_types.specs.declared.names.TheConstants.{GREATEST_SEGMENT}
+use Rattle.lu_types.specs.RuleNumbers as rules
 use Rattle.lu_types.specs.declared.stored.SharedStore.{SharedStore}
-use Rattle.lu_types.specs.Names.{segment_name}
+use Rattle.lu_types.specs.Names.{greatest_segment, segment_name}
 use Rattle.segment_infos.specs.declared.infos.MapPair.{MapPair}
 use Rattle.segment_infos.specs.declared.record.TheConstants.{MOST_DOCUMENTS, PACKED, NOT_PACKED}
 use Rattle.segment_infos.specs.declared.record.StorePart.{StorePart}
@@ -90,10 +89,10 @@ pub record IsNormPart (n : NormPart) (a : List ℕ) : Type 0 where
 norm-made : (single : ℕ) (count : ℤ) (gens : List ℤ) (a : List ℕ) → FitsSigned w32 count → All (FitsSigned w64) gens → length gens ≡ count_of count → a ≡ spelling byte single ++ (spelling int32 count ++ flat_map (spelling int64) gens)
     → first_broken (norm_conditions (record { single = single; count = count; gens = gens })) ≡ None → IsNormPart (record { single = single; count = count; gens = gens }) a
 norm-made single (pos k) gens a fits each number bytes good =
-    let one = not_first rules.OLD_NORMS (not (eqb single 1)) (rule rules.NUM_FIELD false ∷ rule rules.SEPARATE_NORMS (list_any is_no_generation gens) ∷ []) good in
+    let one = not_first rules.old_norms (not (eqb single 1)) (rule rules.num_field false ∷ rule rules.separate_norms (list_any is_no_generation gens) ∷ []) good in
     let is_one : single ≡ 1 = same_one one.0 in
-    let two = not_first rules.NUM_FIELD false (rule rules.SEPARATE_NORMS (list_any is_no_generation gens) ∷ []) one.1 in
-    let three = not_first rules.SEPARATE_NORMS (list_any is_no_generation gens) [] two.1 in
+    let two = not_first rules.num_field false (rule rules.separate_norms (list_any is_no_generation gens) ∷ []) one.1 in
+    let three = not_first rules.separate_norms (list_any is_no_generation gens) [] two.1 in
     record {
       is = (omega (arith, number, fits), λ i d lt. gen-ok (get_or gens i d) (each i d lt) (all_fail is_no_generation gens three.0 i d lt));
       spelled = bytes ∙ ap (λ (s : ℕ). spelling byte s ++ (spelling int32 (pos k) ++ flat_map (spelling int64) gens)) is_one ∙ ap (λ (m : ℕ). spelling byte 1 ++ (spelling int32 (pos m) ++ flat_map (spelling int64) gens)) (sym number);
@@ -105,9 +104,9 @@ norm-made single (pos k) gens a fits each number bytes good =
       | inr other ↦ absurd (let bad : true ≡ false = rw other at h in cc)
     ]
 norm-made single (negsuc k) gens a fits each number bytes good =
-    let one = not_first rules.OLD_NORMS (not (eqb single 1)) (rule rules.NUM_FIELD (not (eqb k 0)) ∷ rule rules.SEPARATE_NORMS (list_any is_no_generation gens) ∷ []) good in
+    let one = not_first rules.old_norms (not (eqb single 1)) (rule rules.num_field (not (eqb k 0)) ∷ rule rules.separate_norms (list_any is_no_generation gens) ∷ []) good in
     let is_one : single ≡ 1 = same_one one.0 in
-    let two = not_first rules.NUM_FIELD (not (eqb k 0)) (rule rules.SEPARATE_NORMS (list_any is_no_generation gens) ∷ []) one.1 in
+    let two = not_first rules.num_field (not (eqb k 0)) (rule rules.separate_norms (list_any is_no_generation gens) ∷ []) one.1 in
     let is_none : k ≡ 0 = none_number k two.0 in
     let no_gens : gens ≡ [] = empty_list gens number in
     record {
@@ -179,9 +178,9 @@ deleted-are front deleted h =
 pub flag-is : (front : FrontPart) (f : FlagPart) (a : List ℕ) → Spells flag_shape f a → first_broken (flag_conditions front f) ≡ None → IsFlagPart front f a
 flag-is front f a (compound, b, fits, is, (deleted, c, fits_2, is_2, (prox, d, fits_3, is_3, (made, none)))) good =
     subst (λ (g : FlagPart). first_broken (flag_conditions front g) ≡ None → IsFlagPart front g a) made (λ unbroken.
-    let one = not_first rules.COMPOUND_FLAG (is_no_flag compound) (rule rules.DELETION_COUNT (is_no_deletion front deleted) ∷ rule rules.PROX_FLAG (ltb 1 prox) ∷ []) unbroken in
-    let two = not_first rules.DELETION_COUNT (is_no_deletion front deleted) (rule rules.PROX_FLAG (ltb 1 prox) ∷ []) one.1 in
-    let three = not_first rules.PROX_FLAG (ltb 1 prox) [] two.1 in
+    let one = not_first rules.compound_flag (is_no_flag compound) (rule rules.deletion_count (is_no_deletion front deleted) ∷ rule rules.prox_flag (ltb 1 prox) ∷ []) unbroken in
+    let two = not_first rules.deletion_count (is_no_deletion front deleted) (rule rules.prox_flag (ltb 1 prox) ∷ []) one.1 in
+    let three = not_first rules.prox_flag (ltb 1 prox) [] two.1 in
     let count = deleted-are front deleted two.0 in
     let bytes : a ≡ spelling byte compound ++ (spelling int32 deleted ++ spelling byte prox) =
     is ∙ ap (λ (t : List ℕ). spelling byte compound ++ t) (is_2 ∙ ap (λ (t : List ℕ). spelling int32 deleted ++ t) (is_3 ∙ ap (λ (t : List ℕ). spelling byte prox ++ t) none ∙ append-nil (spelling byte prox))) in

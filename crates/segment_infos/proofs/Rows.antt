@@ -6,7 +6,7 @@ use Rattle.lu_grammar.specs.Parts.{groups}
 use Rattle.lu_grammar.specs.Reading.{read, read_groups}
 use Rattle.lu_grammar.specs.Records.{record_at, repeated}
 use Rattle.lu_grammar.specs.Plans.{each, read_plan, read_file, Broken}
-use Rattle.lu_prims.specs.Checksum.{bits_of, number_of, add_front, divisor, remainder, message, checksum}
+use Rattle.lu_prims.specs.Checksum.{lowest_bits, number_of_bits, add_front, divisor, remainder, message, checksum}
 use Rattle.segment_infos.specs.declared.infos.MapPair.{MapPair}
 use Rattle.segment_infos.specs.declared.infos.SegInfo.{SegInfo}
 use Rattle.segment_infos.specs.Values.{CommitValue}
@@ -32,15 +32,15 @@ unfolding empty_front
 empty_bytes = empty_front ++ 0 ∷ 0 ∷ 0 ∷ 0 ∷ 0x07 ∷ 0x9B ∷ 0x2F ∷ 0x0C ∷ []
 
 empty_sum : checksum empty_front ≡ 0x079B2F0C
-unfolding empty_front checksum message bits_of number_of add_front divisor remainder
+unfolding empty_front checksum message lowest_bits number_of_bits add_front divisor remainder
 empty_sum = refl
 
 empty_spelled : commit_bytes empty ≡ empty_bytes
-unfolding empty empty_bytes empty_front checksum message bits_of number_of add_front divisor remainder
+unfolding empty empty_bytes empty_front checksum message lowest_bits number_of_bits add_front divisor remainder
 empty_spelled = refl
 
 empty_read : tried empty_bytes ≡ Ok empty
-unfolding tried empty empty_bytes empty_front read each read_plan record_at repeated checksum message bits_of number_of add_front divisor remainder
+unfolding tried empty empty_bytes empty_front read each read_plan record_at repeated checksum message lowest_bits number_of_bits add_front divisor remainder
 empty_read = refl
 
 -- ---- the commit of one segment
@@ -75,24 +75,24 @@ unfolding header front flags map_of_one
 one_bytes = header ++ (front ++ (flags ++ (map_of_one ++ 0 ∷ 0 ∷ 0 ∷ 0 ∷ 0 ∷ 0 ∷ 0 ∷ 0 ∷ 0xF1 ∷ 0x2A ∷ 0x80 ∷ 0x60 ∷ [])))
 
 one_spelled : commit_bytes one ≡ one_bytes
-unfolding one pair one_line one_bytes header front flags map_of_one groups checksum message bits_of number_of add_front divisor remainder
+unfolding one pair one_line one_bytes header front flags map_of_one groups checksum message lowest_bits number_of_bits add_front divisor remainder
 one_spelled = refl
 
 one_read : tried one_bytes ≡ Ok one
-unfolding tried one pair one_line one_bytes header front flags map_of_one segment_of read read_groups each read_plan record_at repeated is_utf8 chars lib.Utf8.encode checksum message bits_of number_of add_front divisor remainder
+unfolding tried one pair one_line one_bytes header front flags map_of_one segment_of read read_groups each read_plan record_at repeated is_utf8 chars lib.Utf8.encode checksum message lowest_bits number_of_bits add_front divisor remainder
 one_read = refl
 
 -- cut by one byte, and with another last byte
 one_cut : tried (take 78 one_bytes) ≡ fault 71 1
-unfolding tried fault one_bytes header front flags map_of_one segment_of read read_groups each read_plan record_at repeated is_utf8 chars lib.Utf8.encode checksum message bits_of number_of add_front divisor remainder
+unfolding tried fault one_bytes header front flags map_of_one segment_of read read_groups each read_plan record_at repeated is_utf8 chars lib.Utf8.encode checksum message lowest_bits number_of_bits add_front divisor remainder
 one_cut = refl
 
 one_changed : tried (set one_bytes 78 0x61) ≡ fault 71 27
-unfolding tried fault one_bytes header front flags map_of_one segment_of read read_groups each read_plan record_at repeated is_utf8 chars lib.Utf8.encode checksum message bits_of number_of add_front divisor remainder
+unfolding tried fault one_bytes header front flags map_of_one segment_of read read_groups each read_plan record_at repeated is_utf8 chars lib.Utf8.encode checksum message lowest_bits number_of_bits add_front divisor remainder
 one_changed = refl
 
 one_pending : tried (pending one_bytes) ≡ fault 71 27
-unfolding tried fault one_bytes header front flags map_of_one segment_of read read_groups each read_plan record_at repeated is_utf8 chars lib.Utf8.encode checksum message bits_of number_of add_front divisor remainder
+unfolding tried fault one_bytes header front flags map_of_one segment_of read read_groups each read_plan record_at repeated is_utf8 chars lib.Utf8.encode checksum message lowest_bits number_of_bits add_front divisor remainder
 one_pending = refl
 
 -- a segment with a shared store

@@ -3,7 +3,7 @@ use Rattle.std.specs.Prelude.{ℕ, ◌+◌, Bool, false, not, ◌&&◌, ◌||◌
 use Rattle.std.specs.List.{list_any}
 use Rattle.std.specs.Ordering.{int_eq}
 use Rattle.lu_grammar.specs.Records.{Condition}
-use Rattle.lu_types.specs.declared.rules.TheConstants as rules
+use Rattle.lu_types.specs.RuleNumbers as rules
 use Rattle.lu_prims.specs.Checksum.{checksum}
 use Rattle.segment_infos.specs.declared.infos.SegInfo.{SegInfo}
 use Rattle.segment_infos.specs.declared.record.TheConstants.{FORMAT_NUMBER, MOST_DOCUMENTS, PACKED, NOT_PACKED}
@@ -24,10 +24,10 @@ rule number broken = record { rule = number; broken = broken }
 -- what a header must not be
 abbrev pub heading_conditions : Heading → List Condition
 heading_conditions h =
-    rule rules.FORMAT (not (int_eq h.format FORMAT_NUMBER))
-    ∷ rule rules.VERSION (is_negative h.version)
-    ∷ rule rules.NAME_COUNTER (is_negative h.counter)
-    ∷ rule rules.SEG_COUNT (is_negative h.count)
+    rule rules.format (not (int_eq h.format FORMAT_NUMBER))
+    ∷ rule rules.version (is_negative h.version)
+    ∷ rule rules.name_counter (is_negative h.counter)
+    ∷ rule rules.seg_count (is_negative h.count)
     ∷ []
 
 -- one of the segments has the number
@@ -55,27 +55,27 @@ has_other_flag (Some store) = nat_lt PACKED store.flag
 
 -- what the name of a segment must not be after the segments before it
 abbrev pub name_conditions : List SegInfo → FrontPart → List Condition
-name_conditions segments f = rule rules.SEG_NAME (is_none (number_in f.name)) ∷ rule rules.SEG_TWICE (is_twice segments (number_in f.name)) ∷ []
+name_conditions segments f = rule rules.seg_name (is_none (number_in f.name)) ∷ rule rules.seg_twice (is_twice segments (number_in f.name)) ∷ []
 
 -- what its size must not be after the segments before it
 abbrev pub size_conditions : List SegInfo → FrontPart → List Condition
-size_conditions segments f = rule rules.SEG_SIZE (is_no_size f.size) ∷ rule rules.SIZE_SUM (nat_lt MOST_DOCUMENTS (total_size segments + count_of f.size)) ∷ []
+size_conditions segments f = rule rules.seg_size (is_no_size f.size) ∷ rule rules.size_sum (nat_lt MOST_DOCUMENTS (total_size segments + count_of f.size)) ∷ []
 
 -- what its generation and its store must not be
 abbrev pub store_conditions : FrontPart → List Condition
 store_conditions f =
-    rule rules.DEL_GEN (is_no_generation f.del_gen)
-    ∷ rule rules.SHARED_STORE (is_below_none f.offset)
-    ∷ rule rules.STORE_NAME (has_other_store f.store)
-    ∷ rule rules.STORE_FLAG (has_other_flag f.store)
+    rule rules.del_gen (is_no_generation f.del_gen)
+    ∷ rule rules.shared_store (is_below_none f.offset)
+    ∷ rule rules.store_name (has_other_store f.store)
+    ∷ rule rules.store_flag (has_other_flag f.store)
     ∷ []
 
 -- what is said of the norms must not be so
 abbrev pub norm_conditions : NormPart → List Condition
 norm_conditions n =
-    rule rules.OLD_NORMS (not (n.single == 1))
-    ∷ rule rules.NUM_FIELD (is_below_none n.count)
-    ∷ rule rules.SEPARATE_NORMS (list_any is_no_generation n.gens)
+    rule rules.old_norms (not (n.single == 1))
+    ∷ rule rules.num_field (is_below_none n.count)
+    ∷ rule rules.separate_norms (list_any is_no_generation n.gens)
     ∷ []
 
 -- the flag is neither 01 nor FF
@@ -89,14 +89,14 @@ is_no_deletion f deleted = is_negative deleted || (nat_lt (count_of f.size) (cou
 -- what the flags must not be
 abbrev pub flag_conditions : FrontPart → FlagPart → List Condition
 flag_conditions f flags =
-    rule rules.COMPOUND_FLAG (is_no_flag flags.compound)
-    ∷ rule rules.DELETION_COUNT (is_no_deletion f flags.deleted)
-    ∷ rule rules.PROX_FLAG (nat_lt 1 flags.prox)
+    rule rules.compound_flag (is_no_flag flags.compound)
+    ∷ rule rules.deletion_count (is_no_deletion f flags.deleted)
+    ∷ rule rules.prox_flag (nat_lt 1 flags.prox)
     ∷ []
 
 -- the count of a Map must not be below 0
 abbrev pub map_conditions : MapPart → List Condition
-map_conditions m = rule rules.MAP_COUNT (is_negative m.count) ∷ []
+map_conditions m = rule rules.map_count (is_negative m.count) ∷ []
 
 -- what a segment must not be after the segments before it
 abbrev pub line_conditions : List SegInfo → Line → List Condition
@@ -105,4 +105,4 @@ line_conditions segments l =
 
 -- the checksum must not be another than that of the bytes before it
 abbrev pub seal_conditions : List ℕ → ℤ → List Condition
-seal_conditions before z = rule rules.CHECKSUM (not (int_eq z (pos (checksum before)))) ∷ []
+seal_conditions before z = rule rules.checksum (not (int_eq z (pos (checksum before)))) ∷ []

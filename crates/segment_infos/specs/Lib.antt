@@ -4,7 +4,6 @@ pub mod Records
 pub mod Conditions
 pub mod Format
 pub mod Spelling
-pub mod Words
 pub mod Answers
 pub mod Taking
 pub mod Unsealed

@@ -1,8 +1,7 @@
 -- Numbers with a sign that stand for numbers, for generations or for nothing, and the number in a segment's name (docs/FORMAT.md, "segments_N").
 use Rattle.std.specs.Prelude.{ℕ, Bool, true, false, not, ◌==◌, ◌&&◌, List, drop, Option, Some, None, ℤ, pos, negsuc, nat_le, if◌then◌else◌, bytes_eq}
 use Rattle.std.specs.Str.Parse.{digits_value}
-use Rattle.lu_types.specs.Names.{segment_name}
-use Rattle.lu_types.specs.declared.names.TheConstants.{GREATEST_SEGMENT}
+use Rattle.lu_types.specs.Names.{greatest_segment, segment_name}
 
 -- the number is below 0
 abbrev pub is_negative : ℤ → Bool
@@ -41,7 +40,7 @@ number_or_none None = negsuc 0
 
 -- the number, if it is the one that the name spells
 abbrev pub if_spelled : List ℕ → ℕ → Option ℕ
-if_spelled name n = if nat_le n GREATEST_SEGMENT && bytes_eq name (segment_name n) then Some n else None
+if_spelled name n = if nat_le n greatest_segment && bytes_eq name (segment_name n) then Some n else None
 
 -- the number of the segment that has the name; none where it is no segment name
 abbrev pub number_in : List ℕ → Option ℕ

@@ -2,7 +2,7 @@
 use Rattle.std.specs.Prelude.{◌≡◌, ◌≢◌, ℕ, ◌^◌, ◌<◌, ◌≤◌, List, length, Option, Some, None, ℤ, pos, negsuc, All, AllPairs, sum_by}
 use Rattle.lu_grammar.specs.Parts.{text, IsValue}
 use Rattle.lu_types.specs.declared.stored.SharedStore.{SharedStore}
-use Rattle.lu_types.specs.declared.names.TheConstants.{GREATEST_SEGMENT}
+use Rattle.lu_types.specs.Names.{greatest_segment}
 use Rattle.segment_infos.specs.declared.infos.MapPair.{MapPair}
 use Rattle.segment_infos.specs.declared.infos.SegInfo.{SegInfo}
 use Rattle.segment_infos.specs.declared.record.TheConstants.{MOST_DOCUMENTS}
@@ -30,7 +30,7 @@ IsGeneration (Some g) = (1 ≤ g) × (g < 2 ^ 63)
 -- a place in a shared store, if there is one
 abbrev pub IsStore : Option SharedStore → Type 0
 IsStore None = Unit {0}
-IsStore (Some store) = (store.offset < 2 ^ 31) × (store.number ≤ GREATEST_SEGMENT)
+IsStore (Some store) = (store.offset < 2 ^ 31) × (store.number ≤ greatest_segment)
 
 -- -1, or the number of a generation
 abbrev pub IsNormGen : ℤ → Type 0
@@ -49,7 +49,7 @@ AreDeleted (Some g) size deleted = deleted ≤ size
 
 -- a line of a commit can say so
 pub record IsLine (s : SegInfo) : Type 0 where
-  pub number : s.number ≤ GREATEST_SEGMENT
+  pub number : s.number ≤ greatest_segment
   pub size : s.size ≤ MOST_DOCUMENTS
   pub del_gen : IsGeneration s.del_gen
   pub store : IsStore s.store

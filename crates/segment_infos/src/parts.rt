@@ -4,7 +4,7 @@ ghost use Rattle.lu_grammar.specs.Parts.{text};
 ghost use Rattle.lu_grammar.specs.Reading.{read_part};
 ghost use Rattle.lu_grammar.specs.Records.{read_shape};
 ghost use Rattle.segment_infos.specs.Records.{many, heading_shape, store_shape, store_if, front_shape, gen_shape, norm_shape, flag_shape, pair_shape, map_shape, line_shape};
-ghost use Rattle.segment_infos.specs.Words.{Gives};
+ghost use Rattle.lu_grammar.specs.Answers.{Gives};
 ghost use Rattle.segment_infos.specs.Answers.{GivesOr};
 
 use crate::infos::MapPair;

@@ -7,7 +7,8 @@ ghost use Rattle.lu_grammar.specs.Plans.{times, read_plan};
 ghost use Rattle.segment_infos.specs.Records.{heading as heading_of, line as line_of, user as user_of, heading_record, line_record, user_record};
 ghost use Rattle.segment_infos.specs.Conditions.{line_conditions};
 ghost use Rattle.segment_infos.specs.Format.{of_heading, of_line, of_user, lines_kind, front_plan, commit_plan};
-ghost use Rattle.segment_infos.specs.Words.{Gives, GivesIn, Checks};
+ghost use Rattle.lu_grammar.specs.Answers.{Gives};
+ghost use Rattle.lu_types.specs.Judging.{GivesIn, Checks};
 ghost use Rattle.segment_infos.specs.Answers.{GivesOr};
 ghost use Rattle.segment_infos.specs.Unsealed.{unsealed_value, fault_of, rule_of_stop, Seals};
 
@@ -38,11 +39,7 @@ pub struct Unsealed {
 fn fault(place: usize, rule: u16) -> CodecFault
     ensures { result ≡ CodecFault.Spot (record { kind = FileKind.Commit; offset = place; rule = rule }) }
 {
-    CodecFault::Spot(Spot {
-        kind: FileKind::Commit,
-        offset: place as u64,
-        rule,
-    })
+    CodecFault::Spot(Spot::at(FileKind::Commit, place, rule))
 }
 
 /// The same where there may have been no memory.

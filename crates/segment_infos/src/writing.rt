@@ -5,8 +5,7 @@ ghost use Rattle.lu_grammar.specs.Parts.{int32, int64, text, spelling};
 ghost use Rattle.lu_grammar.specs.Meaning.{Reads};
 ghost use Rattle.segment_infos.specs.Values.{IsCommit, IsPair, IsMap, IsGeneration, IsStore, AreNormGens, IsLine};
 ghost use Rattle.lu_prims.specs.Checksum.{checksum};
-ghost use Rattle.lu_types.specs.Names.{segment_name};
-ghost use Rattle.lu_types.specs.declared.names.TheConstants.{GREATEST_SEGMENT};
+ghost use Rattle.lu_types.specs.Names.{greatest_segment, segment_name};
 ghost use Rattle.segment_infos.specs.Numbers.{number_or_none};
 ghost use Rattle.segment_infos.specs.Format.{commit_plan};
 ghost use Rattle.segment_infos.specs.Spelling.{pair_bytes, map_bytes, store_bytes, gens_bytes, front_bytes, flag_bytes, line_bytes, heading_bytes, unsealed_bytes, commit_bytes, pending};
@@ -50,7 +49,7 @@ fn put_count(out: &mut Vec<u8>, count: u32) -> Result<(), OutOfMemory>
 
 /// Appends the name of a segment.
 fn put_name(alloc: Global, out: &mut Vec<u8>, number: u32) -> Result<(), OutOfMemory>
-    requires { number ≤ GREATEST_SEGMENT }
+    requires { number ≤ greatest_segment }
     ensures { IfOk result (λ _. out.new.items ≡ out.old.items ++ spelling text (segment_name number)) }
 {
     let name = segment_name(alloc, number)?;

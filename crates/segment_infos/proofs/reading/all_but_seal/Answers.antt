@@ -6,7 +6,7 @@ use Rattle.lu_types.specs.declared.kind.FileKind.TheVariants.{Commit}
 use Rattle.segment_infos.specs.declared.reading.Unsealed.{Unsealed}
 use Rattle.segment_infos.specs.Numbers.{count_of}
 use Rattle.segment_infos.specs.Format.{front_plan}
-use Rattle.segment_infos.specs.Words.{GivesIn}
+use Rattle.lu_types.specs.Judging.{GivesIn}
 use Rattle.segment_infos.specs.Unsealed.{unsealed_value, fault_of}
 use Rattle.segment_infos.proofs.FrontReads.{front-heading_broken, front-lines_fail, front-user_stopped, front-read}
 use Rattle.segment_infos.proofs.reading.all_but_seal.Goals as goal

@@ -3,7 +3,7 @@ use Rattle.lu_grammar.specs.Plans.{one, times, read_plan}
 use Rattle.lu_types.specs.declared.fault.CodecFault.{CodecFault}
 use Rattle.lu_types.specs.declared.kind.FileKind.TheVariants.{Commit}
 use Rattle.segment_infos.specs.declared.infos.SegInfo.{SegInfo}
-use Rattle.segment_infos.specs.Words.{GivesIn}
+use Rattle.lu_types.specs.Judging.{GivesIn}
 use Rattle.segment_infos.specs.Unsealed.{fault_of}
 use Rattle.lu_grammar.proofs.Loops.{each-none, times-more}
 use Rattle.segment_infos.specs.Records.{line as line_of}

@@ -1,5 +1,5 @@
 use Rattle.std.proofs.Common.{◌≡◌, ℤ, FitsSigned, to_z, of_z, w64, rules, false, refl, ap, sym, ◌∙◌, Some, None, true}
-use Rattle.lu_types.specs.declared.rules.TheConstants.{CHECKSUM}
+use Rattle.lu_types.specs.RuleNumbers as rules
 use Rattle.std.specs.Prelude.{not, pos}
 use Rattle.std.specs.Ordering.{int_eq}
 use Rattle.std.proofs.lemmas.Int.{to_z-of_z}
@@ -19,8 +19,8 @@ pub returns-then-is_other_sum : goal.returns-then-is_other_sum
 returns-then-is_other_sum c =
     let fits : FitsSigned w64 c.in-Ok.sum = search rules in
     let other : not (int_eq c.in-Ok.sum (pos (checksum c.args.before.now))) ≡ true = ap (λ (z : ℤ). not (int_eq z (pos (checksum c.args.before.now)))) (sym (to_z-of_z w64 c.in-Ok.sum fits)) ∙ sym c.is_other_sum.ensures ∙ c.if-is_other_sum.true in
-    let broken : first_broken (of_seal c.args.before.now (seal c.in-Ok.sum)) ≡ Some CHECKSUM = rw other refl in
-    record_at-breaks seal_record (of_seal c.args.before.now) c.args.cur.now (seal c.in-Ok.sum) c.i64.new.self CHECKSUM (read_shape-part int64 (λ z. whole (seal z)) c.args.cur.now c.in-Ok.sum c.i64.new.self c.in-Ok.ensures) broken
+    let broken : first_broken (of_seal c.args.before.now (seal c.in-Ok.sum)) ≡ Some rules.checksum = rw other refl in
+    record_at-breaks seal_record (of_seal c.args.before.now) c.args.cur.now (seal c.in-Ok.sum) c.i64.new.self rules.checksum (read_shape-part int64 (λ z. whole (seal z)) c.args.cur.now c.in-Ok.sum c.i64.new.self c.in-Ok.ensures) broken
 
 pub returns : goal.returns
 returns c =

@@ -5,7 +5,7 @@ use Rattle.lu_grammar.specs.Plans.{read_plan}
 use Rattle.lu_grammar.specs.Meaning.{Reads}
 use Rattle.lu_types.specs.declared.kind.FileKind.TheVariants.{Commit}
 use Rattle.segment_infos.specs.declared.reading.Unsealed.{Unsealed}
-use Rattle.segment_infos.specs.Words.{GivesIn}
+use Rattle.lu_types.specs.Judging.{GivesIn}
 use Rattle.segment_infos.specs.Records.{seal, seal_record}
 use Rattle.segment_infos.specs.Format.{of_seal, front_plan, commit_plan}
 use Rattle.segment_infos.specs.Unsealed.{unsealed_value, Seals}

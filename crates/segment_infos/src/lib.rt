@@ -21,3 +21,6 @@ pub use infos::{MapPair, SegInfo};
 pub use lists::{NormGens, Pairs, Segments};
 pub use reading::read;
 pub use writing::{write, write_pending};
+
+#[cfg(test)]
+mod tests;

@@ -1,0 +1,17 @@
+mod Rows
+pub mod Pieces
+pub mod LineReads
+pub mod NumberIn
+pub mod Judged
+pub mod GoodLines
+pub mod FrontReads
+pub mod OnlyCommits
+pub mod SpelledPieces
+pub mod OnlyParts
+pub mod OnlyFronts
+pub mod OnlyFiles
+pub mod WrittenPlans
+pub mod LineParts
+pub mod LineBack
+pub mod WrittenCommits
+pub mod PutLemmas

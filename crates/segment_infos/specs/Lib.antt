@@ -1,0 +1,9 @@
+pub mod Numbers
+pub mod Values
+pub mod Records
+pub mod Conditions
+pub mod Format
+pub mod Spelling
+pub mod Answers
+pub mod Taking
+pub mod Unsealed

@@ -1,0 +1,30 @@
+//! The laws of commits: each stands on a function that does nothing.
+ghost use Rattle.std.specs.Prelude.{◌≡◌, ◌-◌, ◌<◌, ℕ, List, length, take};
+ghost use Rattle.lu_grammar.specs.Meaning.{Reads};
+ghost use Rattle.segment_infos.specs.Values.{CommitValue, IsCommit};
+ghost use Rattle.segment_infos.specs.Format.{commit_plan};
+ghost use Rattle.segment_infos.specs.Spelling.{commit_bytes, pending};
+
+/// What is written reads as exactly this commit.
+pub fn written_is_read()
+    ensures { (v : CommitValue) → IsCommit v → Reads (commit_plan (commit_bytes v)) (commit_bytes v) v }
+{}
+
+/// Only what is written reads as a commit, and what bytes read as is one.
+pub fn only_written_is_read()
+    ensures written { (bytes : List ℕ) (v : CommitValue) → Reads (commit_plan bytes) bytes v → bytes ≡ commit_bytes v }
+    ensures commit { (bytes : List ℕ) (v : CommitValue) → Reads (commit_plan bytes) bytes v → IsCommit v }
+{}
+
+/// No strict prefix of a good commit is good.
+pub fn prefix_is_not_good()
+    ensures { (bytes : List ℕ) (count : ℕ) (v w : CommitValue) → Reads (commit_plan bytes) bytes v → count < length bytes
+        → Reads (commit_plan (take count bytes)) (take count bytes) w → ⊥ }
+{}
+
+/// The pending form of a good commit is not good, and differs in its last byte alone.
+pub fn pending_is_not_good()
+    ensures not_good { (bytes : List ℕ) (v w : CommitValue) → Reads (commit_plan bytes) bytes v → Reads (commit_plan (pending bytes)) (pending bytes) w → ⊥ }
+    ensures others { (bytes : List ℕ) → take (length bytes - 1) (pending bytes) ≡ take (length bytes - 1) bytes }
+    ensures length { (bytes : List ℕ) → length (pending bytes) ≡ length bytes }
+{}

@@ -1,0 +1,12 @@
+//! Lists that a value owns: contracts see them as the list of their items.
+use crate::infos::{MapPair, SegInfo};
+use lu_types::Items;
+
+/// The pairs of a Map.
+pub type Pairs = Items<MapPair>;
+
+/// The norm generations of the fields of a segment.
+pub type NormGens = Items<i64>;
+
+/// The segments of a commit.
+pub type Segments = Items<SegInfo>;

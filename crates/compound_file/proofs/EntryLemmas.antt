@@ -1,5 +1,5 @@
 -- Entries of a directory by number and by name.
-use Rattle.std.proofs.Common.{◌≡◌, ℕ, zero, suc, ◌+◌, ◌-◌, Bool, true, false, List, [], ◌∷◌, ◌++◌, length, drop, map, slice_get, option_map, Option, Some, None, cond, refl, sym, ap, subst, ◌∙◌, arith, Bor, BTreeMap}
+use Rattle.std.proofs.Common.{◌≡◌, ℕ, zero, suc, ◌-◌, Bool, true, false, List, [], ◌∷◌, ◌++◌, length, drop, map, slice_get, option_map, Option, Some, None, cond, refl, sym, ap, subst, ◌∙◌, arith, Bor, BTreeMap}
 use Rattle.std.specs.Option.{option_or}
 use Rattle.std.specs.Map.{update}
 use Rattle.std.specs.BTreeMap.{UpdatesBy}

@@ -1,14 +1,14 @@
 -- Each file that is packed is found under its name.
-use Rattle.std.proofs.Common.{◌≡◌, ◌≢◌, ℕ, Bool, true, false, not, cond, ◌&&◌, ◌||◌, List, [], ◌∷◌, map, option_map, filter_map, Option, Some, None, refl, sym, ap, subst, ◌∙◌, inl, inr}
+use Rattle.std.proofs.Common.{◌≡◌, ◌≢◌, ℕ, Bool, true, false, not, ◌&&◌, List, [], ◌∷◌, map, option_map, filter_map, Option, Some, None, refl, sym, ap, subst, ◌∙◌, inl, inr}
 use Rattle.std.specs.Str.{bytes_eq}
-use Rattle.std.specs.List.{AllByRecursion, cons_option, find}
+use Rattle.std.specs.List.{AllByRecursion, cons_option}
 use Rattle.std.specs.Cmp.Lexicographic.{bytes_decides}
 use Rattle.std.proofs.lemmas.Bool.{cases_Bool, or_parts}
 use Rattle.lu_types.specs.declared.kind.FileKind.{FileKind}
 use Rattle.lu_types.specs.declared.kind.FileKind.TheVariants.{Commit, Cfs, Cfx, Fnm, Fdx, Fdt, Tis, Tii, Frq, Prx, Nrm, Sep, Del, Tvx, Tvd, Tvf}
 use Rattle.lu_types.specs.declared.named_file.NamedFile.{NamedFile}
 use Rattle.lu_types.specs.Names.{part_name, IsPart}
-use Rattle.compound_file.specs.Entries.{NamedPart, part_named}
+use Rattle.compound_file.specs.Entries.{part_named}
 use Rattle.compound_file.specs.Packing.{part_kinds, is_same, file_of, packed_in}
 use Rattle.compound_file.proofs.KindLemmas.{file_of-kind, same_kind, same_name, all-parts}
 use Rattle.compound_file.proofs.PackedLemmas.{same_kind-refl, has, differ, part_kinds-differ}

@@ -1,10 +1,9 @@
 -- The packed parts of a segment can be in one file, and each file is found under its name.
-use Rattle.std.proofs.Common.{◌≡◌, ◌≢◌, ℕ, zero, suc, ◌+◌, ◌<◌, ◌≤◌, ◌^◌, Bool, true, false, not, ◌&&◌, ◌||◌, eqb, List, [], ◌∷◌, ◌++◌, length, map, get_or, filter_map, All, Option, Some, None, refl, sym, ap, subst, ◌∙◌, arith, ◌⊎◌, inl, inr}
-use Rattle.std.specs.Prelude.{codes, AllPairs, slice_index, IsUtf8}
-use Rattle.std.specs.Int.{IsInRange}
+use Rattle.std.proofs.Common.{◌≡◌, ◌≢◌, ℕ, zero, suc, ◌<◌, ◌≤◌, ◌^◌, Bool, true, false, not, ◌&&◌, ◌||◌, eqb, List, [], ◌∷◌, ◌++◌, length, map, filter_map, All, Option, Some, None, refl, sym, ap, subst, ◌∙◌, arith, inl, inr}
+use Rattle.std.specs.Prelude.{codes, AllPairs, slice_index}
 use Rattle.std.specs.Str.{IsAscii, is_utf8, chars}
 use Rattle.std.specs.List.{AllByRecursion, cons_option}
-use Rattle.std.proofs.lemmas.Bool.{eq-eqb, cases_Bool, cases_lt, or_parts}
+use Rattle.std.proofs.lemmas.Bool.{eq-eqb, cases_lt, or_parts}
 use Rattle.std.proofs.lemmas.List.{length-map, get_or-map}
 use Rattle.std.proofs.lemmas.List.Elements.{All-map}
 use Rattle.std.proofs.lemmas.List.Kept.{AllPairs-cons}
@@ -22,7 +21,7 @@ use Rattle.compound_file.specs.declared.packing.Packed.{Packed}
 use Rattle.compound_file.specs.Entries.{NamedPart, AreParts}
 use Rattle.compound_file.specs.Packing.{part_kinds, is_same, file_of, packed_in, packed_parts}
 use Rattle.compound_file.specs.Packs.{part_of}
-use Rattle.compound_file.proofs.KindLemmas.{file_of-kind, same_kind, same_name, short-name, found-all, found-few, all-parts, All-cons}
+use Rattle.compound_file.proofs.KindLemmas.{file_of-kind, same_name, short-name, found-all, found-few, all-parts, All-cons}
 
 -- ---- the name of a part is a text
 

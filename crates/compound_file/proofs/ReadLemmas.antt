@@ -1,8 +1,8 @@
 -- One entry of a directory that was read, and what it says that it is good.
-use Rattle.std.proofs.Common.{◌≡◌, ℕ, ◌+◌, ◌<◌, ◌≤◌, Bool, true, false, not, ◌&&◌, ◌||◌, eqb, ltb, List, [], ◌∷◌, ◌++◌, length, Option, Some, None, Result, Ok, Err, refl, sym, ap, subst, ◌∙◌, arith, inl, inr, ℤ, pos, negsuc}
-use Rattle.std.specs.Prelude.{is_some, int_lt, MatchResult}
+use Rattle.std.proofs.Common.{◌≡◌, ℕ, ◌+◌, ◌≤◌, Bool, true, false, not, eqb, List, ◌++◌, length, Option, Some, None, Result, Ok, Err, refl, sym, ap, subst, ◌∙◌, ℤ, pos, negsuc}
+use Rattle.std.specs.Prelude.{is_some, int_lt}
 use Rattle.std.proofs.Math.IntN.{nat_abs}
-use Rattle.std.proofs.lemmas.Bool.{or_parts, cases_eq, eq-eqb, eqb-true, cases_Bool, leb-false}
+use Rattle.std.proofs.lemmas.Bool.{or_parts, eq-eqb, eqb-true}
 use borrow.Author.Tests.{ltb-false}
 use Rattle.std.proofs.lemmas.List.{append-nil}
 use Rattle.lu_grammar.specs.declared.bad.Bad.{Bad}
@@ -12,7 +12,7 @@ use Rattle.lu_grammar.specs.Records.{Spells, Condition, first_broken, read_shape
 use Rattle.lu_grammar.proofs.Records.{TakesRecord, ShapeJudges, read_shape-judges}
 use Rattle.lu_grammar.proofs.Codecs.{ok_pair, record_at-read, record_at-breaks, all_unbroken}
 use Rattle.compound_file.specs.Entries.{Entry, number_of, first_start, last_start}
-use Rattle.compound_file.specs.Cfs.{CfsRecord, header, entry, content, entry_shape, place_of, after_entry, is_misplaced, is_apart, conditions_after, entry_conditions}
+use Rattle.compound_file.specs.Cfs.{CfsRecord, entry, entry_shape, place_of, after_entry, is_misplaced, is_apart, conditions_after, entry_conditions}
 use Rattle.compound_file.specs.Directories.{IsGoodEntry}
 
 -- ---- the conditions of an entry

@@ -1,11 +1,11 @@
 -- The parts of a file behind its directory, and what the whole file is.
-use Rattle.std.proofs.Common.{◌≡◌, ℕ, suc, ◌+◌, ◌-◌, ◌<◌, ◌≤◌, Bool, false, nat_lt, List, [], ◌∷◌, ◌++◌, length, take, drop, map, Result, Ok, Err, refl, sym, ap, subst, ◌∙◌, arith, append_assoc}
+use Rattle.std.proofs.Common.{◌≡◌, ℕ, ◌+◌, ◌-◌, ◌<◌, ◌≤◌, false, nat_lt, List, [], ◌∷◌, ◌++◌, length, drop, Result, Ok, Err, refl, sym, ap, ◌∙◌, arith, append_assoc}
 use Rattle.std.specs.Prelude.{slice_range}
 use Rattle.std.proofs.lemmas.Bool.{le-ltb}
 use Rattle.std.proofs.lemmas.List.{append-nil, length-drop, drop-drop, nil_from_length}
 use Rattle.std.proofs.Math.Seq.{drop-length}
 use Rattle.lu_grammar.specs.declared.bad.Bad.{Bad}
-use Rattle.lu_grammar.specs.Bytes.{IsBytes, Cursor, start_of, end_of, place_in, moved}
+use Rattle.lu_grammar.specs.Bytes.{IsBytes, Cursor, start_of, end_of, place_in}
 use Rattle.lu_grammar.specs.Parts.{num, bytes as so_many}
 use Rattle.lu_grammar.specs.Reading.{◌>>=◌, read, read_part}
 use Rattle.lu_grammar.specs.Records.{rule_of, record_at}
@@ -14,7 +14,7 @@ use Rattle.lu_grammar.specs.Meaning.{Reads, FirstFault}
 use Rattle.lu_grammar.specs.RuleNumbers as rules
 use Rattle.lu_grammar.proofs.Codecs.{ok_pair, alone_read, alone_unread, read_due, read_due_broken, read_plan-and_then, place_in-after, file-fault, file-left, file-read}
 use Rattle.compound_file.specs.Entries.{NamedPart, Entry, Span, first_start, Rise, spans, part_at, parts_in}
-use Rattle.compound_file.specs.Cfs.{CfsRecord, header, content, header_shape, content_shape, count_of, content_of, entry_kind, part_plan, parts_plan, cfs_plan}
+use Rattle.compound_file.specs.Cfs.{header, content, header_shape, content_shape, count_of, content_of, entry_kind, part_plan, parts_plan, cfs_plan}
 use Rattle.compound_file.specs.Directories.{AreGoodEntries}
 use Rattle.compound_file.proofs.DirectoryLemmas.{Rise-first}
 

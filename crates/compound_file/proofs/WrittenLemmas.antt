@@ -1,22 +1,22 @@
 -- Packed parts are read as these parts.
-use Rattle.std.proofs.Common.{◌≡◌, ◌≢◌, ℕ, zero, suc, ◌+◌, ◌-◌, ◌<◌, ◌≤◌, ◌^◌, Bool, true, false, not, ◌&&◌, ◌||◌, eqb, ltb, List, [], ◌∷◌, ◌++◌, length, map, get_or, sum_by, All, Option, None, Ok, refl, sym, ap, subst, ◌∙◌, append_assoc, arith, ◌⊎◌, inl, inr, pos}
-use Rattle.std.specs.Prelude.{AllPairs, is_some, int_lt}
+use Rattle.std.proofs.Common.{◌≡◌, ◌≢◌, ℕ, suc, ◌+◌, ◌-◌, ◌<◌, ◌≤◌, ◌^◌, true, false, eqb, List, [], ◌∷◌, ◌++◌, length, map, get_or, sum_by, All, None, Ok, refl, sym, ap, subst, ◌∙◌, append_assoc, arith, ◌⊎◌, inl, inr, pos}
+use Rattle.std.specs.Prelude.{AllPairs, int_lt}
 use Rattle.std.specs.List.{position_or_len}
 use Rattle.std.specs.Str.{bytes_eq}
 use Rattle.std.specs.Cmp.Lexicographic.{bytes_decides}
-use Rattle.std.proofs.lemmas.Bool.{cases_lt, cases_eq, cases_Bool, eq-eqb, eqb-true, ne_eqb, le-ltb, or_from}
+use Rattle.std.proofs.lemmas.Bool.{cases_lt, cases_eq, eq-eqb, ne_eqb, le-ltb, or_from}
 use Rattle.std.proofs.lemmas.Grind.{common_steps}
 use Rattle.std.proofs.lemmas.List.{append-nil, map-append, length-append, length-map, length_push, get_or-map, nil_from_length}
 use Rattle.std.proofs.lemmas.List.Sums.{passes_at_first, sum_by-cons}
 use Rattle.std.proofs.Math.ListN.{get_or-append}
 use Rattle.std.proofs.Math.Seq.{get_or-append_seam}
 use Rattle.lu_grammar.specs.Bytes.{IsBytes}
-use Rattle.lu_grammar.specs.Parts.{int64, num, text, bytes as so_many, IsValue, spelling}
+use Rattle.lu_grammar.specs.Parts.{int64, num, text, IsValue, spelling}
 use Rattle.lu_grammar.specs.Records.{Spells, first_broken}
 use Rattle.lu_grammar.specs.Plans.{one, and_then, times, each, gather, read_file}
 use Rattle.lu_grammar.specs.Meaning.{Reads}
 use Rattle.lu_grammar.proofs.Codecs.{Writes, read_file-Writes, Writes-due, Writes-done, Writes-and_then, Writes-none, Reads-from, IsBytes-nil, IsBytes-append, IsBytes-flat_map, IsBytes-spelling}
-use Rattle.compound_file.specs.Entries.{NamedPart, AreParts, Entry, Span, number_of, first_start, last_start, spans}
+use Rattle.compound_file.specs.Entries.{NamedPart, AreParts, Entry, number_of, first_start, last_start, spans}
 use Rattle.compound_file.specs.Cfs.{header, entry, content, header_shape, entry_shape, content_shape, count_of, content_of, with_entry, after_entry, is_misplaced, is_apart, entry_conditions, entry_kind, part_plan, parts_plan, cfs_plan}
 use Rattle.compound_file.specs.Packing.{entry_size, directory_size, entries_bytes, contents, contents_size, cfs_bytes}
 use Rattle.compound_file.proofs.PackLemmas.{length-entry, length-cfs_bytes}

@@ -1,5 +1,5 @@
 -- The parts of a compound file, and the entries of its directory (format page, "Compound files").
-use Rattle.std.specs.Prelude.{◌≡◌, ◌≢◌, ℕ, ◌+◌, ◌-◌, ◌^◌, ◌<◌, ◌≤◌, List, [], ◌∷◌, Option, length, position, find, map, option_map, slice_range, All, AllPairs}
+use Rattle.std.specs.Prelude.{◌≢◌, ℕ, ◌^◌, ◌<◌, ◌≤◌, List, [], ◌∷◌, Option, length, position, find, map, option_map, slice_range, All, AllPairs}
 use Rattle.lu_grammar.specs.Bytes.{IsBytes}
 use Rattle.lu_grammar.specs.Parts.{text, IsValue}
 use Rattle.std.specs.Str.{bytes_eq}

@@ -1,5 +1,5 @@
 -- The files of a segment packed into one: which parts, in which order, and their bytes (format page, "Compound files").
-use Rattle.std.specs.Prelude.{◌≡◌, ℕ, ◌+◌, ◌≤◌, ◌<◌, Bool, ◌&&◌, ◌==◌, List, [], ◌∷◌, ◌++◌, length, map, find, filter_map, flat_map, sum_by, Contains, Option, Result, Ok, Err, pos, Vec}
+use Rattle.std.specs.Prelude.{ℕ, ◌+◌, Bool, ◌&&◌, ◌==◌, List, [], ◌∷◌, ◌++◌, length, map, find, filter_map, flat_map, sum_by, Option, pos}
 use Rattle.lu_grammar.specs.Parts.{int64, num, text, spelling}
 use Rattle.lu_types.specs.declared.kind.FileKind.{FileKind}
 use Rattle.lu_types.specs.declared.kind.FileKind.TheVariants.{Cfs, Cfx, Fnm, Fdx, Fdt, Tis, Tii, Frq, Prx, Nrm, Tvx, Tvd, Tvf}

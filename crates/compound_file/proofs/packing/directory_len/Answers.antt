@@ -1,4 +1,4 @@
-use Rattle.std.proofs.Common.{◌≡◌, ◌<◌, length, map, arith, sym, subst}
+use Rattle.std.proofs.Common.{◌<◌, length, map, arith, sym, subst}
 use Rattle.std.proofs.lemmas.List.{length-map}
 use Rattle.compound_file.specs.declared.packing.Packed.{Packed}
 use Rattle.compound_file.specs.Packs.{part_of}

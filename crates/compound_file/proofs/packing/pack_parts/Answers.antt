@@ -1,4 +1,4 @@
-use Rattle.std.proofs.Common.{◌≡◌, map, arith}
+use Rattle.std.proofs.Common.{map, arith}
 use Rattle.compound_file.specs.Packs.{part_of}
 use Rattle.compound_file.proofs.PackLemmas.{length-cfs_bytes}
 use Rattle.compound_file.proofs.packing.pack_parts.Goals as goal

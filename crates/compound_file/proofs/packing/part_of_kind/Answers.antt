@@ -1,6 +1,4 @@
 use Rattle.std.proofs.Common.{◌≡◌, List, ℕ, Option, Some, option_map, sym, ap, ◌∙◌}
-use Rattle.lu_types.specs.declared.kind.FileKind.{FileKind}
-use Rattle.lu_types.specs.declared.named_file.NamedFile.{NamedFile}
 use Rattle.lu_types.specs.Names.{part_name}
 use Rattle.compound_file.specs.Entries.{NamedPart}
 use Rattle.compound_file.specs.Packing.{file_of, packed_in}

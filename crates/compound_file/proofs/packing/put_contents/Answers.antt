@@ -1,4 +1,4 @@
-use Rattle.std.proofs.Common.{◌≡◌, List, ℕ, ◌+◌, map, drop, ap, ◌++◌, ◌∙◌}
+use Rattle.std.proofs.Common.{List, ℕ, ◌+◌, map, drop, ap, ◌++◌, ◌∙◌}
 use Rattle.compound_file.specs.Packing.{contents}
 use Rattle.compound_file.specs.Packs.{part_of}
 use Rattle.compound_file.proofs.PackLemmas.{contents-left}

@@ -1,4 +1,4 @@
-use Rattle.std.proofs.Common.{◌≡◌, arith}
+use Rattle.std.proofs.Common.{arith}
 use Rattle.compound_file.proofs.PackLemmas.{contents_size-left}
 use Rattle.compound_file.proofs.packing.size_within.Goals as goal
 

@@ -1,9 +1,7 @@
-use Rattle.std.proofs.Common.{◌≡◌, ℕ, ◌<◌, List, [], length, Result, Ok, Err, ap, sym, subst, ◌∙◌, refl, arith}
-use Rattle.lu_grammar.specs.declared.bad.Bad.{Bad}
+use Rattle.std.proofs.Common.{◌≡◌, ℕ, List, [], length, Ok, Err, ◌∙◌, refl, arith}
 use Rattle.lu_grammar.specs.Bytes.{Cursor, start_of}
 use Rattle.lu_grammar.specs.Parts.{num}
 use Rattle.lu_grammar.specs.Reading.{read_part}
-use Rattle.lu_grammar.specs.Records.{rule_of}
 use Rattle.lu_grammar.specs.Plans.{times, read_plan}
 use Rattle.lu_grammar.specs.Meaning.{FirstFault}
 use Rattle.lu_types.specs.Judging.{Checks, GivesIn}

@@ -1,4 +1,4 @@
-use Rattle.std.proofs.Common.{◌≡◌, sym, refl}
+use Rattle.std.proofs.Common.{refl}
 use Rattle.compound_file.specs.Directories.{entry_of}
 use Rattle.compound_file.proofs.DirectoryLemmas.{none_passed, one_passed, fault_passed}
 use Rattle.compound_file.proofs.reading.read_directory.Goals as goal

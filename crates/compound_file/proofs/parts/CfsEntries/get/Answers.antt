@@ -1,4 +1,4 @@
-use Rattle.std.proofs.Common.{◌≡◌, ◌≤◌, List, ℕ, length, Some, None, sym, ap, subst, ◌∙◌, arith}
+use Rattle.std.proofs.Common.{length, sym, ap, ◌∙◌}
 use Rattle.compound_file.specs.Entries.{part_named}
 use Rattle.compound_file.proofs.NameLemmas.{part_named-none, part_named-some, ends-rise}
 use Rattle.compound_file.proofs.parts.CfsEntries.get.Goals as goal

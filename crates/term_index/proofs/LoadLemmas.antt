@@ -177,7 +177,7 @@ pub IsLoading-first : (s : Searched) (start : Cursor) (n : ℕ) (here new : Curs
     → IsLoading s start (n + 1) new last_new place_new marks
 IsLoading-first s start n here new last last_new place place_new marks h r none = record {
   read = r.read;
-  kept = h.kept ∙ ap (marks_to s) (let e : n - 1 ≡ n + 1 - 1 = elim (cases_lt 0 n) [ | inl lt ↦ absurd (none lt) | inr ge ↦ omega (arith, ge) ] in e);
+  kept = h.kept ∙ ap (marks_to s) (let e : n - 1 ≡ n + 1 - 1 = elim (cases_lt 0 n) [ inl lt ↦ absurd (none lt) | inr ge ↦ omega (arith, ge) ] in e);
 }
 
 -- each behind it is

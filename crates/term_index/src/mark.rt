@@ -1,4 +1,4 @@
-use lu_types::{Text, TermInfo};
+use lu_types::{TermInfo, Text};
 
 /// An entry of the index above entry 0, as the search keeps it: the term before an interval of terms, by the name of its
 /// field, its text and what is said of it; and the place in the file of terms where the interval starts.

@@ -36,11 +36,7 @@ fn compare(name: &str, text: &str, sought: &Sought<'_>) -> Ordering
 
 /// How many entries stand below what is sought, where all that do come first. Each entry that is compared is a step; there
 /// are as many as the number of entries has binary digits.
-pub(crate) fn count_below<L>(
-    marks: &[Mark<'_>],
-    sought: &Sought<'_>,
-    steps: &mut Steps<L>,
-) -> usize
+pub(crate) fn count_below<L>(marks: &[Mark<'_>], sought: &Sought<'_>, steps: &mut Steps<L>) -> usize
     ensures count { (below : ℕ) → AreBelow sought.now marks.now below → result ≡ below }
     ensures steps { steps.new ≡ ticked (digits (length marks.now)) steps.old }
 {

@@ -34,12 +34,7 @@ fn once(place: u32) -> TermInfo
 /// The files of terms of a text and three digits, `000`, `001` and so on, each in one document, with its number for both
 /// places, and an index of every so many.
 #[tactic(auto, using(crate::proofs::PassLemmas::pushing))]
-fn numbered(
-    alloc: Global,
-    name: &str,
-    count: u32,
-    interval: u32,
-) -> Result<TermFiles, OutOfMemory>
+fn numbered(alloc: Global, name: &str, count: u32, interval: u32) -> Result<TermFiles, OutOfMemory>
     requires count { count ≤ 1000 }
     requires some { 1 ≤ interval }
     requires few { interval ≤ 1000 }
@@ -203,7 +198,10 @@ fn seeks_numbered(
     for number in 0..count {
         let text = format!(in alloc; "t0{:03}", number)?;
         let mut steps: Steps<Compared> = Steps::new();
-        assert_eq!(rt; index.seek("f", text.as_str(), &mut steps), Some(once(number)));
+        assert_eq!(rt;
+            index.seek("f", text.as_str(), &mut steps),
+            Some(once(number))
+        );
         assert!(rt; steps.count() <= most);
         let past = format!(in alloc; "t0{:03}~", number)?;
         let mut more: Steps<Compared> = Steps::new();

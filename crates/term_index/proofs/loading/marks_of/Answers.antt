@@ -57,7 +57,7 @@ loop-number-preserved c =
     let e = c.in_ok-next_entry.ensures in
     let read = entry_read d c.heading_at.new.cur l.number l.cur c.next_entry.new.cur (last_of l.last) l.last.place last place c.numbers-numbers.result.skip_interval e.0 (ap (λ (m : TermNumbers). m.skip_interval) c.numbers-numbers.ensures.numbers) next e.1 e.2 e.3 in
     elim c.if-number-gt0.branch [
-      then-number-gt0+in_ok-mark_of_last+in_ok-push w ↦
+      | then-number-gt0+in_ok-mark_of_last+in_ok-push w ↦
           subst (λ (ms : List Mark). IsLoading s c.heading_at.new.cur (l.number + 1) c.next_entry.new.cur last place ms) (sym (ap (λ v. v.items) w.marks-is))
           (IsLoading-more s c.heading_at.new.cur l.number l.cur c.next_entry.new.cur (last_of l.last) last l.last.place place l.marks.items w.push.new.self.items w.in_ok-mark_of_last.field-0 l.invariant read (omega (arith, w.if-number-gt0.true)) w.in_ok-mark_of_last.ensures w.in_ok-push.ensures.items)
       | else-number-gt0 w ↦

@@ -31,8 +31,8 @@ returns-in-Ok-load-clause-printed g c =
       found,
       AreFound-loaded files segment docs_kinds (texts c.in-Ok.names) found c.in-Ok.ensures c.in-Ok-load.ensures.loaded c.in-Ok-load.ensures.each,
       subst (λ (file : Option (List ℕ)). Says segment (document_files file (file_at found 1) (file_at found 2)) (doc_lines 0) s t) (file_at-found found 0 fnm c.at-fnm.ensures)
-      (subst (λ (file : Option (List ℕ)). Says segment (document_files fnm file (file_at found 2)) (doc_lines 0) s t) (file_at-found found 1 fdx c.at-fdx.ensures)
-      (subst (λ (file : Option (List ℕ)). Says segment (document_files fnm fdx file) (doc_lines 0) s t) (file_at-found found 2 fdt c.at-fdt.ensures) says)),
+          (subst (λ (file : Option (List ℕ)). Says segment (document_files fnm file (file_at found 2)) (doc_lines 0) s t) (file_at-found found 1 fdx c.at-fdx.ensures)
+          (subst (λ (file : Option (List ℕ)). Says segment (document_files fnm fdx file) (doc_lines 0) s t) (file_at-found found 2 fdt c.at-fdt.ensures) says)),
     ))
     (g.K.Sink.taken c.args.out.now) (g.K.Sink.taken c.say_docs.new.out) c.say_docs.result c.say_docs.ensures.printed
 

@@ -1,5 +1,5 @@
 -- What is said of the files of a segment is one answer and one text.
-use Rattle.std.proofs.Common.{◌≡◌, ℕ, zero, suc, true, List, [], ◌∷◌, length, All, Option, Some, None, refl, sym, subst, ap, ◌∙◌, inl, inr}
+use Rattle.std.proofs.Common.{◌≡◌, ℕ, ℤ, zero, suc, true, List, [], ◌∷◌, length, All, Option, Some, None, refl, sym, subst, ap, ◌∙◌, inl, inr}
 use Rattle.std.specs.Prelude.{IfSome}
 use Rattle.std.specs.Option.{ForSome}
 use Rattle.std.proofs.lemmas.List.Elements.{All-head, All-tail}
@@ -7,7 +7,8 @@ use Rattle.lu_grammar.specs.Bytes.{IsBytes}
 use Rattle.lu_grammar.specs.Meaning.{Reads}
 use Rattle.lu_dir.specs.Loading.{IsLoadable}
 use Rattle.lu_types.specs.Tables.{TableField}
-use Rattle.lu_types.specs.FilePlans.{FilePlan, stands, needs, followed_by, HoldBytes}
+use Rattle.lu_types.specs.FilePlans.{FilePlan, stands, needs, followed_by, missing, IsFaultAmong, HoldBytes}
+use Rattle.lu_types.specs.Judging.{IsFirstFault}
 use Rattle.lu_types.proofs.FileLaws.{one_meaning, no_fault_if_they_stand, one_fault_among, made_of_bytes}
 use Rattle.lu_types.specs.declared.kind.FileKind.TheVariants.{Fnm, Fdx, Fdt}
 use Rattle.lu_types.specs.declared.fault.Spot.{Spot}
@@ -15,7 +16,7 @@ use Rattle.field_infos.specs.Fnm.{fnm_plan}
 use Rattle.stored_fields.specs.Values.{Document}
 use Rattle.stored_fields.specs.Places.{fdx_plan}
 use Rattle.stored_fields.specs.Documents.{fdt_plan}
-use Rattle.stored_fields.specs.Stores.{total_of, whole_store, windowed, all_files}
+use Rattle.stored_fields.specs.Stores.{total_of, whole_store, windowed, own_files, all_files}
 use Rattle.lu_command.specs.declared.status.Status.{Status}
 use Rattle.lu_command.specs.Texts.{fault_text, field_lines, doc_lines}
 use Rattle.lu_command.specs.Files.{file_limit, file_at}
@@ -73,3 +74,21 @@ pub Says-behind_table : (segment : List ℕ) (fnm : List ℕ) (table : List Tabl
     → Says segment (all_files (length table) fdx fdt) (doc_lines 0) s x → Says segment (document_files (Some fnm) fdx fdt) (doc_lines 0) s x
 Says-behind_table segment fnm table fdx fdt s x reads (inl (documents, stand, status, text)) = inl (documents, (table, reads, stand), status, text)
 Says-behind_table segment fnm table fdx fdt s x reads (inr (spot, fault, status, text)) = inr (spot, inr (table, reads, fault), status, text)
+
+-- a store without its file of documents, where its places read
+pub Says-without_documents : (segment fdx : List ℕ) (total : ℕ) (places : List ℤ) (spot : Spot) (s : Status) (x : List ℕ) → total ≡ total_of fdx → Reads (fdx_plan total (whole_store total)) fdx places → spot ≡ missing Fdt → s ≡ not_standing spot → x ≡ fault_text segment spot
+    → (fields : ℕ) → Says segment (all_files fields (Some fdx) None) (doc_lines 0) s x
+Says-without_documents segment fdx total places spot s x same reads is status text fields =
+    inr (spot, inr (places, subst (λ (n : ℕ). Reads (fdx_plan n (whole_store n)) fdx places) same reads, is), status, text)
+
+-- a fault of the places
+pub Says-fault_of_places : (segment fdx : List ℕ) (total : ℕ) (spot : Spot) (s : Status) (x : List ℕ) → total ≡ total_of fdx → IsFirstFault Fdx (fdx_plan total (whole_store total)) fdx spot → s ≡ not_standing spot → x ≡ fault_text segment spot
+    → (fdt : Option (List ℕ)) (fields : ℕ) → Says segment (all_files fields (Some fdx) fdt) (doc_lines 0) s x
+Says-fault_of_places segment fdx total spot s x same fault status text fdt fields =
+    inr (spot, inl (subst (λ (n : ℕ). IsFirstFault Fdx (fdx_plan n (whole_store n)) fdx spot) same fault), status, text)
+
+-- a fault of both files
+pub Says-fault_of_store : (segment fdx fdt : List ℕ) (fields total : ℕ) (spot : Spot) (s : Status) (x : List ℕ) → total ≡ total_of fdx → IsFaultAmong (own_files total fields (Some fdx) (Some fdt)) spot → s ≡ not_standing spot → x ≡ fault_text segment spot
+    → Says segment (all_files fields (Some fdx) (Some fdt)) (doc_lines 0) s x
+Says-fault_of_store segment fdx fdt fields total spot s x same fault status text =
+    inr (spot, subst (λ (n : ℕ). IsFaultAmong (own_files n fields (Some fdx) (Some fdt)) spot) same fault, status, text)

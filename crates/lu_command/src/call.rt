@@ -149,14 +149,12 @@ fn read_docs<D: Dir, K: Sink>(alloc: Global, segment: &str, dir: &mut D, out: &m
         Err(_) => return Status::NoMemory,
     };
     match load(alloc, dir, &names, FILE_LIMIT) {
-        Ok(loaded) => say_docs(
-            alloc,
-            segment,
-            loaded.at(0),
-            loaded.at(1),
-            loaded.at(2),
-            out,
-        ),
+        Ok(loaded) => {
+            let fnm = loaded.at(0);
+            let fdx = loaded.at(1);
+            let fdt = loaded.at(2);
+            say_docs(alloc, segment, fnm, fdx, fdt, out)
+        }
         Err(fault) => {
             let kind = docs_kind(&fault);
             say_unloaded(alloc, kind, fault, out)

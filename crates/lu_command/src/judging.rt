@@ -148,10 +148,10 @@ pub fn docs_answer(
     ensures says { IfOk result (λ answer. Says segment.now (document_files (option_copied fnm.entry) (option_copied fdx.entry) (option_copied fdt.entry)) (doc_lines 0) answer.status answer.text.items) }
     ensures answer { IfOk result (λ answer. IsAnswer answer.status) }
 {
-    let Some(bytes) = fnm else {
+    let Some(fnm) = fnm else {
         return faulty(alloc, segment, missing(FileKind::Fnm));
     };
-    match check(alloc, bytes, true, None) {
+    match check(alloc, fnm, true, None) {
         Ok(table) => stored_answer(alloc, segment, table.count(), fdx, fdt),
         Err(CodecFault::Spot(spot)) => faulty(alloc, segment, spot),
         Err(CodecFault::OutOfMemory) => Err(OutOfMemory),

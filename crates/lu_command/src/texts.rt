@@ -4,7 +4,7 @@ ghost use Rattle.lu_types.specs.Tables.{TableField};
 ghost use Rattle.std.specs.Char.{digit_char};
 ghost use Rattle.lu_types.specs.Fields.{table_field};
 ghost use Rattle.lu_types.specs.Names.{IsPart};
-ghost use Rattle.stored_fields.specs.Entries.{stored_field, value_of};
+ghost use Rattle.stored_fields.specs.Entries.{lent_field, value_of};
 ghost use Rattle.lu_command.specs.Texts.{hex_byte, field_line, field_lines, fault_text, too_large_text, usage_text, value_text, flag_digit as digit_of_flag, stored_line, doc_text as text_of_doc, doc_lines};
 
 use lu_prims::{OutOfMemory, quoted};
@@ -132,7 +132,7 @@ fn put_stored_line(
     out: &mut Vec<u8>,
     stored: StoredRef<'_>,
 ) -> Result<(), OutOfMemory>
-    ensures { OnOk result (out.new.items ≡ out.old.items ++ stored_line (stored_field stored.entry)) }
+    ensures { OnOk result (out.new.items ≡ out.old.items ++ stored_line (lent_field stored.entry)) }
 {
     let field = stored.field;
     let flag = flag_digit(stored.tokenized);

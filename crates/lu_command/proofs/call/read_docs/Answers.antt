@@ -1,5 +1,5 @@
-use Rattle.std.proofs.Common.{◌≡◌, ℕ, ◌<◌, List, length, map, Option, Some, Result, Err, refl, sym, ap, subst, ◌∙◌, inl, inr, arith}
-use Rattle.std.specs.Prelude.{string_bytes}
+use Rattle.std.proofs.Common.{◌≡◌, ℕ, ◌<◌, ◌≤◌, List, length, map, Option, Some, Result, Err, refl, sym, ap, subst, ◌∙◌, inl, inr, arith}
+use Rattle.std.specs.Prelude.{string_bytes, IfSome}
 use Rattle.std.specs.Option.{option_copied, ForSome}
 use Rattle.std.proofs.lemmas.List.{length-map}
 use Rattle.lu_dir.specs.declared.loading.LoadFault.{LoadFault}
@@ -15,10 +15,31 @@ use Rattle.lu_command.specs.Answers.{Says, DocsSays, FilesDue}
 use Rattle.lu_command.specs.Asking.{IsTooLarge}
 use Rattle.lu_command.proofs.AnswerLemmas.{Prints-wider}
 use Rattle.lu_command.proofs.LoadLemmas.{AreFound-loaded, file_at-found, first_kind}
+use Rattle.lu_command.proofs.SaysLemmas.{file_at-loadable}
 use Rattle.lu_command.proofs.call.read_docs.Goals as goal
 
 pub returns-in-Ok-load-clause-printed : goal.returns-in-Ok-load-clause-printed
-returns-in-Ok-load-clause-printed g c = ?
+returns-in-Ok-load-clause-printed g c =
+    let segment = c.args.segment.now in
+    let files = g.D.Dir.files c.args.dir.now in
+    let found = c.in-Ok-load.loaded.found in
+    let fnm = option_copied c.at-fnm.result in
+    let fdx = option_copied c.at-fdx.result in
+    let fdt = option_copied c.at-fdt.result in
+    Prints-wider (Says segment (document_files fnm fdx fdt) (doc_lines 0)) (FilesDue segment docs_kinds (DocsSays segment) files)
+    (λ s t says. inr (
+      found,
+      AreFound-loaded files segment docs_kinds (texts c.in-Ok.names) found c.in-Ok.ensures c.in-Ok-load.ensures.loaded c.in-Ok-load.ensures.each,
+      subst (λ (file : Option (List ℕ)). Says segment (document_files file (file_at found 1) (file_at found 2)) (doc_lines 0) s t) (file_at-found found 0 fnm c.at-fnm.ensures)
+          (subst (λ (file : Option (List ℕ)). Says segment (document_files fnm file (file_at found 2)) (doc_lines 0) s t) (file_at-found found 1 fdx c.at-fdx.ensures)
+          (subst (λ (file : Option (List ℕ)). Says segment (document_files fnm fdx file) (doc_lines 0) s t) (file_at-found found 2 fdt c.at-fdt.ensures) says)),
+    ))
+    (g.K.Sink.taken c.args.out.now) (g.K.Sink.taken c.say_docs.new.out) c.say_docs.result c.say_docs.ensures.printed
+
+pub say_docs-requires : goal.say_docs-requires
+say_docs-requires g c =
+    subst (λ (file : Option (List ℕ)). IfSome file (λ bytes. length bytes ≤ file_limit)) (sym (file_at-found c.in-Ok-load.loaded.found 1 (option_copied c.at-fdx.result) c.at-fdx.ensures))
+    (file_at-loadable c.in-Ok-load.loaded.found 1 c.in-Ok-load.ensures.each).within
 
 pub returns-clause-printed : goal.returns-clause-printed
 returns-clause-printed g c =

@@ -148,7 +148,13 @@ fn first_rungs(frq: &[u8], term: &RuledTerm, count: u32, power: u64) -> [Rung; M
 }
 
 /// Passes the data that belong to the entry with an index, on the lowest levels; answers how many levels have one.
-fn climb(frq: &[u8], term: &RuledTerm, rungs: &mut [Rung; MOST_LEVELS], count: u32, index: u32) -> u32
+fn climb(
+    frq: &[u8],
+    term: &RuledTerm,
+    rungs: &mut [Rung; MOST_LEVELS],
+    count: u32,
+    index: u32,
+) -> u32
     requires interval { 2 ≤ term.now.rules.skip_interval }
     requires count { count ≡ count_of_levels term.now }
     requires few { count < 32 }

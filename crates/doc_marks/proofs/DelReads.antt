@@ -41,7 +41,7 @@ module _ (size : ℕ) (docs : List ℕ) (few : size < 2 ^ 31) (rise : AreRising 
   sparse-reads_here =
       let pairs = pairs_bytes 0 0 (marks_of size docs) in
       let pairs-fit : IsBytes pairs = IsBytes-pairs 0 0 (marks_of size docs) (omega (arith, length-marking 0 (body_bytes size) docs)) (IsBytes-marking 0 (body_bytes size) docs) in
-      let fits : IsBytes (sparse_bytes size docs) = IsBytes-append (spelling int32 sparse_mark) (sizes_bytes size (length docs) ++ pairs) (IsBytes-int32 sparse_mark) (IsBytes-append (sizes_bytes size (length docs)) pairs (IsBytes-sizes size (length docs)) pairs-fit) in
+      let fits : IsBytes (sparse_bytes size docs) = IsBytes-append (spelling int32 sparse_mark) (sizes_bytes size (length docs) ++ pairs) (IsBytes-four (cast_unsigned w32 sparse_mark)) (IsBytes-append (sizes_bytes size (length docs)) pairs (IsBytes-sizes size (length docs)) pairs-fit) in
       Reads-from (del_plan size (length docs)) (sparse_bytes size docs) docs fits (read_file-Writes (del_plan size (length docs)) (sparse_bytes size docs) docs (sparse-written size docs few less rise))
 
 pub dense-reads : (size : ℕ) (docs : List ℕ) → size < 2 ^ 31 → AreRising 0 size docs → Reads (del_plan size (length docs)) (dense_bytes size docs) docs

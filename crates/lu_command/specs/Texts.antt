@@ -12,7 +12,8 @@ use Rattle.lu_types.specs.declared.fault.Spot.{Spot}
 use Rattle.lu_types.specs.declared.stored.Stored.{Stored}
 use Rattle.lu_types.specs.declared.stored.Stored.TheVariants as values
 use Rattle.hex.specs.Hex.{encode_lower}
-use Rattle.stored_fields.specs.Values.{StoredField, Document}
+use Rattle.lu_types.specs.StoredFields.{StoredField}
+use Rattle.stored_fields.specs.Values.{Document}
 use Rattle.std.specs.List.{flat_map}
 use Rattle.std.specs.Prelude.{Bool, true, false}
 

@@ -6,31 +6,13 @@ use Rattle.std.specs.Str.{IsUtf8, is_utf8}
 use Rattle.std.specs.Ordering.{ordering_then, is_lt}
 use Rattle.std.specs.declared.cmp.Ordering.{Ordering}
 use Rattle.lu_prims.specs.Order.{text_cmp}
+use Rattle.lu_grammar.proofs.Codecs.{first_broken-front, first_broken-after}
 use Rattle.lu_grammar.specs.Records.{Condition, first_broken}
 use Rattle.lu_types.specs.Tables.{TableField}
 use Rattle.term_dict.specs.Entries.{TermRecord}
 use Rattle.term_dict.specs.Terms.{DictionaryTerm, last_term, term_after, is_above, bytes_cmp, field_of}
 use Rattle.term_dict.specs.Dictionary.{Standing, term_place_conditions, against, term_conditions}
 use Rattle.term_dict.proofs.OrderLemmas.{text_cmp-tail}
-
--- one that is broken among the first, and none
-pub first_broken-front : (xs ys : List Condition) (rule : ℕ) → first_broken xs ≡ Some rule → first_broken (xs ++ ys) ≡ Some rule
-first_broken-front [] ys rule e = cc
-first_broken-front (c ∷ xs) ys rule e = go c.broken e (first_broken-front xs ys rule)
-  where
-    go : (b : Bool) → (if b then Some c.rule else first_broken xs) ≡ Some rule → (first_broken xs ≡ Some rule → first_broken (xs ++ ys) ≡ Some rule)
-        → (if b then Some c.rule else first_broken (xs ++ ys)) ≡ Some rule
-    go true e later = e
-    go false e later = later e
-
-pub first_broken-after : (xs ys : List Condition) → first_broken xs ≡ None → first_broken (xs ++ ys) ≡ first_broken ys
-first_broken-after [] ys e = refl
-first_broken-after (c ∷ xs) ys e = go c.broken e (first_broken-after xs ys)
-  where
-    go : (b : Bool) → (if b then Some c.rule else first_broken xs) ≡ None → (first_broken xs ≡ None → first_broken (xs ++ ys) ≡ first_broken ys)
-        → (if b then Some c.rule else first_broken (xs ++ ys)) ≡ first_broken ys
-    go true e later = cc
-    go false e later = later e
 
 -- a term whose text stands is judged by its segment and its places
 pub against-text : (standing : Standing) (before : List DictionaryTerm) (e : TermRecord) (t : DictionaryTerm) → e.prefix ≤ length (last_term before).text → is_utf8 t.text ≡ true

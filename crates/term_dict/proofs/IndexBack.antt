@@ -27,7 +27,8 @@ use Rattle.term_dict.proofs.WriteLemmas.{SpellableAt, spellable-at, last_after, 
 use Rattle.std.proofs.Math.Nat.{suc-mul}
 use Rattle.std.proofs.Math.Seq.{take-length}
 use Rattle.std.specs.Ordering.{int_eq}
-use Rattle.term_dict.proofs.ByteLemmas.{IsSmallEntry, term_record_bytes-bytes, header_bytes-bytes, vlong-bytes, bytes-append}
+use Rattle.lu_grammar.proofs.SpelledBytes.{IsBytes-append}
+use Rattle.term_dict.proofs.ByteLemmas.{IsSmallEntry, term_record_bytes-bytes, header_bytes-bytes, vlong-bytes}
 use Rattle.term_dict.proofs.WriterLemmas.{terms-few}
 use Rattle.term_dict.proofs.IndexLemmas.{intervals_begun-first, intervals_begun-few}
 use Rattle.term_dict.proofs.ReadBack.{heading_written, header-spells}
@@ -259,7 +260,7 @@ points-bytes w (suc i) h le =
       prox = plain.prox;
       skip = omega (arith, plain.skip);
     } in
-    bytes-append (points_bytes interval k ts i) (point_bytes k p0 p) (points-bytes w i h (omega (arith, le)))
+    IsBytes-append (points_bytes interval k ts i) (point_bytes k p0 p) (points-bytes w i h (omega (arith, le)))
     (term_record_bytes-bytes k (entry_between p0.term p.term) (spelling vlong (p.place - p0.place)) small (vlong-bytes (p.place - p0.place) (omega (arith, place))))
 
 header-fits : (numbers : TermNumbers) → first_broken (index_heading_conditions numbers (heading_written numbers (entry_count numbers))) ≡ None
@@ -288,7 +289,7 @@ tii-reads w h =
     let file : Writes (tii_plan d) 0 (canonical_tii numbers ts) tt =
     Writes-due header (λ place line. index_heading_conditions numbers (heading_of line)) (λ place line. entries_plan d) 0 (heading (heading_written numbers n)) (header_bytes numbers n) bytes tt
     (header-spells numbers n few h.intervals.index_interval.1 h.intervals.skip_interval.1 h.intervals.max_levels.1) (header-fits numbers) entries in
-    let fits : IsBytes (canonical_tii numbers ts) = bytes-append (header_bytes numbers n) bytes (header_bytes-bytes numbers n) (points-bytes w n h (omega arith)) in
+    let fits : IsBytes (canonical_tii numbers ts) = IsBytes-append (header_bytes numbers n) bytes (header_bytes-bytes numbers n) (points-bytes w n h (omega arith)) in
     Reads-from (tii_plan d) (canonical_tii numbers ts) tt fits (read_file-Writes (tii_plan d) (canonical_tii numbers ts) tt file)
   where
     finish : IndexProgress → Plan (Unit {0}) (Line IndexEntry)

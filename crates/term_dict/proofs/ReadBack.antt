@@ -22,8 +22,10 @@ use Rattle.term_dict.specs.Dictionary.{Dictionary, no_terms, within, term_place_
 use Rattle.term_dict.specs.Canonical.{shared, entry_between, terms_bytes, term_record_bytes, header_bytes, canonical_tis}
 use Rattle.term_dict.specs.Writing.{TermsWritten, numbers_written, FollowsTerm, IsSpellable, AreSpellable}
 use Rattle.term_dict.specs.Laws.{IsReadable, dictionary_written}
-use Rattle.term_dict.proofs.ByteLemmas.{IsSmallEntry, term_record_bytes-bytes, header_bytes-bytes, bytes-append}
-use Rattle.term_dict.proofs.ConditionLemmas.{against-text, first_broken-after}
+use Rattle.lu_grammar.proofs.SpelledBytes.{IsBytes-append}
+use Rattle.term_dict.proofs.ByteLemmas.{IsSmallEntry, term_record_bytes-bytes, header_bytes-bytes}
+use Rattle.lu_grammar.proofs.Codecs.{first_broken-after}
+use Rattle.term_dict.proofs.ConditionLemmas.{against-text}
 use Rattle.term_dict.proofs.FileLemmas.{finish, dictionary_of}
 use Rattle.term_dict.proofs.WriteLemmas.{entry_at, spelled, spellable-at, last_after-last, entry_between-again, shared-within}
 
@@ -115,7 +117,7 @@ small-entry interval before t here follows = record {
 terms_bytes-bytes : (interval : ℕ) (before : DictionaryTerm) (ts : List DictionaryTerm) → AreSpellable interval before ts → IsBytes (terms_bytes interval before ts)
 terms_bytes-bytes interval before [] h = λ i. omega arith
 terms_bytes-bytes interval before (t ∷ ts) h =
-    bytes-append (term_record_bytes interval (entry_between before t) []) (terms_bytes interval t ts) (term_record_bytes-bytes interval (entry_between before t) [] (small-entry interval before t h.0 h.1) (λ i. omega arith)) (terms_bytes-bytes interval t ts h.2)
+    IsBytes-append (term_record_bytes interval (entry_between before t) []) (terms_bytes interval t ts) (term_record_bytes-bytes interval (entry_between before t) [] (small-entry interval before t h.0 h.1) (λ i. omega arith)) (terms_bytes-bytes interval t ts h.2)
 
 -- the file of terms
 pub tis-reads : (fields : List TableField) (documents : ℕ) (w : TermsWritten) → IsReadable fields documents w
@@ -139,7 +141,7 @@ tis-reads fields documents w h =
     (header-spells numbers (length ts) (omega (arith, h.few)) h.intervals.index_interval.1 h.intervals.skip_interval.1 h.intervals.max_levels.1)
     (header-good numbers (length ts) h.few h.intervals.index_interval.0 h.intervals.skip_interval.0 h.intervals.max_levels.0) whole_body in
     let value : v ≡ dictionary_written w = ap (λ (xs : List DictionaryTerm). made numbers xs s.starts size) (done_terms.terms ∙ all) ∙ ap (λ (ns : List ℕ). made numbers ts ns size) done_terms.starts in
-    let fits : IsBytes bytes = bytes-append (header_bytes numbers (length ts)) (terms_bytes k no_term ts) (header_bytes-bytes numbers (length ts)) (terms_bytes-bytes k no_term ts h.spellable) in
+    let fits : IsBytes bytes = IsBytes-append (header_bytes numbers (length ts)) (terms_bytes k no_term ts) (header_bytes-bytes numbers (length ts)) (terms_bytes-bytes k no_term ts h.spellable) in
     Reads-from (dictionary_plan standing size) bytes (dictionary_written w) fits (read_file-Writes (dictionary_plan standing size) bytes v file ∙ ap (λ (d : Dictionary). Ok d) value)
   where
     made : TermNumbers → List DictionaryTerm → List ℕ → ℕ → Dictionary

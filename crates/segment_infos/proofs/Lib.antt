@@ -15,3 +15,6 @@ pub mod LineParts
 pub mod LineBack
 pub mod WrittenCommits
 pub mod PutLemmas
+pub mod Cuts
+pub mod NameSpelled
+pub mod NameParts

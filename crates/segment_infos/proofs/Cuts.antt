@@ -11,11 +11,22 @@ IsNoneOf c xs = (i : ℕ) → i < length xs → get_or xs i 0 ≢ c
 pub IsNoneOf-rest : (c x : ℕ) (xs : List ℕ) → IsNoneOf c (x ∷ xs) → IsNoneOf c xs
 IsNoneOf-rest c x xs none i within = none (suc i) (omega arith)
 
+pub IsNoneOf-cons : (c x : ℕ) (xs : List ℕ) → x ≢ c → IsNoneOf c xs → IsNoneOf c (x ∷ xs)
+IsNoneOf-cons c x xs other none zero within = other
+IsNoneOf-cons c x xs other none (suc i) within = none i (omega arith)
+
 -- nor of two lists together
 pub IsNoneOf-append : (c : ℕ) (xs ys : List ℕ) → IsNoneOf c xs → IsNoneOf c ys → IsNoneOf c (xs ++ ys)
 IsNoneOf-append c [] ys none others = others
-IsNoneOf-append c (x ∷ xs) ys none others zero within = none 0 (omega arith)
-IsNoneOf-append c (x ∷ xs) ys none others (suc i) within = IsNoneOf-append c xs ys (IsNoneOf-rest c x xs none) others i (omega arith)
+IsNoneOf-append c (x ∷ xs) ys none others = IsNoneOf-cons c x (xs ++ ys) (none 0 (omega arith)) (IsNoneOf-append c xs ys (IsNoneOf-rest c x xs none) others)
+
+pub IsNoneOf-left : (c : ℕ) (xs ys : List ℕ) → IsNoneOf c (xs ++ ys) → IsNoneOf c xs
+IsNoneOf-left c [] ys none = λ i within same. absurd (omega arith)
+IsNoneOf-left c (x ∷ xs) ys none = IsNoneOf-cons c x xs (none 0 (omega arith)) (IsNoneOf-left c xs ys (IsNoneOf-rest c x (xs ++ ys) none))
+
+pub IsNoneOf-right : (c : ℕ) (xs ys : List ℕ) → IsNoneOf c (xs ++ ys) → IsNoneOf c ys
+IsNoneOf-right c [] ys none = none
+IsNoneOf-right c (x ∷ xs) ys none = IsNoneOf-right c xs ys (IsNoneOf-rest c x (xs ++ ys) none)
 
 position-cut : (c : ℕ) (xs ys : List ℕ) → IsNoneOf c xs → position_or_len (λ b. eqb b c) (xs ++ c ∷ ys) ≡ length xs
 position-cut c [] ys none = let same : eqb c c ≡ true = eq-eqb c c refl in rw same refl
@@ -59,4 +70,4 @@ no-cut c list xs ys none same = at (length xs) (subst (λ (l : List ℕ). IsNone
     long (x ∷ xs) = let rest = long xs in omega arith
 
     at : (n : ℕ) → IsNoneOf c (xs ++ c ∷ ys) → ⊥
-    at n no = no (length xs) (long xs) (here xs)
+    at n absent = absent (length xs) (long xs) (here xs)

@@ -18,3 +18,5 @@ pub mod PutLemmas
 pub mod Cuts
 pub mod NameSpelled
 pub mod NameParts
+pub mod Decimals
+pub mod ListedNames

@@ -1,6 +1,6 @@
 -- The parts that the name of a file of a segment is read from.
 use Rattle.std.proofs.Common.{◌≡◌, ◌≢◌, ◌⊎◌, ℕ, zero, suc, ◌^◌, ◌<◌, ◌≤◌, List, [], ◌∷◌, ◌++◌, get_or, length, Option, Some, None, codes, refl, sym, ap, subst, ◌∙◌, arith, append_assoc, inl, inr}
-use Rattle.std.specs.Prelude.{decimal}
+use Rattle.std.specs.Prelude.{decimal, MatchOption}
 use Rattle.lu_prims.specs.Base36.{base36}
 use Rattle.lu_types.specs.declared.kind.FileKind.{FileKind}
 use Rattle.lu_types.specs.declared.kind.FileKind.TheVariants as kinds
@@ -10,8 +10,8 @@ use Rattle.segment_infos.specs.declared.naming.LuceneName.{LuceneName}
 use Rattle.segment_infos.specs.declared.naming.LuceneName.TheVariants.{Commit, Part, Del, Sep}
 use Rattle.segment_infos.specs.LuceneNames.{IsGenerationNumber, IsName, with_generation, name_spelling, Spells, IsLuceneName}
 use Rattle.segment_infos.specs.Parsing.{HasNeither, file_text, generation_text, TellsName, IsFile}
-use Rattle.segment_infos.proofs.Cuts.{IsNoneOf, IsNoneOf-append, cut-front, cut-rest, no-cut}
-use Rattle.segment_infos.proofs.NameSpelled.{base36-no_dot, base36-no_line, part_name-cut, segment_stem-no_dot, generation_stem-no_dot}
+use Rattle.segment_infos.proofs.Cuts.{IsNoneOf, IsNoneOf-left, IsNoneOf-right, IsNoneOf-rest, IsNoneOf-append, cut-front, cut-rest, no-cut}
+use Rattle.segment_infos.proofs.NameSpelled.{underscored, base36-no_dot, base36-no_line, part_name-cut, segment_stem-no_dot, generation_stem-no_dot}
 
 -- a stem after its `_` and an extension are those of the name
 abbrev pub AreOf : List ℕ → List ℕ → LuceneName → Type 0
@@ -20,15 +20,11 @@ AreOf stem text (Part segment kind) = (stem ≡ base36 segment) × (text ≡ ext
 AreOf stem text (Del segment generation) = (stem ≡ base36 segment ++ 95 ∷ base36 generation) × (text ≡ codes "del")
 AreOf stem text (Sep segment generation field) = (stem ≡ base36 segment ++ 95 ∷ base36 generation) × (text ≡ extension (kinds.Sep field))
 
+different : (a b : ℕ) → a ≡ 95 → b ≡ 115 → a ≡ b → ⊥
+different a b one other same = omega arith
+
 without_first : (stem other : List ℕ) → 95 ∷ stem ≡ 95 ∷ other → stem ≡ other
 without_first stem other same = cc
-
-underscored : (stem : List ℕ) → IsNoneOf 46 stem → IsNoneOf 46 (95 ∷ stem)
-underscored stem none = IsNoneOf-append 46 (95 ∷ []) stem (λ i within same. one i within same) none
-  where
-    one : (i : ℕ) → i < 1 → get_or (95 ∷ []) i 0 ≢ 46
-    one zero within same = absurd (omega arith)
-    one (suc i) within same = absurd (omega arith)
 
 cut-stem : (stem text other_stem other : List ℕ) → IsNoneOf 46 stem → IsNoneOf 46 (95 ∷ other_stem) → file_text stem text ≡ 95 ∷ (other_stem ++ 46 ∷ other) → stem ≡ other_stem
 cut-stem stem text other_stem other none also same = without_first stem other_stem (cut-front 46 (95 ∷ stem) text (95 ∷ other_stem) other (underscored stem none) also same)
@@ -38,7 +34,7 @@ cut-extension stem text other_stem other none also same = cut-rest 46 (95 ∷ st
 
 -- the parts of a text that is a name
 pub AreOf-spelled : (stem text : List ℕ) (name : LuceneName) → IsNoneOf 46 stem → file_text stem text ≡ name_spelling name → AreOf stem text name
-AreOf-spelled stem text (Commit generation) none same = let first : 95 ≡ 115 = ap (λ (list : List ℕ). get_or list 0 0) same in omega arith
+AreOf-spelled stem text (Commit generation) none same = different 95 115 refl refl (ap (λ (list : List ℕ). get_or list 0 0) same)
 AreOf-spelled stem text (Part segment kind) none same =
     let whole : file_text stem text ≡ 95 ∷ (base36 segment ++ 46 ∷ extension kind) = same ∙ part_name-cut (segment_name segment) kind in
     (cut-stem stem text (base36 segment) (extension kind) none (segment_stem-no_dot segment) whole, cut-extension stem text (base36 segment) (extension kind) none (segment_stem-no_dot segment) whole)
@@ -150,3 +146,41 @@ pub generation-sep : (first second text : List ℕ) (segment generation field : 
     → Spells (generation_text first second text) (Sep segment generation field)
 generation-sep first second text segment generation field most one valid two below is =
     ((most, valid, below), generation_text-cut first second text ∙ spelled-AreOf (first ++ 95 ∷ second) text (Sep segment generation field) (ap (λ (f : List ℕ). f ++ 95 ∷ second) one ∙ ap (λ (g : List ℕ). base36 segment ++ 95 ∷ g) two, is))
+
+-- ---- a text with a dot in it, or none
+
+-- the name of a file is `_`, something without a dot, a dot and an extension
+file-stem : (name : LuceneName) → IsFile name → (stem : List ℕ) × (text : List ℕ) × (name_spelling name ≡ (95 ∷ stem) ++ 46 ∷ text) × IsNoneOf 46 (95 ∷ stem)
+file-stem (Commit generation) file = absurd file
+file-stem (Part segment kind) file = (base36 segment, extension kind, part_name-cut (segment_name segment) kind, segment_stem-no_dot segment)
+file-stem (Del segment generation) file = (base36 segment ++ 95 ∷ base36 generation, codes "del", part_name-cut (with_generation segment generation) kinds.Del, generation_stem-no_dot segment generation)
+file-stem (Sep segment generation field) file = (base36 segment ++ 95 ∷ base36 generation, extension (kinds.Sep field), part_name-cut (with_generation segment generation) (kinds.Sep field), generation_stem-no_dot segment generation)
+
+pub file-no_dot : (text : List ℕ) → IsNoneOf 46 text → (name : LuceneName) → IsFile name → Spells text name → ⊥
+file-no_dot text none name file spells = let cut = file-stem name file in no-cut 46 text (95 ∷ cut.0) cut.1 none (spells.1 ∙ cut.2)
+
+pub file-no_line : (text stem rest : List ℕ) → text ≡ stem ++ 46 ∷ rest → IsNoneOf 46 stem → ((digits : List ℕ) → stem ≢ 95 ∷ digits) → (name : LuceneName) → IsFile name → Spells text name → ⊥
+file-no_line text stem rest split none other name file spells = let cut = file-stem name file in other cut.0 (cut-front 46 stem rest (95 ∷ cut.0) cut.1 none cut.3 (sym split ∙ spells.1 ∙ cut.2))
+
+-- the digits behind a `_` have no dot, where the stem has none
+pub digits-no_dot : (stem digits : List ℕ) → stem ≡ 95 ∷ digits → IsNoneOf 46 stem → IsNoneOf 46 digits
+digits-no_dot stem ds is none = IsNoneOf-rest 46 95 ds (subst (IsNoneOf 46) is none)
+
+pub neither-of : (digits : List ℕ) → IsNoneOf 46 digits → IsNoneOf 95 digits → HasNeither digits
+neither-of ds dots lines i within = (dots i within, lines i within)
+
+pub first-neither : (digits first second : List ℕ) → digits ≡ first ++ 95 ∷ second → IsNoneOf 46 digits → IsNoneOf 95 first → HasNeither first
+first-neither ds first second is none lines = neither-of first (IsNoneOf-left 46 first (95 ∷ second) (subst (IsNoneOf 46) is none)) lines
+
+pub second-no_dot : (digits first second : List ℕ) → digits ≡ first ++ 95 ∷ second → IsNoneOf 46 digits → IsNoneOf 46 second
+second-no_dot ds first second is none = IsNoneOf-rest 46 95 second (IsNoneOf-right 46 first (95 ∷ second) (subst (IsNoneOf 46) is none))
+
+-- the text whose parts were read
+pub generation_text-is : (text stem rest digits first second : List ℕ) → text ≡ stem ++ 46 ∷ rest → stem ≡ 95 ∷ digits → digits ≡ first ++ 95 ∷ second → text ≡ generation_text first second rest
+generation_text-is text stem rest ds first second split is cut =
+    split ∙ ap (λ (s : List ℕ). s ++ 46 ∷ rest) (is ∙ ap (λ (d : List ℕ). 95 ∷ d) cut) ∙ sym (generation_text-cut first second rest)
+
+-- what is told of the text whose parts were read
+pub file-tells : (text whole : List ℕ) (found : Option LuceneName) → text ≡ whole → TellsName whole found → MatchOption found ((name : LuceneName) → IsFile name → Spells text name → ⊥) (Spells text)
+file-tells text whole None same none = λ name file spells. none (name, (spells.0, sym same ∙ spells.1))
+file-tells text whole (Some name) same spells = (spells.0, same ∙ spells.1)

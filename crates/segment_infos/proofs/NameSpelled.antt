@@ -20,7 +20,7 @@ use Rattle.segment_infos.specs.declared.naming.LuceneName.TheVariants.{Commit, P
 use Rattle.segment_infos.specs.LuceneNames.{IsGenerationNumber, IsName, with_generation, name_spelling, Spells, part_kinds, kind_of, is_generation_number, is_name, segment_digits, generation_digits, file_candidate, generation_candidate, candidate, if_spelled_by, name_in}
 use Rattle.segment_infos.specs.Parsing.{TellsName}
 use Rattle.segment_infos.specs.Keeping.{HasOwnSpelling}
-use Rattle.segment_infos.proofs.Cuts.{IsNoneOf, IsNoneOf-append, before-cut, after-cut}
+use Rattle.segment_infos.proofs.Cuts.{IsNoneOf, IsNoneOf-cons, IsNoneOf-append, before-cut, after-cut}
 
 -- ---- digits have no `.` and no `_`
 
@@ -76,12 +76,8 @@ candidate-cut stem text none =
     ∙ ap (λ (rest : List ℕ). file_candidate (95 ∷ stem) rest (kind_of rest)) (after-cut 46 (95 ∷ stem) text none)
 
 -- a stem has no dot: `_`, digits, and another `_` and digits
-underscored : (digits : List ℕ) → IsNoneOf 46 digits → IsNoneOf 46 (95 ∷ digits)
-underscored digits none = IsNoneOf-append 46 (95 ∷ []) digits (λ i within same. one i within same) none
-  where
-    one : (i : ℕ) → i < 1 → get_or (95 ∷ []) i 0 ≢ 46
-    one zero within same = absurd (omega arith)
-    one (suc i) within same = absurd (omega arith)
+pub underscored : (digits : List ℕ) → IsNoneOf 46 digits → IsNoneOf 46 (95 ∷ digits)
+underscored ds none = IsNoneOf-cons 46 95 ds (λ same. absurd (omega arith)) none
 
 pub segment_stem-no_dot : (segment : ℕ) → IsNoneOf 46 (95 ∷ base36 segment)
 segment_stem-no_dot segment = underscored (base36 segment) (base36-no_dot segment)

@@ -13,11 +13,11 @@ use Rattle.lu_types.specs.declared.kind.FileKind.TheVariants as kinds
 use Rattle.lu_types.specs.declared.stored.SharedStore.{SharedStore}
 use Rattle.lu_types.specs.Names.{IsPart}
 use Rattle.segment_infos.specs.declared.naming.LuceneName.{LuceneName}
-use Rattle.segment_infos.specs.declared.naming.LuceneName.TheVariants.{Part, Del, Sep}
+use Rattle.segment_infos.specs.declared.naming.LuceneName.TheVariants.{Commit, Part, Del, Sep}
 use Rattle.segment_infos.specs.declared.infos.SegInfo.{SegInfo}
 use Rattle.segment_infos.specs.Values.{CommitValue, IsCommit, IsLine, AreNormGens}
 use Rattle.segment_infos.specs.LuceneNames.{name_spelling, name_in, Spells}
-use Rattle.segment_infos.specs.Referring.{document_kinds, index_kinds, parts, own_parts, store_parts, del_names, sep_names_from, norm_names, line_names, referred_names, is_among, KeptValue, kept_names, removable}
+use Rattle.segment_infos.specs.Referring.{document_kinds, index_kinds, parts, own_parts, store_parts, del_names, sep_names_from, norm_names, line_names, referred_names, is_among, KeptValue, names_kept_by, kept_names, is_removable, removable}
 use Rattle.segment_infos.specs.Keeping.{HasOwnSpelling, HasNames, is_free}
 use Rattle.segment_infos.proofs.NameSpelled.{name_spelling-same, HasOwnSpelling-IsName}
 use Rattle.segment_infos.proofs.ListedNames.{texts-more}
@@ -106,6 +106,12 @@ own-lines (s ∷ rest) are = all-append HasOwnSpelling (line_names s) (flat_map 
 
 pub own-referred_names : (commit : CommitValue) → IsCommit commit → All HasOwnSpelling (referred_names commit)
 own-referred_names commit is = own-lines commit.segments is.segments.lines
+
+pub own-kept_names : (kept : List KeptValue) → All (λ k. IsCommit k.commit) kept → All HasOwnSpelling (kept_names kept)
+own-kept_names [] are = all-none HasOwnSpelling
+own-kept_names (k ∷ rest) are =
+    all-append HasOwnSpelling (names_kept_by k) (kept_names rest) (all-cons HasOwnSpelling (Commit k.generation) (referred_names k.commit) tt (own-referred_names k.commit (are 0 k (omega arith))))
+    (own-kept_names rest (all-rest (λ k. IsCommit k.commit) k rest are))
 
 -- ---- which texts are free of names
 

@@ -1,3 +1,4 @@
+mod NameRows
 mod Rows
 pub mod Pieces
 pub mod LineReads
@@ -22,3 +23,4 @@ pub mod Decimals
 pub mod ListedNames
 pub mod NameSets
 pub mod KeptNames
+pub mod RemovableNames

@@ -214,3 +214,7 @@ TellsName-name_in text None none = go (name_in text) refl
     go None e = refl
     go (Some name) e = absurd (none (name, Spells-name_in text name e))
 TellsName-name_in text (Some name) spells = sym (name_in-Spells text name spells)
+
+-- a text spells one name
+pub Spells-one : (text : List ℕ) (name other : LuceneName) → Spells text name → Spells text other → name ≡ other
+Spells-one text name other first second = name_spelling-same name other (HasOwnSpelling-IsName name first.0) (HasOwnSpelling-IsName other second.0) (sym first.1 ∙ second.1)

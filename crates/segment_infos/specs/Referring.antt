@@ -1,5 +1,5 @@
 -- The names that commits refer to, and those that may be removed (docs/FORMAT.md, "Names of files").
-use Rattle.std.specs.Prelude.{ℕ, zero, suc, ◌+◌, Bool, not, ◌&&◌, List, [], ◌∷◌, ◌++◌, map, filter, flat_map, Option, Some, None, ℤ, pos, negsuc, is_some, if◌then◌else◌, bytes_eq}
+use Rattle.std.specs.Prelude.{ℕ, zero, suc, ◌+◌, Bool, not, ◌&&◌, List, [], ◌∷◌, ◌++◌, Contains, map, filter, flat_map, Option, Some, None, ℤ, pos, negsuc, is_some, if◌then◌else◌, bytes_eq}
 use Rattle.std.specs.List.{list_any}
 use Rattle.lu_types.specs.declared.kind.FileKind.{FileKind}
 use Rattle.lu_types.specs.declared.kind.FileKind.TheVariants as kinds
@@ -59,6 +59,10 @@ line_names s = own_parts s ++ (store_parts s.store ++ (del_names s.number s.del_
 -- the names that a commit refers to
 abbrev pub referred_names : CommitValue → List LuceneName
 referred_names commit = flat_map line_names commit.segments
+
+-- the commit refers to the name
+abbrev pub Refers : CommitValue → LuceneName → Type 0
+Refers commit name = Contains (referred_names commit) name
 
 -- a commit that is kept, with the generation that it is kept under
 pub record KeptValue : Type 0 where

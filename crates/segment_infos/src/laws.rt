@@ -1,9 +1,12 @@
 //! The laws of commits: each stands on a function that does nothing.
-ghost use Rattle.std.specs.Prelude.{◌≡◌, ◌-◌, ◌<◌, ℕ, List, length, take};
+ghost use Rattle.std.specs.Prelude.{◌≡◌, ◌-◌, ◌<◌, ◌↔◌, ℕ, true, List, length, take, All, Contains, Some};
 ghost use Rattle.lu_grammar.specs.Meaning.{Reads};
 ghost use Rattle.segment_infos.specs.Values.{CommitValue, IsCommit};
 ghost use Rattle.segment_infos.specs.Format.{commit_plan};
 ghost use Rattle.segment_infos.specs.Spelling.{commit_bytes, pending};
+ghost use Rattle.segment_infos.specs.declared.naming.LuceneName.{LuceneName};
+ghost use Rattle.segment_infos.specs.LuceneNames.{Spells, IsLuceneName, name_in};
+ghost use Rattle.segment_infos.specs.Referring.{KeptValue, kept_names, is_removable};
 
 /// What is written reads as exactly this commit.
 pub fn written_is_read()
@@ -27,4 +30,17 @@ pub fn pending_is_not_good()
     ensures not_good { (bytes : List ℕ) (v w : CommitValue) → Reads (commit_plan bytes) bytes v → Reads (commit_plan (pending bytes)) (pending bytes) w → ⊥ }
     ensures others { (bytes : List ℕ) → take (length bytes - 1) (pending bytes) ≡ take (length bytes - 1) bytes }
     ensures length { (bytes : List ℕ) → length (pending bytes) ≡ length bytes }
+{}
+
+/// A text spells one name at most, and that is the one that is found in it.
+pub fn one_name()
+    ensures one { (text : List ℕ) (name other : LuceneName) → Spells text name → Spells text other → name ≡ other }
+    ensures found { (text : List ℕ) (name : LuceneName) → (name_in text ≡ Some name) ↔ Spells text name }
+{}
+
+/// A Lucene name may be removed exactly where no commit that is kept has it as its own name or refers to it; no other name may.
+pub fn removable_is_unkept()
+    ensures unkept { (kept : List KeptValue) (text : List ℕ) (name : LuceneName) → All (λ k. IsCommit k.commit) kept → Spells text name
+        → (is_removable kept text ≡ true) ↔ ¬ Contains (kept_names kept) name }
+    ensures names { (kept : List KeptValue) (text : List ℕ) → is_removable kept text ≡ true → IsLuceneName text }
 {}

@@ -56,7 +56,7 @@ module _ (parts : List Packed) (i : ℕ) (item : Packed) (within : i < length pa
 pub length-entry : (start : ℕ) (part : NamedPart) → length (spelling int64 (pos start) ++ spelling text part.name) ≡ entry_size part
 length-entry start part = length-append (spelling int64 (pos start)) (spelling text part.name)
 
-length-entries_bytes : (start : ℕ) (parts : List NamedPart) → length (entries_bytes start parts) ≡ sum_by entry_size parts
+pub length-entries_bytes : (start : ℕ) (parts : List NamedPart) → length (entries_bytes start parts) ≡ sum_by entry_size parts
 length-entries_bytes start [] = refl
 length-entries_bytes start (p ∷ ps) =
     let tail = entries_bytes (start + length p.bytes) ps in

@@ -18,18 +18,18 @@ use Rattle.compound_file.specs.Directories.{IsGoodEntry}
 -- ---- the conditions of an entry
 
 -- an offset that is not misplaced is a place
-placed : (size : ℕ) (before : List Entry) (z : ℤ) → is_misplaced size before z ≡ false → (z ≡ pos (nat_abs z)) × (last_start 0 before ≤ nat_abs z) × (nat_abs z ≤ size)
+pub placed : (size : ℕ) (before : List Entry) (z : ℤ) → is_misplaced size before z ≡ false → (z ≡ pos (nat_abs z)) × (last_start 0 before ≤ nat_abs z) × (nat_abs z ≤ size)
 placed size before (pos n) e =
     let parts = or_parts (int_lt (pos n) (pos (last_start 0 before))) (int_lt (pos size) (pos n)) e in
     (refl, ltb-false n (last_start 0 before) parts.0, ltb-false size n parts.1)
 placed size before (negsuc n) e = cc
 
-none_of : {A : Type 0} (o : Option A) → is_some o ≡ false → o ≡ None
+pub none_of : {A : Type 0} (o : Option A) → is_some o ≡ false → o ≡ None
 none_of None e = refl
 none_of (Some x) e = cc
 
 -- where an entry that is not apart is the last, the first part starts just after it
-closed : (count : ℕ) (before : List Entry) (z : ℤ) (after : ℕ) → is_apart count before z after ≡ false → length before + 1 ≡ count → first_start (place_of z) before ≡ after
+pub closed : (count : ℕ) (before : List Entry) (z : ℤ) (after : ℕ) → is_apart count before z after ≡ false → length before + 1 ≡ count → first_start (place_of z) before ≡ after
 closed count before z after e last =
     let is : eqb (length before + 1) count ≡ true = eq-eqb (length before + 1) count last in
     eqb-true (first_start (place_of z) before) after (turned (eqb (first_start (place_of z) before) after) (rw is at e))

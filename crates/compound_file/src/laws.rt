@@ -14,6 +14,11 @@ pub fn packed_is_split()
         → Reads (cfs_plan (length (cfs_bytes parts))) (cfs_bytes parts) parts }
 {}
 
+/// Only what is packed is split: any bytes that are split into some parts are the one spelling of these parts, in their order.
+pub fn only_packed_is_split()
+    ensures { (bytes : List ℕ) (parts : List NamedPart) → Reads (cfs_plan (length bytes)) bytes parts → bytes ≡ cfs_bytes parts }
+{}
+
 /// Among the packed parts of a segment each of its files is found under its name, and no other.
 pub fn packed_is_found()
     ensures { (files : List NamedFile) (number : ℕ) (kind : FileKind) → IsPart kind

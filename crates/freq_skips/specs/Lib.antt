@@ -1,3 +1,4 @@
+pub mod ProxPlaces
 pub mod Records
 pub mod Entries
 pub mod Levels

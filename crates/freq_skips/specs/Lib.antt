@@ -1,6 +1,11 @@
+pub mod Points
+pub mod ProxPlaces
 pub mod Records
 pub mod Entries
+pub mod Finding
+pub mod InnerLevels
 pub mod Levels
+pub mod Sound
 pub mod Terms
 pub mod Walking
 pub mod Walks

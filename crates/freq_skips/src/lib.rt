@@ -3,6 +3,7 @@
 
 mod check;
 mod datum;
+mod descent;
 mod entries;
 mod entry;
 mod following;
@@ -12,15 +13,18 @@ mod levels;
 mod passing;
 mod rules;
 mod skip_point;
+mod skips;
 mod walk;
 mod writer;
 
 pub use check::check_term;
 pub use entries::Entries;
 pub use entry::Entry;
-pub use laws::{terms_in_turn, what_is_written};
+pub use laws::{good_is_sound, terms_in_turn, written_has_places, written_is_read};
 pub use lu_types::TermRules;
+pub use rules::RuledTerm;
 pub use skip_point::SkipPoint;
+pub use skips::Skips;
 pub use walk::{Datum, Walk, Walked};
 pub use writer::FreqWriter;
 

@@ -1,6 +1,7 @@
 pub mod Records
 pub mod Entries
 pub mod Levels
+pub mod ProxPlaces
 pub mod Terms
 pub mod Walking
 pub mod Walks

@@ -20,6 +20,7 @@ pub use entries::Entries;
 pub use entry::Entry;
 pub use laws::{terms_in_turn, what_is_written};
 pub use lu_types::TermRules;
+pub use rules::RuledTerm;
 pub use skip_point::SkipPoint;
 pub use walk::{Datum, Walk, Walked};
 pub use writer::FreqWriter;

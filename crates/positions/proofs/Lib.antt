@@ -1,0 +1,15 @@
+pub mod Rows
+pub mod JudgeLemmas
+pub mod LevelTests
+pub mod FrequencyLemmas
+pub mod StandLemmas
+pub mod AgainLemmas
+pub mod ValueLemmas
+pub mod PlaceLemmas
+pub mod CursorLemmas
+pub mod SeenLemmas
+pub mod WalkedLemmas
+pub mod OmittedLemmas
+pub mod PassLemmas
+pub mod AgreeLemmas
+pub mod TurnLemmas

@@ -8,6 +8,9 @@ pub mod ValueLemmas
 pub mod PlaceLemmas
 pub mod CursorLemmas
 pub mod SeenLemmas
+pub mod AmongLemmas
+pub mod OmittedData
+pub mod KnownPlaces
 pub mod WalkedLemmas
 pub mod OmittedLemmas
 pub mod PassLemmas

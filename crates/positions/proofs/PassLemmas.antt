@@ -1,18 +1,20 @@
 -- Occurrences that are passed over.
-use Rattle.std.proofs.Common.{◌≡◌, ℕ, zero, suc, ◌+◌, ◌-◌, ◌<◌, ◌≤◌, Bool, true, false, ltb, List, [], ◌∷◌, ◌++◌, length, Result, Ok, Err, ◌⊎◌, inl, inr, refl, sym, ap, subst, ◌∙◌, arith}
+use Rattle.std.proofs.Common.{◌≡◌, ℕ, zero, suc, ◌+◌, ◌-◌, ◌<◌, ◌≤◌, Bool, true, false, ltb, List, [], ◌∷◌, ◌++◌, length, Option, Some, None, Result, Ok, Err, ◌⊎◌, inl, inr, refl, sym, ap, subst, ◌∙◌, arith}
 use Rattle.std.proofs.lemmas.Bool.{cases_lt, lt-ltb, le-ltb}
 use Rattle.std.proofs.lemmas.List.{length-append}
 use Rattle.lu_grammar.specs.declared.bad.Bad.{Bad}
 use Rattle.lu_grammar.specs.Bytes.{IsBytes, Cursor, place_in}
-use Rattle.lu_grammar.specs.Parts.{vint, spelling, groups}
+use Rattle.lu_grammar.specs.Parts.{vint, bytes, spelling, groups}
+use Rattle.lu_grammar.specs.Reading.{◌>>=◌, read_part}
 use Rattle.lu_grammar.specs.Records.{Shape, read_shape, record_at, rule_of}
 use Rattle.lu_grammar.specs.Plans.{Plan, one, each, times, read_plan}
 use Rattle.lu_grammar.proofs.Parts.{IsBytes-drop}
-use Rattle.lu_grammar.proofs.Records.{same_pair, TakesRecord, read_shape-judges, ShapeJudges}
+use Rattle.lu_grammar.proofs.Records.{ok_pair, same_pair, TakesRecord, read_shape-judges, ShapeJudges}
 use Rattle.lu_grammar.proofs.Plans.{ok_of, err_is_not_ok}
-use Rattle.lu_grammar.proofs.Loops.{each-none, each-rest, each-again, one-was, times-more, times-again}
+use Rattle.lu_grammar.proofs.Loops.{each-none, each-rest, each-again, one-was, times-more, times-again, times-keeps}
 use Rattle.lu_grammar.proofs.Codecs.{record_at-read, record_at-unread, record_at-was, reads-read_plan, IsBytes-after}
-use Rattle.positions.specs.Records.{OccurrenceRecord, occurrence_shape, length_after}
+use Rattle.positions.specs.Records.{OccurrenceRecord, payload_shape, occurrence_shape, length_after}
+use Rattle.freq_skips.specs.Levels.{number_or}
 use Rattle.positions.specs.Standing.{passed_kind, Skims, PassesOver}
 
 -- one more is passed over
@@ -70,3 +72,19 @@ Skims-less payloads start m n f g c d fits lt h k =
     let moves = occurrence-moves payloads f c was.0 again.0.1 bytes read.0 in
     let on = plan-rises (times (passed_kind payloads) (n - m - (0 + 1)) again.0.0) again.0.1 g d moves.1 again.2 in
     omega (arith, moves.0)
+
+-- in a field without payloads no length is stated
+plain-stated : (force : ℕ) (here : Cursor) (r : OccurrenceRecord) (next : Cursor) → read_shape (occurrence_shape false force) here ≡ Ok (r, next) → r.stated ≡ None
+plain-stated force here r next e = outer (read_part vint here) e
+  where
+    inner : (delta : ℕ) (x : Result (List ℕ × Cursor) Bad) → (x >>= λ y. ok_pair {E = Bad} (record { delta = delta; stated = None; payload = y.0 }) y.1) ≡ ok_pair r next → r.stated ≡ None
+    inner delta (Ok (bs, d)) e = let same = same_pair (record { delta = delta; stated = None; payload = bs }) r d next e in ap (λ (x : OccurrenceRecord). x.stated) (sym same.0)
+    inner delta (Err bad) e = absurd (err_is_not_ok e)
+    outer : (x : Result (ℕ × Cursor) Bad) → (x >>= λ y. read_shape (payload_shape force y.0 None) y.1) ≡ ok_pair r next → r.stated ≡ None
+    outer (Ok (delta, d)) e = inner delta (read_part (bytes force) d) e
+    outer (Err bad) e = absurd (err_is_not_ok e)
+
+-- and none is in force
+pub Skims-plain : (start : Cursor) (n force : ℕ) (here : Cursor) → Skims false start n force here → force ≡ 0
+Skims-plain start n force here h =
+    times-keeps (passed_kind false) (λ f. f ≡ 0) (λ f c r d is e. ap (λ (x : Option ℕ). number_or f x) (plain-stated f c r d (record_at-was (occurrence_shape false f) (λ x. []) c r d e).0) ∙ is) n 0 start force here refl h.reads

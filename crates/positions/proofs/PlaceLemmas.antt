@@ -19,7 +19,7 @@ use Rattle.positions.specs.Records.{OccurrenceRecord, occurrence_shape}
 use Rattle.positions.specs.Occurrences.{Occurrence, PostedTerm, any_below, has_datum, datum_at, tells_other_sum, due_with, occurrence_conditions, count_at, entries_plan}
 use Rattle.positions.specs.Terms.{term_plan}
 use Rattle.positions.specs.Standing.{count_before, StandsIn}
-use Rattle.positions.specs.Cursors.{IsGoodTerm, IsPointOf, IsStart, IsLedTo, posted_term}
+use Rattle.positions.specs.Cursors.{StandsInBoth, IsPointOf, IsStart, IsLedTo, posted_term}
 use Rattle.positions.proofs.FrequencyLemmas.{term-count, term-frequent, count_at-some}
 use Rattle.positions.proofs.StandLemmas.{occurrence_at, Stands-none, Stands-start}
 use Rattle.positions.proofs.AgainLemmas.{StandsFirst, Stands-again, Stands-upto}
@@ -68,7 +68,7 @@ sum-is p start v end level m force here two all level_below below due h =
     and-true {a} {b} is e = ap (λ (x : Bool). x && b) (sym is) ∙ e
 
 -- an entry of a good term in a field with positions has an occurrence
-pub entry-some : (t : RuledTerm) (value : TermData) (prx : List ℕ) (occurrences : List (List Occurrence)) (k : ℕ) → IsGoodTerm t value prx occurrences → t.rules.omit_tf ≡ false → k < t.info.doc_freq → 0 < count_at (posted_term t value) k
+pub entry-some : (t : RuledTerm) (value : TermData) (prx : List ℕ) (occurrences : List (List Occurrence)) (k : ℕ) → StandsInBoth t value prx occurrences → t.rules.omit_tf ≡ false → k < t.info.doc_freq → 0 < count_at (posted_term t value) k
 entry-some t value prx occurrences k good omit lt =
     let count = term-count t (place_in good.frq t.info.freq) value good.behind good.entries in
     count_at-some (posted_term t value) k omit ((term-frequent t (place_in good.frq t.info.freq) value good.behind good.entries).some k (omega arith))
@@ -80,7 +80,7 @@ pub record LeadsTo (p : PostedTerm) (prx : List ℕ) (passed prox : ℕ) : Type 
   pub within : prox ≤ length prx
   pub below : passed ≤ p.term.info.doc_freq
 
-pub point-leads : (t : RuledTerm) (value : TermData) (prx : List ℕ) (occurrences : List (List Occurrence)) (point : SkipPoint) → IsBytes prx → IsGoodTerm t value prx occurrences → t.rules.omit_tf ≡ false → IsPointOf t value point
+pub point-leads : (t : RuledTerm) (value : TermData) (prx : List ℕ) (occurrences : List (List Occurrence)) (point : SkipPoint) → IsBytes prx → StandsInBoth t value prx occurrences → t.rules.omit_tf ≡ false → IsPointOf t value point
     → LeadsTo (posted_term t value) prx point.passed point.prox
 point-leads t value prx occurrences point fits good omit (inl is) =
     let p = posted_term t value in

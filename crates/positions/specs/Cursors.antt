@@ -28,7 +28,7 @@ abbrev pub posted_term : RuledTerm → TermData → PostedTerm
 posted_term t value = record { term = t; value = value }
 
 -- the term stands in both files: in some bytes its part of `.frq` stands for this value, and in these its part of `.prx` for these occurrences, entry by entry
-pub record IsGoodTerm (t : RuledTerm) (value : TermData) (prx : List ℕ) (occurrences : List (List Occurrence)) : Type 0 where
+pub record StandsInBoth (t : RuledTerm) (value : TermData) (prx : List ℕ) (occurrences : List (List Occurrence)) : Type 0 where
   pub interval : 2 ≤ t.rules.skip_interval
   pub frq : List ℕ
   pub behind : Cursor
@@ -59,7 +59,7 @@ IsPointOf t value point = IsStart t point ⊎ IsLedTo t value point
 pub record IsPointIn (t : RuledTerm) (prx : List ℕ) (point : SkipPoint) : Type 0 where
   pub value : TermData
   pub occurrences : List (List Occurrence)
-  pub good : IsGoodTerm t value prx occurrences
+  pub good : StandsInBoth t value prx occurrences
   pub is_point : IsPointOf t value point
 
 -- the occurrence that stands here states its payload length
@@ -97,7 +97,7 @@ StandsWith p occurrences passed (o ∷ os) c = StandsAmong p occurrences passed 
 -- the cursor stands among these occurrences of a term: so many entries are passed, an open one among them, and these occurrences of that one are left
 pub record IsAmong (t : RuledTerm) (value : TermData) (occurrences : List (List Occurrence)) (passed : ℕ) (left : List Occurrence) (c : CursorState) : Type 0 where
   pub term_is : c.term ≡ t
-  pub good : IsGoodTerm t value c.prx occurrences
+  pub good : StandsInBoth t value c.prx occurrences
   pub count : c.left ≡ length left
   pub within : passed ≤ t.info.doc_freq
   pub stands : StandsWith (posted_term t value) occurrences passed left c

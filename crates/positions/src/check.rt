@@ -9,6 +9,7 @@ ghost use Rattle.freq_skips.specs.Terms.{TermData, IsGoodTerm, term_of, term_pla
 ghost use Rattle.positions.specs.Occurrences.{Occurrence, count_at};
 ghost use Rattle.positions.specs.Terms.{IsTermFault, posted, term_plan};
 ghost use Rattle.positions.specs.Standing.{StandsIn};
+ghost use Rattle.positions.specs.Cursors.{StandsInBoth};
 ghost use Rattle.positions.specs.Walked.{posted_by, HasAnswered};
 
 use crate::reading::Reading;
@@ -62,6 +63,8 @@ pub fn check_term(
         (λ end. (occurrences : List (List Occurrence)) × ReadsTo (term_plan (posted info.now rules.now value)) (place_in prx.now at) occurrences (place_in prx.now end))
         (λ spot. (spot.kind ≡ Prx) × IsTermFault (posted info.now rules.now value) (place_in prx.now at) spot.offset spot.rule) }
     ensures within { IfOk result (λ end. end ≤ length prx.now) }
+    ensures stands { 0 < info.now.doc_freq → (value : TermData) (behind : Cursor) → ReadsTo (frq_term_plan (term_of info.now rules.now)) (place_in frq.now info.now.freq) value behind
+        → IfOk result (λ _. (occurrences : List (List Occurrence)) × StandsInBoth (term_of info.now rules.now) value prx.now occurrences) }
     ensures starts { rules.now.omit_tf ≡ false → 0 < info.now.doc_freq → IfOk result (λ _. at ≡ info.now.prox) }
 {
     if rules.omit_tf {

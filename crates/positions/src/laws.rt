@@ -1,8 +1,12 @@
 //! Laws on the terms of a file.
-ghost use Rattle.std.specs.Prelude.{◌≡◌, ◌<◌, ℕ, List, [], ◌∷◌, ◌++◌, length};
+ghost use Rattle.std.specs.Prelude.{◌≡◌, ◌<◌, ◌^◌, ℕ, List, [], ◌∷◌, ◌++◌, length};
 ghost use Rattle.lu_types.specs.RuleNumbers as number;
 ghost use Rattle.lu_grammar.specs.Bytes.{IsBytes, place_in};
 ghost use Rattle.lu_grammar.specs.Meaning.{Reads, ReadsTo, FirstFault};
+ghost use Rattle.freq_skips.specs.declared.rules.RuledTerm.{RuledTerm};
+ghost use Rattle.freq_skips.specs.Terms.{TermData};
+ghost use Rattle.freq_skips.specs.ProxPlaces.{HasProxPlaces};
+ghost use Rattle.positions.specs.Cursors.{StandsInBoth};
 ghost use Rattle.positions.specs.Occurrences.{Occurrence, PostedTerm};
 ghost use Rattle.positions.specs.Terms.{IsTermFault, AreTermsUpTo, term_plan, terms_plan};
 
@@ -17,4 +21,11 @@ pub fn terms_in_turn()
         → AreTermsUpTo terms prx place values → IsTermFault p (place_in prx place) offset rule → FirstFault (terms_plan (terms ++ p ∷ rest)) prx offset rule }
     ensures trailing { (terms : List PostedTerm) (values : List (List (List Occurrence))) (prx : List ℕ) (place : ℕ) → IsBytes prx → AreTermsUpTo terms prx place values → place < length prx
         → FirstFault (terms_plan terms) prx place number.trailing }
+{}
+
+/// A term that stands in both files, of which no byte of `.prx` is at 2^31 or behind: there are numbers of bytes of positions
+/// before its entries, and its skip data tell these. So its points can be looked up.
+pub fn skip_data_lead()
+    ensures { (t : RuledTerm) (value : TermData) (prx : List ℕ) (occurrences : List (List Occurrence)) → IsBytes prx → StandsInBoth t value prx occurrences → t.info.prox < 2 ^ 31 → length prx < 2 ^ 31
+        → (prox : ℕ → ℕ) × HasProxPlaces t value prox }
 {}

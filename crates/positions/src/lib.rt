@@ -11,6 +11,6 @@ mod record;
 mod writer;
 
 pub use check::check_term;
-pub use laws::terms_in_turn;
+pub use laws::{skip_data_lead, terms_in_turn};
 pub use occurrences::{Occ, Occurrences};
 pub use writer::ProxWriter;

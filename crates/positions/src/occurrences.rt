@@ -3,7 +3,7 @@ ghost use Rattle.std.specs.Prelude.{◌≡◌, ◌≤◌, ◌<◌, ◌+◌, ℕ,
 ghost use Rattle.freq_skips.specs.Terms.{TermData, term_of};
 ghost use Rattle.positions.specs.Occurrences.{Occurrence, count_at};
 ghost use Rattle.positions.specs.Standing.{count_before};
-ghost use Rattle.positions.specs.Cursors.{IsGoodTerm, IsPointOf, IsPointIn, IsAmong, posted_term};
+ghost use Rattle.positions.specs.Cursors.{StandsInBoth, IsPointOf, IsPointIn, IsAmong, posted_term};
 ghost use Rattle.positions.specs.Parts.{occurrence_seen};
 
 use crate::placing::reading_at;
@@ -31,7 +31,8 @@ pub struct Occurrences<'a> {
 }
 
 impl<'a> Model for Occurrences<'a> {
-    ghost use Rattle.std.specs.Prelude.{◌≡◌, ◌≤◌};
+    ghost use Rattle.std.specs.Prelude.{◌≡◌};
+    ghost use Rattle.lu_grammar.specs.Bytes.{IsBytes};
     ghost use Rattle.positions.specs.Cursors.{CursorState};
 
     ghost Value = { CursorState };
@@ -45,7 +46,10 @@ impl<'a> Model for Occurrences<'a> {
       left = o.left;
     } };
 
-    ghost invariant = { λ o. o.reading.payloads ≡ o.term.rules.payloads };
+    ghost invariant = { λ o. record {
+      bytes : IsBytes o.prx.now;
+      payloads : o.reading.payloads ≡ o.term.rules.payloads;
+    } };
 }
 
 impl<'a> Occurrences<'a> {
@@ -58,7 +62,7 @@ impl<'a> Occurrences<'a> {
         point: &SkipPoint,
     ) -> Occurrences<'a>
         requires { IsPointIn (term_of info.now rules.now) prx.now point.now }
-        ensures { (value : TermData) (occurrences : List (List Occurrence)) → IsGoodTerm (term_of info.now rules.now) value prx.entry.now occurrences → IsPointOf (term_of info.now rules.now) value point.now
+        ensures { (value : TermData) (occurrences : List (List Occurrence)) → StandsInBoth (term_of info.now rules.now) value prx.entry.now occurrences → IsPointOf (term_of info.now rules.now) value point.now
             → IsAmong (term_of info.now rules.now) value occurrences point.now.passed [] result }
     {
         let term = RuledTerm {
@@ -115,7 +119,7 @@ impl<'a> Occurrences<'a> {
     /// force is found as `at` does it.
     pub fn jump(&mut self, point: &SkipPoint)
         requires { IsPointIn self.old.term self.old.prx point.now }
-        ensures { (value : TermData) (occurrences : List (List Occurrence)) → IsGoodTerm self.old.term value self.old.prx occurrences → IsPointOf self.old.term value point.now
+        ensures { (value : TermData) (occurrences : List (List Occurrence)) → StandsInBoth self.old.term value self.old.prx occurrences → IsPointOf self.old.term value point.now
             → IsAmong self.old.term value occurrences point.now.passed [] self.new }
     {
         self.reading = reading_at(self.prx, &self.term, point);

@@ -121,10 +121,11 @@ fn occurrence_broken(
 impl<'a> Reading<'a> {
     /// Takes the parts of one occurrence. The position stays.
     pub fn take(&mut self) -> Result<Parts<'a>, Bad>
-        ensures { MatchResult result
+        ensures taken { MatchResult result
             (λ parts. (read_shape (occurrence_shape self.old.payloads self.old.force) self.old.cur ≡ Ok (record_of parts, self.new.cur))
-            × (self.new.force ≡ length_after self.old.force (record_of parts)) × (self.new.payloads ≡ self.old.payloads) × (self.new.position ≡ self.old.position))
+            × (self.new.force ≡ length_after self.old.force (record_of parts)) × (self.new.position ≡ self.old.position))
             (λ bad. read_shape (occurrence_shape self.old.payloads self.old.force) self.old.cur ≡ Err bad) }
+        ensures payloads { self.new.payloads ≡ self.old.payloads }
     {
         match occurrence_parts(&mut self.cur, self.payloads, self.force) {
             Err(bad) => Err(bad),

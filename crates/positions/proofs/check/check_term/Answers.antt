@@ -1,6 +1,9 @@
 use Rattle.std.proofs.Common.{◌≡◌, ℕ, ◌+◌, ◌^◌, ◌<◌, ◌≤◌, Bool, false, length, Ok, Err, refl, sym, ap, subst, ◌∙◌, arith}
 use Rattle.lu_grammar.specs.Bytes.{Cursor, place_in}
 use Rattle.lu_grammar.specs.Plans.{read_plan}
+use Rattle.lu_grammar.specs.Meaning.{ReadsTo}
+use Rattle.lu_grammar.proofs.Parts.{IsBytes-drop}
+use Rattle.lu_grammar.proofs.Codecs.{reads-read_plan}
 use Rattle.freq_skips.specs.declared.rules.RuledTerm.{RuledTerm}
 use Rattle.freq_skips.specs.Terms.{TermData, term_of}
 use Rattle.freq_skips.specs.Walks.{WalkState, start_in}
@@ -148,3 +151,51 @@ returns-clause-starts c = λ omit some.
     let count = term-count t (start_in t c.args.frq.now) good.value good.end good.reads in
     let due = count_at-some p 0 omit ((term-frequent t (start_in t c.args.frq.now) good.value good.end good.reads).some 0 (omega arith)) in
     term-starts p start i.stands.mid.before r.cur read some due
+
+pub returns-then-rules-clause-stands : goal.returns-then-rules-clause-stands
+returns-then-rules-clause-stands c = λ some value behind h.
+    let t = term_of c.args.info.now c.args.rules.now in
+    let start = place_in c.args.prx.now t.info.prox in
+    let p = posted c.args.info.now c.args.rules.now value in
+    let read = omitted-read p start c.if-rules.true in
+    (
+      read.0,
+      record {
+        interval = c.requires.good.interval;
+        frq = c.args.frq.now;
+        behind = behind;
+        entries = h;
+        end = start;
+        reads = reads-read_plan (term_plan p) start read.0 start (IsBytes-drop t.info.prox c.args.prx.now (λ i. (c.type_inv.prx i).fits)) read.1;
+        within = λ kept. absurd (let two = sym c.if-rules.true ∙ kept in cc);
+      },
+    )
+
+pub returns-clause-stands : goal.returns-clause-stands
+returns-clause-stands c = λ some value behind h.
+    let i = c.loop-walked.invariant in
+    let w = c.loop-walked.walk in
+    let r = c.loop-walked.reading in
+    let t = term_of c.args.info.now c.args.rules.now in
+    let p = posted c.args.info.now c.args.rules.now value in
+    let prx = c.args.prx.now in
+    let start = place_in prx c.args.at in
+    let all = Stands-all (posted_by w) start w.passed r.force 0 r.cur i.stands (c.in_default.ensures.0 ∙ i.count) in
+    let same = posted-is w t value i.term (i.value ∙ ap (λ (x : WalkState). x.value) (c.at-walk.ensures value behind h)) in
+    let read = subst (λ (q : PostedTerm). read_plan (term_plan q) start ≡ Ok (i.stands.mid.before, r.cur)) same all in
+    let count = term-count t (start_in t c.args.frq.now) value behind h in
+    let due = count_at-some p 0 c.if-rules.false ((term-frequent t (start_in t c.args.frq.now) value behind h).some 0 (omega arith)) in
+    let at : c.args.at ≡ t.info.prox = term-starts p start i.stands.mid.before r.cur read some due in
+    (
+      i.stands.mid.before,
+      record {
+        interval = c.requires.good.interval;
+        frq = c.args.frq.now;
+        behind = behind;
+        entries = h;
+        end = r.cur;
+        reads = subst (λ (n : ℕ). ReadsTo (term_plan p) (place_in prx n) i.stands.mid.before r.cur) at
+            (reads-read_plan (term_plan p) start i.stands.mid.before r.cur (IsBytes-drop c.args.at prx (λ i. (c.type_inv.prx i).fits)) read);
+        within = λ kept. omega (arith, at);
+      },
+    )

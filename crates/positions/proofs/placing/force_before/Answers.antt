@@ -36,12 +36,12 @@ returns-in-Err c = λ n force h.
     let start = place_in c.args.prx.now c.args.start in
     let there = place_in c.args.prx.now c.args.place in
     let lt = before c.args.payloads start i.count n r.force force r.cur there (i.within n force h) i.skims h (omega (arith, c.place.ensures)) in
-    absurd (passes-never c.args.payloads r.payloads i.count n 0 start r.force r.cur c.in-Err._bad force there i.payloads i.skims.reads lt h.reads c.in-Err.ensures)
+    absurd (passes-never c.args.payloads r.payloads i.count n 0 start r.force r.cur c.in-Err._bad force there i.payloads i.skims.reads lt h.reads c.in-Err.ensures.taken)
 
 pub loop-reading-smaller : goal.loop-reading-smaller
 loop-reading-smaller c =
     let r = c.loop-reading.reading in
-    let moves = occurrence-moves r.payloads r.force r.cur (record_of c.in-Ok._parts) c.take.new.self.cur c.loop-reading.invariant.bytes c.in-Ok.ensures.0 in
+    let moves = occurrence-moves r.payloads r.force r.cur (record_of c.in-Ok._parts) c.take.new.self.cur c.loop-reading.invariant.bytes c.in-Ok.ensures.taken.0 in
     omega (arith, c.place.ensures, moves.0)
 
 pub loop-reading-preserved : goal.loop-reading-preserved
@@ -52,12 +52,12 @@ loop-reading-preserved c =
     let read = c.in-Ok.ensures in
     let start = place_in c.args.prx.now c.args.start in
     let there = place_in c.args.prx.now c.args.place in
-    let moves = occurrence-moves r.payloads r.force r.cur (record_of c.in-Ok._parts) new.cur i.bytes read.0 in
+    let moves = occurrence-moves r.payloads r.force r.cur (record_of c.in-Ok._parts) new.cur i.bytes read.taken.0 in
     record {
-      payloads = read.2 ∙ i.payloads;
+      payloads = read.payloads ∙ i.payloads;
       bytes = moves.1;
       count = i.count + 1;
-      skims = record { reads = passes-more c.args.payloads r.payloads i.count 0 start r.force r.cur (record_of c.in-Ok._parts) new.cur new.force i.payloads i.skims.reads read.0 read.1 };
+      skims = record { reads = passes-more c.args.payloads r.payloads i.count 0 start r.force r.cur (record_of c.in-Ok._parts) new.cur new.force i.payloads i.skims.reads read.taken.0 read.taken.1 };
       within = λ n force h.
           let lt = before c.args.payloads start i.count n r.force force r.cur there (i.within n force h) i.skims h (omega (arith, c.place.ensures)) in omega arith;
     }

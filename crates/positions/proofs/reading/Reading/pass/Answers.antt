@@ -16,7 +16,7 @@ returns-in-Err-clause-passes c = record {
   leads = λ f d all.
       let i = c.loop-turn.invariant in
       let s = c.args.self.now in
-      absurd (passes-never s.payloads c.loop-turn.self.payloads c.loop-turn._turn c.args.count s.force s.cur c.loop-turn.self.force c.loop-turn.self.cur c.in-Err._bad f d i.payloads (i.passes f d all) (omega arith) all c.in-Err.ensures);
+      absurd (passes-never s.payloads c.loop-turn.self.payloads c.loop-turn._turn c.args.count s.force s.cur c.loop-turn.self.force c.loop-turn.self.cur c.in-Err._bad f d i.payloads (i.passes f d all) (omega arith) all c.in-Err.ensures.taken);
 }
 
 pub loop-turn-preserved : goal.loop-turn-preserved
@@ -27,13 +27,14 @@ loop-turn-preserved c =
     let new = c.take.new.self in
     let read = c.in-Ok.ensures in
     record {
-      payloads = read.2 ∙ i.payloads;
-      passes = λ f d all. passes-more s.payloads r.payloads c.loop-turn._turn s.force s.cur r.force r.cur (record_of c.in-Ok._parts) new.cur new.force i.payloads (i.passes f d all) read.0 read.1;
+      payloads = read.payloads ∙ i.payloads;
+      passes = λ f d all. passes-more s.payloads r.payloads c.loop-turn._turn s.force s.cur r.force r.cur (record_of c.in-Ok._parts) new.cur new.force i.payloads (i.passes f d all) read.taken.0 read.taken.1;
     }
 
 pub returns-clause-passes : goal.returns-clause-passes
 returns-clause-passes c = record {
   leads = λ f d all.
       let s = c.args.self.now in
-      same_pair c.loop-turn.self.force f c.loop-turn.self.cur d (sym (c.loop-turn.invariant.passes f d all) ∙ all);
+      let same : c.loop-turn._turn ≡ c.args.count = omega arith in
+      same_pair c.loop-turn.self.force f c.loop-turn.self.cur d (sym (c.loop-turn.invariant.passes f d all) ∙ ap (λ (n : ℕ). read_plan (times (passed_kind s.payloads) n s.force) s.cur) same ∙ all);
 }

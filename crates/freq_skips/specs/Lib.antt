@@ -4,7 +4,6 @@ pub mod Records
 pub mod Entries
 pub mod Finding
 pub mod Levels
-pub mod ProxPlaces
 pub mod Terms
 pub mod Walking
 pub mod Walks

@@ -8,18 +8,17 @@ use Rattle.lu_grammar.specs.Plans.{read_plan}
 use Rattle.lu_grammar.proofs.Codecs.{read_plan-ReadsTo}
 use Rattle.freq_skips.specs.declared.rules.RuledTerm.{RuledTerm}
 use Rattle.freq_skips.specs.declared.skip_point.SkipPoint.{SkipPoint}
-use Rattle.freq_skips.specs.Levels.{stride}
+use Rattle.freq_skips.specs.Points.{IsPoint}
 use Rattle.freq_skips.specs.Terms.{TermData}
-use Rattle.freq_skips.proofs.Powers.{power-pos}
 use Rattle.positions.specs.Records.{OccurrenceRecord, occurrence_shape, position_gap, length_after}
 use Rattle.positions.specs.Occurrences.{Occurrence, PostedTerm, occurrence_of, count_at}
 use Rattle.positions.specs.Terms.{term_plan}
 use Rattle.positions.specs.Standing.{count_before, Skims, StandsIn, PassesOver}
-use Rattle.positions.specs.Cursors.{CursorState, StandsInBoth, IsPointOf, Agrees, StandsBefore, StandsAmong, StandsWith, IsAmong, posted_term}
+use Rattle.positions.specs.Cursors.{CursorState, StandsInBoth, Agrees, StandsBefore, StandsAmong, StandsWith, IsAmong, posted_term}
 use Rattle.positions.proofs.StandLemmas.{Skims-as}
 use Rattle.positions.proofs.AgainLemmas.{StandsFirst, Stands-upto}
 use Rattle.positions.proofs.ValueLemmas.{entry-length}
-use Rattle.positions.proofs.PlaceLemmas.{datum-entry, point-leads}
+use Rattle.positions.proofs.PlaceLemmas.{point-within, point-leads}
 use Rattle.positions.proofs.CursorLemmas.{pass-leads, StandsWith-made}
 use Rattle.positions.proofs.SeenLemmas.{taken-next, taken-never}
 
@@ -27,14 +26,7 @@ use Rattle.positions.proofs.SeenLemmas.{taken-next, taken-never}
 term-read : (t : RuledTerm) (value : TermData) (prx : List ℕ) (occurrences : List (List Occurrence)) (good : StandsInBoth t value prx occurrences) → read_plan (term_plan (posted_term t value)) (place_in prx t.info.prox) ≡ Ok (occurrences, good.end)
 term-read t value prx occurrences good = read_plan-ReadsTo (term_plan (posted_term t value)) (place_in prx t.info.prox) occurrences good.end good.reads
 
--- a point is not behind the entries
-point-within : (t : RuledTerm) (value : TermData) (prx : List ℕ) (occurrences : List (List Occurrence)) (point : SkipPoint) → StandsInBoth t value prx occurrences → IsPointOf t value point → point.passed ≤ t.info.doc_freq
-point-within t value prx occurrences point good (inl is) = omega (arith, is.passed)
-point-within t value prx occurrences point good (inr is) =
-    let at = datum-entry is.number (stride t is.level) t.info.doc_freq (power-pos t.rules.skip_interval (suc is.level) good.interval) is.number_below in
-    omega (arith, at.0, is.passed)
-
-pub among-begun : (t : RuledTerm) (value : TermData) (occurrences : List (List Occurrence)) (point : SkipPoint) (c : CursorState) → IsBytes c.prx → StandsInBoth t value c.prx occurrences → IsPointOf t value point → c.term ≡ t → c.left ≡ 0
+pub among-begun : (t : RuledTerm) (value : TermData) (occurrences : List (List Occurrence)) (point : SkipPoint) (c : CursorState) → IsBytes c.prx → StandsInBoth t value c.prx occurrences → IsPoint t value point → c.term ≡ t → c.left ≡ 0
     → (t.rules.omit_tf ≡ false → c.here ≡ place_in c.prx point.prox)
     → (t.rules.omit_tf ≡ false → (count force : ℕ) → Skims t.rules.payloads (place_in c.prx t.info.prox) count force (place_in c.prx point.prox) → Agrees t.rules.payloads c.force force (place_in c.prx point.prox))
     → IsAmong t value occurrences point.passed [] c

@@ -13,13 +13,14 @@ use Rattle.freq_skips.specs.declared.rules.RuledTerm.{RuledTerm}
 use Rattle.freq_skips.specs.declared.skip_point.SkipPoint.{SkipPoint}
 use Rattle.freq_skips.specs.Levels.{level_count, stride, data_count}
 use Rattle.freq_skips.specs.Terms.{TermData}
+use Rattle.freq_skips.specs.Points.{IsPoint, point_after}
 use Rattle.freq_skips.specs.Walks.{point_at}
 use Rattle.freq_skips.proofs.Powers.{power-pos}
 use Rattle.positions.specs.Records.{OccurrenceRecord, occurrence_shape}
 use Rattle.positions.specs.Occurrences.{Occurrence, PostedTerm, any_below, has_datum, datum_at, tells_other_sum, due_with, occurrence_conditions, count_at, entries_plan}
 use Rattle.positions.specs.Terms.{term_plan}
 use Rattle.positions.specs.Standing.{count_before, StandsIn}
-use Rattle.positions.specs.Cursors.{StandsInBoth, IsPointOf, IsStart, IsLedTo, posted_term}
+use Rattle.positions.specs.Cursors.{StandsInBoth, posted_term}
 use Rattle.positions.proofs.FrequencyLemmas.{term-count, term-frequent, count_at-some}
 use Rattle.positions.proofs.StandLemmas.{occurrence_at, Stands-none, Stands-start}
 use Rattle.positions.proofs.AgainLemmas.{StandsFirst, Stands-again, Stands-upto}
@@ -73,6 +74,35 @@ entry-some t value prx occurrences k good omit lt =
     let count = term-count t (place_in good.frq t.info.freq) value good.behind good.entries in
     count_at-some (posted_term t value) k omit ((term-frequent t (place_in good.frq t.info.freq) value good.behind good.entries).some k (omega arith))
 
+-- the point is the start of the term
+record IsStart (t : RuledTerm) (point : SkipPoint) : Type 0 where
+  pub passed : point.passed ≡ 0
+  pub prox : point.prox ≡ t.info.prox
+
+-- a datum of the lowest level leads to the point
+record IsLedTo (t : RuledTerm) (value : TermData) (point : SkipPoint) : Type 0 where
+  pub number : ℕ
+  pub some : 0 < level_count t
+  pub number_below : number < data_count t 0
+  pub passed : point.passed ≡ suc number * stride t 0 - 1
+  pub prox : point.prox ≡ t.info.prox + (point_at value 0 number).prox
+
+-- it is one or the other
+point-kind : (t : RuledTerm) (value : TermData) (point : SkipPoint) → IsPoint t value point → IsStart t point ⊎ IsLedTo t value point
+point-kind t value point h = go h.number h.exists h.point
+  where
+    go : (n : ℕ) → (n ≡ 0) ⊎ ((0 < level_count t) × (n ≤ data_count t 0)) → point ≡ point_after t value n → IsStart t point ⊎ IsLedTo t value point
+    go zero exists is = inl (record { passed = ap (λ (x : SkipPoint). x.passed) is; prox = ap (λ (x : SkipPoint). x.prox) is })
+    go (suc m) (inl none) is = absurd (omega arith)
+    go (suc m) (inr (some, le)) is = inr (record { number = m; some = some; number_below = omega arith; passed = ap (λ (x : SkipPoint). x.passed) is; prox = ap (λ (x : SkipPoint). x.prox) is })
+
+-- a point is not behind the entries
+pub point-within : (t : RuledTerm) (value : TermData) (prx : List ℕ) (occurrences : List (List Occurrence)) (point : SkipPoint) → StandsInBoth t value prx occurrences → IsPoint t value point → point.passed ≤ t.info.doc_freq
+point-within t value prx occurrences point good is = elim (point-kind t value point is) [
+  | inl start ↦ omega (arith, start.passed)
+  | inr led ↦ let at = datum-entry led.number (stride t 0) t.info.doc_freq (power-pos t.rules.skip_interval (suc 0) good.interval) led.number_below in omega (arith, at.0, led.passed)
+]
+
 -- the entry that a point leads to stands at its place
 pub record LeadsTo (p : PostedTerm) (prx : List ℕ) (passed prox : ℕ) : Type 0 where
   pub first : StandsFirst p (place_in prx p.term.info.prox) passed
@@ -80,9 +110,8 @@ pub record LeadsTo (p : PostedTerm) (prx : List ℕ) (passed prox : ℕ) : Type 
   pub within : prox ≤ length prx
   pub below : passed ≤ p.term.info.doc_freq
 
-pub point-leads : (t : RuledTerm) (value : TermData) (prx : List ℕ) (occurrences : List (List Occurrence)) (point : SkipPoint) → IsBytes prx → StandsInBoth t value prx occurrences → t.rules.omit_tf ≡ false → IsPointOf t value point
-    → LeadsTo (posted_term t value) prx point.passed point.prox
-point-leads t value prx occurrences point fits good omit (inl is) =
+led-start : (t : RuledTerm) (value : TermData) (prx : List ℕ) (occurrences : List (List Occurrence)) (point : SkipPoint) → StandsInBoth t value prx occurrences → t.rules.omit_tf ≡ false → IsStart t point → LeadsTo (posted_term t value) prx point.passed point.prox
+led-start t value prx occurrences point good omit is =
     let p = posted_term t value in
     let start = place_in prx t.info.prox in
     let first : StandsFirst p start 0 = record { force = 0; here = start; stands = Stands-none p start } in
@@ -92,15 +121,16 @@ point-leads t value prx occurrences point fits good omit (inl is) =
       within = omega (arith, is.prox, good.within omit);
       below = omega arith;
     })
-point-leads t value prx occurrences point fits good omit (inr is) =
+led-by : (t : RuledTerm) (value : TermData) (prx : List ℕ) (occurrences : List (List Occurrence)) (point : SkipPoint) → IsBytes prx → StandsInBoth t value prx occurrences → t.rules.omit_tf ≡ false → IsLedTo t value point → LeadsTo (posted_term t value) prx point.passed point.prox
+led-by t value prx occurrences point fits good omit is =
     let p = posted_term t value in
     let start = place_in prx t.info.prox in
     let all = read_plan-ReadsTo (term_plan p) start occurrences good.end good.reads in
-    let pos : 0 < stride t is.level = power-pos t.rules.skip_interval (suc is.level) good.interval in
-    let at = datum-entry is.number (stride t is.level) t.info.doc_freq pos is.number_below in
-    let k = suc is.number * stride t is.level - 1 in
+    let pos : 0 < stride t 0 = power-pos t.rules.skip_interval (suc 0) good.interval in
+    let at = datum-entry is.number (stride t 0) t.info.doc_freq pos is.number_below in
+    let k = suc is.number * stride t 0 - 1 in
     let first = Stands-upto p start occurrences good.end all k (omega (arith, at.0)) in
-    let sum = sum-is p start occurrences good.end is.level is.number first.force first.here good.interval all is.level_below is.number_below (entry-some t value prx occurrences k good omit at.0) first.stands in
+    let sum = sum-is p start occurrences good.end 0 is.number first.force first.here good.interval all is.some is.number_below (entry-some t value prx occurrences k good omit at.0) first.stands in
     let behind = place_in-after (entries_plan p k) prx t.info.prox first.stands.mid first.stands.behind fits (good.within omit) first.stands.entries_read in
     let here = Stands-start p start k first.force 0 first.here first.stands in
     let rises = plan-rises (entries_plan p k) start first.stands.mid first.stands.behind (IsBytes-drop t.info.prox prx fits) first.stands.entries_read in
@@ -111,3 +141,10 @@ point-leads t value prx occurrences point fits good omit (inr is) =
       within = omega (arith, behind.1, ap (λ (c : Cursor). c.place) here.1, place);
       below = omega (arith, at.0);
     })
+
+pub point-leads : (t : RuledTerm) (value : TermData) (prx : List ℕ) (occurrences : List (List Occurrence)) (point : SkipPoint) → IsBytes prx → StandsInBoth t value prx occurrences → t.rules.omit_tf ≡ false → IsPoint t value point
+    → LeadsTo (posted_term t value) prx point.passed point.prox
+point-leads t value prx occurrences point fits good omit is = elim (point-kind t value point is) [
+  | inl start ↦ led-start t value prx occurrences point good omit start
+  | inr led ↦ led-by t value prx occurrences point fits good omit led
+]

@@ -6,9 +6,8 @@ use Rattle.lu_grammar.specs.Reading.{read_part}
 use Rattle.lu_grammar.specs.Meaning.{ReadsTo}
 use Rattle.freq_skips.specs.declared.rules.RuledTerm.{RuledTerm}
 use Rattle.freq_skips.specs.declared.skip_point.SkipPoint.{SkipPoint}
-use Rattle.freq_skips.specs.Levels.{level_count, stride, data_count}
 use Rattle.freq_skips.specs.Terms.{TermData, term_plan as frq_term_plan}
-use Rattle.freq_skips.specs.Walks.{point_at}
+use Rattle.freq_skips.specs.Points.{IsPoint}
 use Rattle.positions.specs.Records.{states_length}
 use Rattle.positions.specs.Occurrences.{Occurrence, PostedTerm, count_at}
 use Rattle.positions.specs.Terms.{term_plan}
@@ -37,30 +36,12 @@ pub record StandsInBoth (t : RuledTerm) (value : TermData) (prx : List ℕ) (occ
   pub reads : ReadsTo (term_plan (posted_term t value)) (place_in prx t.info.prox) occurrences end
   pub within : t.rules.omit_tf ≡ false → t.info.prox ≤ length prx
 
--- the point is the start of the term
-pub record IsStart (t : RuledTerm) (point : SkipPoint) : Type 0 where
-  pub passed : point.passed ≡ 0
-  pub prox : point.prox ≡ t.info.prox
-
--- a datum leads to the point
-pub record IsLedTo (t : RuledTerm) (value : TermData) (point : SkipPoint) : Type 0 where
-  pub level : ℕ
-  pub number : ℕ
-  pub level_below : level < level_count t
-  pub number_below : number < data_count t level
-  pub passed : point.passed ≡ suc number * stride t level - 1
-  pub prox : point.prox ≡ t.info.prox + (point_at value level number).prox
-
--- the point is one of the term: its start, or one that a skip datum gives
-abbrev pub IsPointOf : RuledTerm → TermData → SkipPoint → Type 0
-IsPointOf t value point = IsStart t point ⊎ IsLedTo t value point
-
 -- the point is one of a term that stands in both files
 pub record IsPointIn (t : RuledTerm) (prx : List ℕ) (point : SkipPoint) : Type 0 where
   pub value : TermData
   pub occurrences : List (List Occurrence)
   pub good : StandsInBoth t value prx occurrences
-  pub is_point : IsPointOf t value point
+  pub is_point : IsPoint t value point
 
 -- the occurrence that stands here states its payload length
 abbrev pub StatesLength : Bool → Cursor → Type 0

@@ -1,9 +1,10 @@
 //! The occurrences of a term, document by document.
 ghost use Rattle.std.specs.Prelude.{◌≡◌, ◌≤◌, ◌<◌, ◌+◌, ℕ, false, List, [], ◌∷◌, length, slice_index_or, MatchOption};
 ghost use Rattle.freq_skips.specs.Terms.{TermData, term_of};
+ghost use Rattle.freq_skips.specs.Points.{IsPoint};
 ghost use Rattle.positions.specs.Occurrences.{Occurrence, count_at};
 ghost use Rattle.positions.specs.Standing.{count_before};
-ghost use Rattle.positions.specs.Cursors.{StandsInBoth, IsPointOf, IsPointIn, IsAmong, posted_term};
+ghost use Rattle.positions.specs.Cursors.{StandsInBoth, IsPointIn, IsAmong, posted_term};
 ghost use Rattle.positions.specs.Parts.{occurrence_seen};
 
 use crate::placing::reading_at;
@@ -62,7 +63,7 @@ impl<'a> Occurrences<'a> {
         point: &SkipPoint,
     ) -> Occurrences<'a>
         requires { IsPointIn (term_of info.now rules.now) prx.now point.now }
-        ensures { (value : TermData) (occurrences : List (List Occurrence)) → StandsInBoth (term_of info.now rules.now) value prx.entry.now occurrences → IsPointOf (term_of info.now rules.now) value point.now
+        ensures { (value : TermData) (occurrences : List (List Occurrence)) → StandsInBoth (term_of info.now rules.now) value prx.entry.now occurrences → IsPoint (term_of info.now rules.now) value point.now
             → IsAmong (term_of info.now rules.now) value occurrences point.now.passed [] result }
     {
         let term = RuledTerm {
@@ -119,7 +120,7 @@ impl<'a> Occurrences<'a> {
     /// force is found as `at` does it.
     pub fn jump(&mut self, point: &SkipPoint)
         requires { IsPointIn self.old.term self.old.prx point.now }
-        ensures { (value : TermData) (occurrences : List (List Occurrence)) → StandsInBoth self.old.term value self.old.prx occurrences → IsPointOf self.old.term value point.now
+        ensures { (value : TermData) (occurrences : List (List Occurrence)) → StandsInBoth self.old.term value self.old.prx occurrences → IsPoint self.old.term value point.now
             → IsAmong self.old.term value occurrences point.now.passed [] self.new }
     {
         self.reading = reading_at(self.prx, &self.term, point);

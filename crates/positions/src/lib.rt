@@ -14,3 +14,6 @@ pub use check::check_term;
 pub use laws::{skip_data_lead, terms_in_turn};
 pub use occurrences::{Occ, Occurrences};
 pub use writer::ProxWriter;
+
+#[cfg(test)]
+mod tests;

@@ -62,14 +62,14 @@ has_datum-is t passed level h = let e : passed % stride t level ≡ 0 = h.2 in g
 other-true : (b : Bool) (m n : ℕ) → b ≡ true → m ≢ n → b && not (m == n) ≡ true
 other-true b m n e ne = let t : (m == n) ≡ false = grind (arith, nat_tests) in rw (e, t) refl
 
-other-false : (b : Bool) (m n : ℕ) → m ≡ n → b && not (m == n) ≡ false
+pub other-false : (b : Bool) (m n : ℕ) → m ≡ n → b && not (m == n) ≡ false
 other-false b m n e = let t : (m == n) ≡ true = grind (arith, nat_tests) in rw t (and-false b)
   where
     and-false : (b : Bool) → b && false ≡ false
     and-false true = refl
     and-false false = refl
 
-other-none : (b : Bool) (m n : ℕ) → b ≡ false → b && not (m == n) ≡ false
+pub other-none : (b : Bool) (m n : ℕ) → b ≡ false → b && not (m == n) ≡ false
 other-none b m n e = rw e refl
 
 pub sum-true : (p : PostedTerm) (passed so_far level : ℕ) (d : Datum) → HasDatum p.term level passed → d ≡ datum_of (datum_at p passed level) → d.prox ≢ so_far → tells_other_sum p passed so_far level ≡ true

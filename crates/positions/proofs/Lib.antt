@@ -16,3 +16,8 @@ pub mod OmittedLemmas
 pub mod PassLemmas
 pub mod AgreeLemmas
 pub mod TurnLemmas
+pub mod WrittenRecords
+pub mod WrittenDocuments
+pub mod WrittenTerms
+pub mod WritingLemmas
+pub mod BesideLemmas

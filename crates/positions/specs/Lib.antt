@@ -7,3 +7,4 @@ pub mod Cursors
 pub mod Walked
 pub mod Written
 pub mod Writing
+pub mod Beside

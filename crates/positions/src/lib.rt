@@ -11,9 +11,13 @@ mod record;
 mod writer;
 
 pub use check::check_term;
-pub use laws::{skip_data_lead, terms_in_turn};
+pub use laws::{
+    skip_data_lead, terms_in_turn, what_is_held, written_is_read, written_together,
+};
 pub use occurrences::{Occ, Occurrences};
 pub use writer::ProxWriter;
 
+#[cfg(test)]
+mod drawn_tests;
 #[cfg(test)]
 mod tests;

@@ -63,7 +63,7 @@ fn checked(
 
 /// The occurrences of a term, before the entry that the last point below the target leads to, and how many entries are before it;
 /// none where one of its parts is not good.
-fn occurrences_from<'a>(
+pub fn occurrences_from<'a>(
     prx: &'a [u8],
     frq: &[u8],
     info: &TermInfo,
@@ -77,18 +77,21 @@ fn occurrences_from<'a>(
     requires prx_small { length prx.now < 2 ^ 31 }
     requires prox_small { info.now.prox ≤ length prx.now }
 {
-    if check_entries(frq, info.freq as usize, info, rules).is_err() {
-        return None;
+    match check_entries(frq, info.freq as usize, info, rules) {
+        Err(_spot) => None,
+        Ok(_end) => match check_term(prx, info.prox as usize, frq, info, rules) {
+            Err(_spot) => None,
+            Ok(_end) => {
+                let mut steps: Steps<Read> = Steps::new();
+                let mut skips = Skips::at(frq, info, rules);
+                let point = skips.find(target, &mut steps);
+                let start = SkipPoint::start(info);
+                let mut occurrences = Occurrences::at(prx, info, rules, &start);
+                occurrences.jump(&point);
+                Some((occurrences, point.passed))
+            }
+        },
     }
-    if check_term(prx, info.prox as usize, frq, info, rules).is_err() {
-        return None;
-    }
-    let mut steps: Steps<Read> = Steps::new();
-    let mut skips = Skips::at(frq, info, rules);
-    let point = skips.find(target, &mut steps);
-    let mut occurrences = Occurrences::at(prx, info, rules, &SkipPoint::start(info));
-    occurrences.jump(&point);
-    Some((occurrences, point.passed))
 }
 
 /// Whether the occurrences from the last point below a target on are these, and how many entries are before it.
@@ -116,15 +119,20 @@ fn reads(
     let mut steps: Steps<Read> = Steps::new();
     let mut entries = Entries::at(frq, info, rules);
     let mut left = wanted.1.iter();
-    for index in 0..info.doc_freq {
+    let mut skipped = 0;
+    for _ in 0..info.doc_freq {
         let Some(entry) = entries.next(&mut steps) else {
             return false;
         };
-        if index < passed {
+        if skipped < passed {
+            skipped += 1;
             continue;
         }
         occurrences.open_doc(0, entry.freq);
-        while let Some(occ) = occurrences.next() {
+        for _ in 0..u64::from(entry.freq) + 1 {
+            let Some(occ) = occurrences.next() else {
+                break;
+            };
             match left.next() {
                 None => return false,
                 Some((position, payload)) => {

@@ -1,14 +1,14 @@
 -- What a writer holds after each entry that it was handed.
-use Rattle.std.proofs.Common.{◌≡◌, ℕ, suc, add-one, ◌+◌, ◌-◌, ◌*◌, ◌/◌, ◌%◌, ◌<◌, ◌≤◌, eqb, Bool, true, false, List, [], ◌∷◌, ◌++◌, length, take, get_or, inl, inr, refl, sym, ap, subst, ◌∙◌, append_assoc, arith}
+use Rattle.std.proofs.Common.{◌≡◌, ◌≢◌, ℕ, suc, add-one, ◌+◌, ◌-◌, ◌*◌, ◌/◌, ◌%◌, ◌<◌, ◌≤◌, ◌^◌, ◌⊎◌, true, false, Bool, List, [], ◌∷◌, ◌++◌, length, take, get_or, inl, inr, refl, sym, ap, ◌∙◌, append_assoc, arith}
 use Rattle.std.specs.Prelude.{slice_index_or, if◌then◌else◌}
-use Rattle.std.proofs.lemmas.Bool.{cases_eq, cases_lt, eq-eqb, ne_eqb}
-use Rattle.std.proofs.lemmas.List.{length-append, append-nil, take-append-le}
+use Rattle.std.proofs.lemmas.Bool.{cases_lt}
+use Rattle.std.proofs.lemmas.List.{length-append, append-nil, take-append-le, length-take-le}
 use Rattle.std.proofs.Math.ListN.{get_or-append}
 use Rattle.std.proofs.Math.Seq.{get_or-append_seam, take-append_seam}
 use Rattle.std.proofs.Math.Nat.{zero-div, div-mul-le_self, mul-le-mul_right}
 use Rattle.freq_skips.specs.declared.writer.Mark.{Mark}
-use Rattle.freq_skips.specs.Written.{Handed, no_handed, entry_bytes, entries_bytes, last_doc, mark_of, no_mark}
-use Rattle.freq_skips.specs.Writing.{WriterState, begun, added, mark_now, IsWriting}
+use Rattle.freq_skips.specs.Written.{Handed, no_handed, entry_bytes, entries_bytes, last_doc, mark_of, no_mark, AreInOrder}
+use Rattle.freq_skips.specs.InnerLevels.{HasMarks}
 use Rattle.freq_skips.proofs.Powers.{quotient-same, multiple-index, multiple-next}
 
 -- one entry more at the end
@@ -39,15 +39,9 @@ mark_of-last omit handed h =
     let here = get_or-append_seam handed h [] no_handed in
     ap (λ (l : List Handed). mark_from omit l (get_or (handed ++ h ∷ []) (length handed) no_handed)) front ∙ ap (λ (g : Handed). mark_from omit handed g) here
 
-pub IsWriting-begun : (w : WriterState) (omit payloads : Bool) → IsWriting (begun w omit payloads) w.bytes []
-IsWriting-begun w omit payloads = record {
-  bytes = sym (append-nil w.bytes);
-  start = refl;
-  count = refl;
-  doc = refl;
-  mark_count = sym (zero-div w.interval);
-  marks = λ j lt. absurd (omega arith);
-}
+-- no entry has no mark
+pub HasMarks-none : (omit : Bool) (interval : ℕ) → HasMarks omit interval [] []
+HasMarks-none omit interval = record { count = sym (zero-div interval); are = λ j lt. absurd (omega arith) }
 
 -- the entry of a mark is among those that were handed over
 mark-within : (j count interval : ℕ) → 2 ≤ interval → j < count / interval → suc j * interval - 1 < count
@@ -57,63 +51,70 @@ mark-within j count interval two lt =
     let some : 1 * interval ≤ suc j * interval = mul-le-mul_right interval (let one : 1 ≤ suc j = omega arith in one) in
     omega arith
 
--- the marks after one entry more, where it has one and where it has none
-added-bytes : (w : WriterState) (written : List ℕ) (handed : List Handed) (h : Handed) → IsWriting w written handed → (added w h).bytes ≡ written ++ entries_bytes w.omit 0 (handed ++ h ∷ [])
-added-bytes w written handed h i =
-    ap (λ (b : List ℕ). b ++ entry_bytes w.omit w.doc h) i.bytes
-    ∙ append_assoc written (entries_bytes w.omit 0 handed) (entry_bytes w.omit w.doc h)
-    ∙ ap (λ (d : ℕ). written ++ (entries_bytes w.omit 0 handed ++ entry_bytes w.omit d h)) i.doc
-    ∙ ap (λ (b : List ℕ). written ++ b) (sym (entries_bytes-more w.omit 0 handed h))
+-- the marks that there are stay
+marks-kept : (omit : Bool) (interval : ℕ) (entries : List Handed) (marks : List Mark) (h : Handed) → 2 ≤ interval → HasMarks omit interval entries marks → (j : ℕ) → j < length marks
+    → slice_index_or marks j no_mark ≡ mark_of omit (entries ++ h ∷ []) (suc j * interval - 1)
+marks-kept omit interval entries marks h two has j lt =
+    has.are j lt ∙ sym (mark_of-same omit entries (h ∷ []) (suc j * interval - 1) (mark-within j (length entries) interval two (let c = has.count in omega arith)))
 
-HasMarks : Bool → ℕ → List Handed → List Mark → Type 0
-HasMarks omit interval handed marks = (j : ℕ) → j < length marks → slice_index_or marks j no_mark ≡ mark_of omit handed (suc j * interval - 1)
+-- one entry more, which has a mark, and one that has none
+pub HasMarks-more : (omit : Bool) (interval : ℕ) (entries : List Handed) (marks : List Mark) (h : Handed) (m : Mark) → 2 ≤ interval → HasMarks omit interval entries marks → (length entries + 1) % interval ≡ 0
+    → m ≡ record { doc = last_doc 0 entries; freq = length (entries_bytes omit 0 entries); prox = if omit then 0 else h.prox } → HasMarks omit interval (entries ++ h ∷ []) (marks ++ m ∷ [])
+HasMarks-more omit interval entries marks h m two has e is =
+    let next = multiple-next (length entries) interval (omega arith) e in
+    let size = length-append marks (m ∷ []) in
+    let long = length-append entries (h ∷ []) in
+    record {
+      count = size ∙ omega (arith, has.count, next) ∙ ap (λ (n : ℕ). n / interval) (sym long);
+      are = λ j lt. elim (cases_lt j (length marks)) [
+        | inl low ↦ get_or-append marks (m ∷ []) no_mark j low ∙ marks-kept omit interval entries marks h two has j low
+        | inr ge ↦
+            let last : j ≡ length marks = omega (arith, size) in
+            let index : suc j * interval - 1 ≡ length entries = multiple-index (length entries) interval j (omega arith) e (last ∙ has.count) ∙ (omega arith) in
+            ap (λ (n : ℕ). get_or (marks ++ m ∷ []) n no_mark) last ∙ get_or-append_seam marks m [] no_mark
+            ∙ is ∙ sym (mark_of-last omit entries h) ∙ ap (λ (n : ℕ). mark_of omit (entries ++ h ∷ []) n) (sym index)
+      ];
+    }
 
-marks-kept : (w : WriterState) (written : List ℕ) (handed : List Handed) (h : Handed) → 2 ≤ w.interval → IsWriting w written handed → (j : ℕ) → j < length w.marks
-    → slice_index_or w.marks j no_mark ≡ mark_of w.omit (handed ++ h ∷ []) (suc j * w.interval - 1)
-marks-kept w written handed h two i j lt =
-    i.marks j lt ∙ sym (mark_of-same w.omit handed (h ∷ []) (suc j * w.interval - 1) (let in_count = mark-within j w.count w.interval two (subst (λ (n : ℕ). j < n) i.mark_count lt) in omega (arith, i.count)))
+pub HasMarks-same : (omit : Bool) (interval : ℕ) (entries : List Handed) (marks : List Mark) (h : Handed) → 2 ≤ interval → HasMarks omit interval entries marks → (length entries + 1) % interval ≢ 0 → HasMarks omit interval (entries ++ h ∷ []) marks
+HasMarks-same omit interval entries marks h two has ne = record {
+  count = has.count ∙ sym (quotient-same (length entries) interval (omega arith) ne) ∙ ap (λ (n : ℕ). n / interval) (let long = length-append entries (h ∷ []) in let e : suc (length entries) ≡ length (entries ++ h ∷ []) = omega arith in e);
+  are = marks-kept omit interval entries marks h two has;
+}
 
-abbrev mark_with : ℕ → ℕ → ℕ → Mark
-mark_with doc freq prox = record { doc = doc; freq = freq; prox = prox }
+-- entries in order, with one more behind the last
+order-later : (limit last : ℕ) (hs : List Handed) (h : Handed) → AreInOrder limit false last hs → last_doc last hs < h.doc → h.doc < limit → h.doc < 2 ^ 31 → 1 ≤ h.freq → h.freq < 2 ^ 31 → AreInOrder limit false last (hs ++ h ∷ [])
+order-later limit last [] h order lt below small some few = (omega arith, below, small, some, few, tt)
+order-later limit last (g ∷ gs) h order lt below small some few = (order.0, order.1, order.2, order.3, order.4, order-later limit g.doc gs h order.5 lt below small some few)
 
-mark-new : (w : WriterState) (written : List ℕ) (handed : List Handed) (h : Handed) → IsWriting w written handed → mark_now w h.prox ≡ mark_of w.omit (handed ++ h ∷ []) (length handed)
-mark-new w written handed h i =
-    let size : length w.bytes - w.start ≡ length (entries_bytes w.omit 0 handed) = omega (arith, ap length i.bytes, length-append written (entries_bytes w.omit 0 handed), i.start) in
-    ap (λ (d : ℕ). mark_with d (length w.bytes - w.start) (if w.omit then 0 else h.prox)) i.doc
-    ∙ ap (λ (n : ℕ). mark_with (last_doc 0 handed) n (if w.omit then 0 else h.prox)) size ∙ sym (mark_of-last w.omit handed h)
+pub order-more : (limit : ℕ) (hs : List Handed) (h : Handed) → AreInOrder limit true 0 hs → (hs ≡ []) ⊎ (last_doc 0 hs < h.doc) → h.doc < limit → h.doc < 2 ^ 31 → 1 ≤ h.freq → h.freq < 2 ^ 31 → AreInOrder limit true 0 (hs ++ h ∷ [])
+order-more limit [] h order which below small some few = (omega arith, below, small, some, few, tt)
+order-more limit (g ∷ gs) h order (inl none) below small some few = cc
+order-more limit (g ∷ gs) h order (inr lt) below small some few = (order.0, order.1, order.2, order.3, order.4, order-later limit g.doc gs h order.5 lt below small some few)
 
-pub IsWriting-added : (w : WriterState) (written : List ℕ) (handed : List Handed) (h : Handed) → 2 ≤ w.interval → IsWriting w written handed → IsWriting (added w h) written (handed ++ h ∷ [])
-unfolding HasMarks
-IsWriting-added w written handed h two i = elim (cases_eq ((w.count + 1) % w.interval) 0) [
-  | inl e ↦
-      let test : eqb ((w.count + 1) % w.interval) 0 ≡ true = eq-eqb _ _ e in
-      let next = multiple-next w.count w.interval (omega arith) e in
-      let size = length-append w.marks (mark_now w h.prox ∷ []) in
-      let is : (added w h).marks ≡ w.marks ++ mark_now w h.prox ∷ [] = rw test refl in
-      record {
-        bytes = added-bytes w written handed h i;
-        start = i.start;
-        count = omega (arith, i.count, length-append handed (h ∷ []));
-        doc = sym (last_doc-more 0 handed h);
-        mark_count = ap length is ∙ omega (arith, size, i.mark_count, next);
-        marks = subst (HasMarks w.omit w.interval (handed ++ h ∷ [])) (sym is) (λ j lt. elim (cases_lt j (length w.marks)) [
-          | inl low ↦ get_or-append w.marks (mark_now w h.prox ∷ []) no_mark j low ∙ marks-kept w written handed h two i j low
-          | inr ge ↦
-              let last : j ≡ length w.marks = omega (arith, size) in
-              let index : suc j * w.interval - 1 ≡ length handed = multiple-index w.count w.interval j (omega arith) e (last ∙ i.mark_count) ∙ omega (arith, i.count) in
-              ap (λ (n : ℕ). get_or (w.marks ++ mark_now w h.prox ∷ []) n no_mark) last ∙ get_or-append_seam w.marks (mark_now w h.prox) [] no_mark
-              ∙ mark-new w written handed h i ∙ ap (λ (n : ℕ). mark_of w.omit (handed ++ h ∷ []) n) (sym index)
-        ]);
-      }
-  | inr ne ↦
-      let test : eqb ((w.count + 1) % w.interval) 0 ≡ false = ne_eqb _ _ ne in
-      let is : (added w h).marks ≡ w.marks = rw test refl in
-      record {
-        bytes = added-bytes w written handed h i;
-        start = i.start;
-        count = omega (arith, i.count, length-append handed (h ∷ []));
-        doc = sym (last_doc-more 0 handed h);
-        mark_count = ap length is ∙ i.mark_count ∙ sym (quotient-same w.count w.interval (omega arith) ne) ∙ ap (λ (n : ℕ). n / w.interval) (sym (add-one w.count));
-        marks = subst (HasMarks w.omit w.interval (handed ++ h ∷ [])) (sym is) (marks-kept w written handed h two i);
-      }
-]
+-- as many entries as documents up to the last, at most
+many-later : (limit last : ℕ) (hs : List Handed) → AreInOrder limit false last hs → last + length hs ≤ last_doc last hs
+many-later limit last [] order = omega arith
+many-later limit last (h ∷ hs) order = let rest = many-later limit h.doc hs order.5 in let up = order.0 in omega arith
+
+pub entries-few : (limit : ℕ) (hs : List Handed) → AreInOrder limit true 0 hs → length hs ≤ last_doc 0 hs + 1
+entries-few limit [] order = omega arith
+entries-few limit (h ∷ hs) order = let rest = many-later limit h.doc hs order.5 in omega arith
+
+pub last-small : (limit last : ℕ) (first : Bool) (hs : List Handed) → last < 2 ^ 31 → AreInOrder limit first last hs → last_doc last hs < 2 ^ 31
+last-small limit last first [] small order = small
+last-small limit last first (h ∷ hs) small order = last-small limit h.doc false hs order.2 order.5
+
+-- the bytes with one entry more
+pub written-more : (omit : Bool) (start : ℕ) (bytes more : List ℕ) (entries : List Handed) (h : Handed) → start ≤ length bytes → bytes ≡ take start bytes ++ entries_bytes omit 0 entries → more ≡ bytes ++ entry_bytes omit (last_doc 0 entries) h
+    → (take start more ≡ take start bytes) × (more ≡ take start more ++ entries_bytes omit 0 (entries ++ h ∷ []))
+written-more omit start bytes more entries h le is grown =
+    let front : take start more ≡ take start bytes = ap (take start) grown ∙ take-append-le start bytes (entry_bytes omit (last_doc 0 entries) h) le in (
+      front,
+      grown ∙ ap (λ (b : List ℕ). b ++ entry_bytes omit (last_doc 0 entries) h) is ∙ append_assoc (take start bytes) (entries_bytes omit 0 entries) (entry_bytes omit (last_doc 0 entries) h)
+          ∙ ap (λ (b : List ℕ). take start bytes ++ b) (sym (entries_bytes-more omit 0 entries h)) ∙ ap (λ (b : List ℕ). b ++ entries_bytes omit 0 (entries ++ h ∷ [])) (sym front),
+    )
+
+-- how many bytes the entries take
+pub entries-long : (omit : Bool) (start : ℕ) (bytes : List ℕ) (entries : List Handed) → start ≤ length bytes → bytes ≡ take start bytes ++ entries_bytes omit 0 entries → length bytes - start ≡ length (entries_bytes omit 0 entries)
+entries-long omit start bytes entries le is = omega (arith, ap length is, length-append (take start bytes) (entries_bytes omit 0 entries), length-take-le start bytes le)

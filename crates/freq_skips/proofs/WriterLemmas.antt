@@ -10,32 +10,33 @@ use Rattle.std.proofs.lemmas.List.{length-append}
 use Rattle.lu_grammar.specs.Parts.{vlong}
 use Rattle.freq_skips.specs.declared.datum.Skip.{Skip}
 use Rattle.freq_skips.specs.declared.writer.Mark.{Mark}
-use Rattle.freq_skips.specs.Written.{no_mark, optional_bytes, skip_between, front_bytes, datum_bytes, Rise, mark_after, child_after, written_skip, data_bytes, places_after, AreSmallPlaces, risen, rise_count, with_length, skip_bytes}
+use Rattle.freq_skips.specs.Written.{no_mark, optional_bytes, skip_between, front_bytes, datum_bytes, with_length}
+use Rattle.freq_skips.specs.InnerLevels.{LevelMarks, marked_after, pointed_after, marked_skip, marked_bytes, places_after, AreSmallPlaces, marked_above, marked_count, marked_levels}
 
-pub data_bytes-none : (r : Rise) → data_bytes r 0 ≡ []
-unfolding data_bytes
-data_bytes-none r = refl
+pub marked_bytes-none : (r : LevelMarks) → marked_bytes r 0 ≡ []
+unfolding marked_bytes
+marked_bytes-none r = refl
 
-pub places_after-none : (r : Rise) → places_after r 0 ≡ []
+pub places_after-none : (r : LevelMarks) → places_after r 0 ≡ []
 unfolding places_after
 places_after-none r = refl
 
-pub data_bytes-next : (r : Rise) (m : ℕ) (before after : List ℕ) (d : Skip) → before ≡ data_bytes r m → d ≡ written_skip r m → after ≡ before ++ front_bytes d ++ optional_bytes vlong d.child → after ≡ data_bytes r (m + 1)
-unfolding data_bytes
-data_bytes-next r m before after d is same e =
-    e ∙ append_assoc before (front_bytes d) (optional_bytes vlong d.child) ∙ ap (λ (s : Skip). before ++ datum_bytes s) same ∙ ap (λ (b : List ℕ). b ++ datum_bytes (written_skip r m)) is ∙ ap (data_bytes r) (sym (add-one m))
+pub marked_bytes-next : (r : LevelMarks) (m : ℕ) (before after : List ℕ) (d : Skip) → before ≡ marked_bytes r m → d ≡ marked_skip r m → after ≡ before ++ front_bytes d ++ optional_bytes vlong d.child → after ≡ marked_bytes r (m + 1)
+unfolding marked_bytes
+marked_bytes-next r m before after d is same e =
+    e ∙ append_assoc before (front_bytes d) (optional_bytes vlong d.child) ∙ ap (λ (s : Skip). before ++ datum_bytes s) same ∙ ap (λ (b : List ℕ). b ++ datum_bytes (marked_skip r m)) is ∙ ap (marked_bytes r) (sym (add-one m))
 
-pub places_after-next : (r : Rise) (m : ℕ) (bytes before after : List ℕ) (d : Skip) (place : ℕ) → bytes ≡ data_bytes r m → before ≡ places_after r m → d ≡ written_skip r m → (m + 1) % r.interval ≡ 0
+pub places_after-next : (r : LevelMarks) (m : ℕ) (bytes before after : List ℕ) (d : Skip) (place : ℕ) → bytes ≡ marked_bytes r m → before ≡ places_after r m → d ≡ marked_skip r m → (m + 1) % r.interval ≡ 0
     → place ≡ length (bytes ++ front_bytes d) → after ≡ before ++ place ∷ [] → after ≡ places_after r (m + 1)
 unfolding places_after
 places_after-next r m bytes before after d place is pointed same e at f =
     let test : eqb (suc m % r.interval) 0 ≡ true = eq-eqb _ _ (ap (λ (n : ℕ). n % r.interval) (sym (add-one m)) ∙ e) in
-    let here : place ≡ length (data_bytes r m) + length (front_bytes (written_skip r m)) =
-    at ∙ length-append bytes (front_bytes d) ∙ ap (λ (b : List ℕ). length b + length (front_bytes d)) is ∙ ap (λ (s : Skip). length (data_bytes r m) + length (front_bytes s)) same in
+    let here : place ≡ length (marked_bytes r m) + length (front_bytes (marked_skip r m)) =
+    at ∙ length-append bytes (front_bytes d) ∙ ap (λ (b : List ℕ). length b + length (front_bytes d)) is ∙ ap (λ (s : Skip). length (marked_bytes r m) + length (front_bytes s)) same in
     let step : after ≡ places_after r (suc m) = rw test (f ∙ ap (λ (b : List ℕ). b ++ place ∷ []) pointed ∙ ap (λ (n : ℕ). places_after r m ++ n ∷ []) here) in
     step ∙ ap (places_after r) (sym (add-one m))
 
-pub places_after-same : (r : Rise) (m : ℕ) (before : List ℕ) → before ≡ places_after r m → (m + 1) % r.interval ≢ 0 → before ≡ places_after r (m + 1)
+pub places_after-same : (r : LevelMarks) (m : ℕ) (before : List ℕ) → before ≡ places_after r m → (m + 1) % r.interval ≢ 0 → before ≡ places_after r (m + 1)
 unfolding places_after
 places_after-same r m before pointed ne =
     let test : eqb (suc m % r.interval) 0 ≡ false = ne_eqb _ _ (λ e. ne (ap (λ (n : ℕ). n % r.interval) (add-one m) ∙ e)) in
@@ -43,10 +44,10 @@ places_after-same r m before pointed ne =
     step ∙ ap (places_after r) (sym (add-one m))
 
 -- the datum that follows so many, by its parts
-pub written_skip-is : (r : Rise) (m : ℕ) (d : Skip) (from to : Mark) (child : Option ℕ) → d ≡ skip_between r.payloads from to child → from ≡ mark_after r m → to ≡ mark_after r (m + 1) → child ≡ child_after r m → d ≡ written_skip r m
-written_skip-is r m d from to child is a b c =
-    is ∙ ap (λ (x : Mark). skip_between r.payloads x to child) a ∙ ap (λ (x : Mark). skip_between r.payloads (mark_after r m) x child) (b ∙ ap (mark_after r) (add-one m))
-    ∙ ap (λ (x : Option ℕ). skip_between r.payloads (mark_after r m) (mark_after r (suc m)) x) c
+pub marked_skip-is : (r : LevelMarks) (m : ℕ) (d : Skip) (from to : Mark) (child : Option ℕ) → d ≡ skip_between r.payloads from to child → from ≡ marked_after r m → to ≡ marked_after r (m + 1) → child ≡ pointed_after r m → d ≡ marked_skip r m
+marked_skip-is r m d from to child is a b c =
+    is ∙ ap (λ (x : Mark). skip_between r.payloads x to child) a ∙ ap (λ (x : Mark). skip_between r.payloads (marked_after r m) x child) (b ∙ ap (marked_after r) (add-one m))
+    ∙ ap (λ (x : Option ℕ). skip_between r.payloads (marked_after r m) (marked_after r (suc m)) x) c
 
 -- one place more is small
 pub AreSmallPlaces-none : AreSmallPlaces []
@@ -59,13 +60,13 @@ AreSmallPlaces-more (p ∷ ps) place h lt zero = h 0
 AreSmallPlaces-more (p ∷ ps) place h lt (suc k) = AreSmallPlaces-more ps place (λ i. h (suc i)) lt k
 
 -- one place for every so many data
-pub places_after-length : (r : Rise) (m : ℕ) → 0 < r.interval → length (places_after r m) ≡ m / r.interval
+pub places_after-length : (r : LevelMarks) (m : ℕ) → 0 < r.interval → length (places_after r m) ≡ m / r.interval
 unfolding places_after
 places_after-length r zero pos = sym (zero-div r.interval)
 places_after-length r (suc m) pos = elim (cases_eq ((m + 1) % r.interval) 0) [
   | inl e ↦
       let test : eqb (suc m % r.interval) 0 ≡ true = eq-eqb _ _ (ap (λ (n : ℕ). n % r.interval) (sym (add-one m)) ∙ e) in
-      let place = length (data_bytes r m) + length (front_bytes (written_skip r m)) in
+      let place = length (marked_bytes r m) + length (front_bytes (marked_skip r m)) in
       rw test (omega (arith, length-append (places_after r m) (place ∷ []), places_after-length r m pos, quotient-next m r.interval pos e))
   | inr ne ↦
       let test : eqb (suc m % r.interval) 0 ≡ false = ne_eqb _ _ (λ e. ne (ap (λ (n : ℕ). n % r.interval) (add-one m) ∙ e)) in
@@ -73,14 +74,14 @@ places_after-length r (suc m) pos = elim (cases_eq ((m + 1) % r.interval) 0) [
 ]
 
 -- the levels from this one on
-pub skip_bytes-none : (r : Rise) (k : ℕ) → k ≡ 0 → skip_bytes k r ≡ []
-unfolding skip_bytes
-skip_bytes-none r zero e = refl
-skip_bytes-none r (suc k) e = cc
+pub marked_levels-none : (r : LevelMarks) (k : ℕ) → k ≡ 0 → marked_levels k r ≡ []
+unfolding marked_levels
+marked_levels-none r zero e = refl
+marked_levels-none r (suc k) e = cc
 
-pub skip_bytes-next : (r : Rise) (k n : ℕ) → n ≡ suc k → skip_bytes n r ≡ skip_bytes k (risen r) ++ with_length r.number (data_bytes r (rise_count r))
-unfolding skip_bytes
-skip_bytes-next r k n e = ap (λ (m : ℕ). skip_bytes m r) e
+pub marked_levels-next : (r : LevelMarks) (k n : ℕ) → n ≡ suc k → marked_levels n r ≡ marked_levels k (marked_above r) ++ with_length r.number (marked_bytes r (marked_count r))
+unfolding marked_levels
+marked_levels-next r k n e = ap (λ (m : ℕ). marked_levels m r) e
 
 -- what follows where a call succeeded
 pub OnOk-then : {A E : Type 0} {P Q : Type 0} (r : Result A E) → OnOk r P → (P → Q) → OnOk r Q
@@ -111,9 +112,9 @@ pub step-pos : (step interval : ℕ) → 0 < step → 2 ≤ interval → 0 < ste
 step-pos step interval pos two = let up : step * 1 ≤ step * interval = mul-le-mul_left step (let one : 1 ≤ interval = omega arith in one) in omega arith
 
 -- there is a place for each datum of the level above
-pub places-enough : (r : Rise) (places : List ℕ) → 2 ≤ r.interval → places ≡ places_after r (rise_count r) → length r.marks / (r.step * r.interval) ≤ length places
+pub places-enough : (r : LevelMarks) (places : List ℕ) → 2 ≤ r.interval → places ≡ places_after r (marked_count r) → length r.marks / (r.step * r.interval) ≤ length places
 places-enough r places two is =
-    let count = ap length is ∙ places_after-length r (rise_count r) (omega arith) in
+    let count = ap length is ∙ places_after-length r (marked_count r) (omega arith) in
     omega (arith, count, div-div-eq-div-mul (length r.marks) r.step r.interval)
 
 -- the steps of all levels of a term
@@ -150,6 +151,6 @@ pub order-more : (count doc n d next : ℕ) → (count ≡ 0) ⊎ (doc < next) �
 order-more count doc n d next (inl e) a b le = omega arith
 order-more count doc n d next (inr lt) a b le = omega arith
 
-pub data_bytes-more : (r : Rise) (m : ℕ) → data_bytes r (suc m) ≡ data_bytes r m ++ datum_bytes (written_skip r m)
-unfolding data_bytes
-data_bytes-more r m = refl
+pub marked_bytes-more : (r : LevelMarks) (m : ℕ) → marked_bytes r (suc m) ≡ marked_bytes r m ++ datum_bytes (marked_skip r m)
+unfolding marked_bytes
+marked_bytes-more r m = refl

@@ -14,10 +14,18 @@ use Rattle.freq_skips.specs.declared.writer.Mark.{Mark}
 use Rattle.freq_skips.specs.Records.{datum, alone, states_payload, datum_shape, length_to_child, datum_length, optional_length}
 use Rattle.freq_skips.specs.Entries.{Posting}
 use Rattle.freq_skips.specs.Levels.{Along, no_datum, no_point, Level, level_of, level_start, wanted, child_above, length_at, is_first_datum, differs, skipped, number_or, datum_conditions, point_of, with_point, datum_kind, posting_at}
-use Rattle.freq_skips.specs.Written.{optional_bytes, front_bytes, datum_bytes, Rise, mark_after, child_after, written_skip, data_bytes, rise_count}
+use Rattle.freq_skips.specs.Written.{optional_bytes, front_bytes, datum_bytes, SkipLevel, mark_after, child_after, written_skip, data_bytes, data_with, data_number}
 use Rattle.freq_skips.proofs.LevelLemmas.{level_start-push}
-use Rattle.freq_skips.proofs.WriterLemmas.{data_bytes-none, data_bytes-more}
 use Rattle.freq_skips.proofs.WrittenEntries.{Stated, Spells-optional, not-same, and-false, even, half-even}
+
+-- no datum, and one datum more
+pub data_bytes-none : (r : SkipLevel) → data_bytes r 0 ≡ []
+unfolding data_with
+data_bytes-none r = refl
+
+pub data_bytes-more : (r : SkipLevel) (m : ℕ) → data_bytes r (suc m) ≡ data_bytes r m ++ datum_bytes (written_skip r m)
+unfolding data_with
+data_bytes-more r m = refl
 
 -- how many bytes a datum takes
 pub front_bytes-length : (d : Skip) → length (front_bytes d) ≡ length_to_child d
@@ -83,43 +91,43 @@ abbrev pub IsUpTo : Mark → Mark → Type 0
 IsUpTo a b = (a.doc ≤ b.doc) × (a.freq ≤ b.freq) × (a.prox ≤ b.prox)
 
 -- a level that is written leads to the entries, and the level above leads to it
-pub record Rises (t : RuledTerm) (ps : List Posting) (r : Rise) (above : List (List Point)) (stated : Option ℕ) (base : ℕ) : Type 0 where
+pub record Rises (t : RuledTerm) (ps : List Posting) (r : SkipLevel) (above : List (List Point)) (stated : Option ℕ) (base : ℕ) : Type 0 where
   pub payloads : r.payloads ≡ t.rules.payloads
-  pub up : (m : ℕ) → m < rise_count r → IsUpTo (mark_after r m) (mark_after r (suc m))
-  pub doc : (m : ℕ) → m < rise_count r → (mark_after r (suc m)).doc ≡ (posting_at t r.number ps (suc m)).before
-  pub freq : (m : ℕ) → m < rise_count r → (mark_after r (suc m)).freq ≡ (posting_at t r.number ps (suc m)).place - t.info.freq
-  pub omit : (m : ℕ) → m < rise_count r → t.rules.omit_tf ≡ true → (mark_after r (suc m)).prox ≡ 0
-  pub small : (m : ℕ) → m < rise_count r → ((mark_after r (suc m)).doc < 2 ^ 31) × ((mark_after r (suc m)).freq < 2 ^ 31) × ((mark_after r (suc m)).prox < 2 ^ 31)
-  pub child : (m : ℕ) → m < rise_count r → differs (child_above t above (suc m)) (length (data_bytes r m) + length (front_bytes (written_skip r m))) ≡ false
-  pub size : (m : ℕ) → m < rise_count r → differs (length_at t (level_of r.number stated above) (suc m)) (length (data_bytes r (suc m))) ≡ false
+  pub up : (m : ℕ) → m < data_number r → IsUpTo (mark_after r m) (mark_after r (suc m))
+  pub doc : (m : ℕ) → m < data_number r → (mark_after r (suc m)).doc ≡ (posting_at t r.number ps (suc m)).before
+  pub freq : (m : ℕ) → m < data_number r → (mark_after r (suc m)).freq ≡ (posting_at t r.number ps (suc m)).place - t.info.freq
+  pub omit : (m : ℕ) → m < data_number r → t.rules.omit_tf ≡ true → (mark_after r (suc m)).prox ≡ 0
+  pub small : (m : ℕ) → m < data_number r → ((mark_after r (suc m)).doc < 2 ^ 31) × ((mark_after r (suc m)).freq < 2 ^ 31) × ((mark_after r (suc m)).prox < 2 ^ 31)
+  pub child : (m : ℕ) → m < data_number r → differs (child_above t above (suc m)) (length (data_bytes r m) + length (front_bytes (written_skip r m))) ≡ false
+  pub size : (m : ℕ) → m < data_number r → differs (length_at t (level_of r.number stated above) (suc m)) (length (data_bytes r (suc m))) ≡ false
   pub first : is_first_datum (level_of r.number stated above) 1 ≡ true → base ≡ t.info.freq + t.info.skip
-  pub child_small : (m : ℕ) → m < rise_count r → Stated vlong (nat_lt 0 r.number) (child_after r m)
+  pub child_small : (m : ℕ) → m < data_number r → Stated vlong (nat_lt 0 r.number) (child_after r m)
 
 -- where the datum leads that follows so many
-abbrev pub written_point : Rise → ℕ → ℕ → Point
+abbrev pub written_point : SkipLevel → ℕ → ℕ → Point
 written_point r base m = record { doc = (mark_after r (suc m)).doc; freq = (mark_after r (suc m)).freq; prox = (mark_after r (suc m)).prox; payload = 0; child = number_or 0 (child_after r m); place = base + length (data_bytes r m) }
 
-abbrev pub written_points : Rise → ℕ → ℕ → List Point
+abbrev pub written_points : SkipLevel → ℕ → ℕ → List Point
 written_points r base zero = []
 written_points r base (suc m) = written_points r base m ++ written_point r base m ∷ []
 
-abbrev pub last_point : Rise → ℕ → ℕ → Point
+abbrev pub last_point : SkipLevel → ℕ → ℕ → Point
 last_point r base zero = no_point
 last_point r base (suc m) = written_point r base m
 
-abbrev pub written_along : Rise → ℕ → ℕ → Along
+abbrev pub written_along : SkipLevel → ℕ → ℕ → Along
 written_along r base m = record { last = last_point r base m; points = written_points r base m }
 
-pub written_points-length : (r : Rise) (base m : ℕ) → length (written_points r base m) ≡ m
+pub written_points-length : (r : SkipLevel) (base m : ℕ) → length (written_points r base m) ≡ m
 written_points-length r base zero = refl
 written_points-length r base (suc m) = omega (arith, length-append (written_points r base m) (written_point r base m ∷ []), written_points-length r base m)
 
-points-begin : (r : Rise) (base m : ℕ) → level_start (written_points r base m) (base + length (data_bytes r m)) ≡ base
+points-begin : (r : SkipLevel) (base m : ℕ) → level_start (written_points r base m) (base + length (data_bytes r m)) ≡ base
 points-begin r base zero = omega (arith, ap length (data_bytes-none r))
 points-begin r base (suc m) = level_start-push (written_points r base m) (written_point r base m) (base + length (data_bytes r (suc m))) ∙ points-begin r base m
 
 -- the sums so far
-last-is : (r : Rise) (base m : ℕ) → ((last_point r base m).doc ≡ (mark_after r m).doc) × ((last_point r base m).freq ≡ (mark_after r m).freq) × ((last_point r base m).prox ≡ (mark_after r m).prox) × ((last_point r base m).payload ≡ 0)
+last-is : (r : SkipLevel) (base m : ℕ) → ((last_point r base m).doc ≡ (mark_after r m).doc) × ((last_point r base m).freq ≡ (mark_after r m).freq) × ((last_point r base m).prox ≡ (mark_after r m).prox) × ((last_point r base m).payload ≡ 0)
 last-is r base zero = (refl, refl, refl, refl)
 last-is r base (suc m) = (refl, refl, refl, refl)
 
@@ -142,12 +150,11 @@ none_of_six : (b0 b1 b2 b3 b4 b5 : Bool) (r0 r1 r2 r3 r4 r5 : ℕ) → b0 ≡ fa
     → first_broken ((record { rule = r0; broken = b0 }) ∷ (record { rule = r1; broken = b1 }) ∷ (record { rule = r2; broken = b2 }) ∷ (record { rule = r3; broken = b3 }) ∷ (record { rule = r4; broken = b4 }) ∷ (record { rule = r5; broken = b5 }) ∷ []) ≡ None
 none_of_six b0 b1 b2 b3 b4 b5 r0 r1 r2 r3 r4 r5 e0 e1 e2 e3 e4 e5 = rw (e0, e1, e2, e3, e4, e5) refl
 
-data_bytes-size : (r : Rise) (m : ℕ) → length (data_bytes r (suc m)) ≡ length (data_bytes r m) + length (datum_bytes (written_skip r m))
-unfolding data_bytes
-data_bytes-size r m = length-append (data_bytes r m) (datum_bytes (written_skip r m))
+data_bytes-size : (r : SkipLevel) (m : ℕ) → length (data_bytes r (suc m)) ≡ length (data_bytes r m) + length (datum_bytes (written_skip r m))
+data_bytes-size r m = ap length (data_bytes-more r m) ∙ length-append (data_bytes r m) (datum_bytes (written_skip r m))
 
 -- the conditions on a datum that is written
-datum-kept : (t : RuledTerm) (ps : List Posting) (r : Rise) (above : List (List Point)) (stated : Option ℕ) (base m : ℕ) → Rises t ps r above stated base → m < rise_count r
+datum-kept : (t : RuledTerm) (ps : List Posting) (r : SkipLevel) (above : List (List Point)) (stated : Option ℕ) (base m : ℕ) → Rises t ps r above stated base → m < data_number r
     → first_broken (datum_conditions t (wanted t ps (level_of r.number stated above) (suc m)) base (last_point r base m) (base + length (data_bytes r m)) (datum (written_skip r m))) ≡ None
 datum-kept t ps r above stated base m h lt =
     let l = level_of r.number stated above in
@@ -171,7 +178,7 @@ datum-kept t ps r above stated base m h lt =
     (ap (λ (n : ℕ). differs w.size n) (omega (arith, datum_bytes-length d, data_bytes-size r m)) ∙ h.size m lt)
 
 -- the numbers of a datum that is written can be told
-skip-told : (t : RuledTerm) (ps : List Posting) (r : Rise) (above : List (List Point)) (stated : Option ℕ) (base m : ℕ) → Rises t ps r above stated base → m < rise_count r → IsTold t r.number (written_skip r m)
+skip-told : (t : RuledTerm) (ps : List Posting) (r : SkipLevel) (above : List (List Point)) (stated : Option ℕ) (base m : ℕ) → Rises t ps r above stated base → m < data_number r → IsTold t r.number (written_skip r m)
 skip-told t ps r above stated base m h lt =
     let a = mark_after r m in
     let b = mark_after r (suc m) in
@@ -196,7 +203,7 @@ abbrev made_point : ℕ → ℕ → ℕ → ℕ → ℕ → ℕ → Point
 made_point doc freq prox payload child place = record { doc = doc; freq = freq; prox = prox; payload = payload; child = child; place = place }
 
 -- where it leads
-point-is-written : (t : RuledTerm) (ps : List Posting) (r : Rise) (above : List (List Point)) (stated : Option ℕ) (base m : ℕ) → Rises t ps r above stated base → m < rise_count r
+point-is-written : (t : RuledTerm) (ps : List Posting) (r : SkipLevel) (above : List (List Point)) (stated : Option ℕ) (base m : ℕ) → Rises t ps r above stated base → m < data_number r
     → point_of t (last_point r base m) (base + length (data_bytes r m)) (datum (written_skip r m)) ≡ written_point r base m
 point-is-written t ps r above stated base m h lt =
     let last = last-is r base m in
@@ -215,14 +222,14 @@ point-is-written t ps r above stated base m h lt =
     ∙ ap (λ (x : ℕ). made_point b.doc b.freq x p.payload child place) prox ∙ ap (λ (x : ℕ). made_point b.doc b.freq b.prox x child place) last.3
 
 -- so many data are written
-pub Writes-data : (t : RuledTerm) (ps : List Posting) (r : Rise) (above : List (List Point)) (stated : Option ℕ) (base m : ℕ) → Rises t ps r above stated base → m ≤ rise_count r
+pub Writes-data : (t : RuledTerm) (ps : List Posting) (r : SkipLevel) (above : List (List Point)) (stated : Option ℕ) (base m : ℕ) → Rises t ps r above stated base → m ≤ data_number r
     → Writes (times (datum_kind t ps (level_of r.number stated above)) m no_datum) base (data_bytes r m) (written_along r base m)
 Writes-data t ps r above stated base zero h le =
     subst (λ (b : List ℕ). Writes (times (datum_kind t ps (level_of r.number stated above)) 0 no_datum) base b no_datum) (sym (data_bytes-none r)) (Writes-none (one (datum_kind t ps (level_of r.number stated above))) base no_datum)
 Writes-data t ps r above stated base (suc m) h le =
     let l = level_of r.number stated above in
     let kind = datum_kind t ps l in
-    let lt : m < rise_count r = omega arith in
+    let lt : m < data_number r = omega arith in
     let d = written_skip r m in
     let place = base + length (data_bytes r m) in
     let s = written_along r base m in

@@ -1,5 +1,5 @@
 -- The skip levels that were written are good.
-use Rattle.std.proofs.Common.{◌≡◌, ℕ, zero, suc, add-one, ◌+◌, ◌-◌, ◌/◌, ◌%◌, ◌^◌, ◌<◌, ◌≤◌, eqb, true≢false, Bool, true, false, not, List, [], ◌∷◌, ◌++◌, length, get_or, Option, Some, None, inl, inr, refl, sym, ap, subst, ◌∙◌, append_assoc, arith}
+use Rattle.std.proofs.Common.{◌≡◌, ℕ, zero, suc, add-one, ◌+◌, ◌-◌, ◌*◌, ◌/◌, ◌%◌, ◌^◌, ◌<◌, ◌≤◌, eqb, true≢false, Bool, true, false, not, List, [], ◌∷◌, ◌++◌, length, get_or, Option, Some, None, inl, inr, refl, sym, ap, subst, ◌∙◌, append_assoc, arith}
 use Rattle.std.specs.Prelude.{◌==◌, ◌&&◌, nat_lt, slice_index, slice_index_or}
 use Rattle.std.proofs.lemmas.Bool.{cases_eq, cases_lt, eq-eqb, ne_eqb, eqb-true}
 use Rattle.std.proofs.lemmas.Bool.Decides.{nat_tests}
@@ -16,12 +16,21 @@ use Rattle.freq_skips.specs.declared.datum.Point.{Point}
 use Rattle.freq_skips.specs.Records.{level_length, length_of, length_shape}
 use Rattle.freq_skips.specs.Entries.{Posting}
 use Rattle.freq_skips.specs.Levels.{Along, no_datum, no_point, level_of, number_or, posting_at, child_above, length_at, differs, length_conditions, datum_kind, data_count, level_data, level_plan, levels}
-use Rattle.freq_skips.specs.Written.{Rise, mark_after, front_bytes, child_after, written_skip, data_bytes, places_after, rise_count, risen, with_length, skip_bytes}
-use Rattle.freq_skips.proofs.Powers.{quotient-next, quotient-below}
+use Rattle.freq_skips.specs.Written.{SkipLevel, mark_after, front_bytes, child_after, child_pointer, written_skip, data_bytes, data_number, level_above, with_length, skip_bytes, place_with}
+use Rattle.freq_skips.proofs.Powers.{quotient-next, quotient-below, multiple-index}
 use Rattle.freq_skips.proofs.LevelsLemmas.{levels-next}
-use Rattle.freq_skips.proofs.WriterLemmas.{places_after-length, skip_bytes-none, skip_bytes-next}
 use Rattle.freq_skips.proofs.WrittenEntries.{Stated, not-same, and-false}
 use Rattle.freq_skips.proofs.WrittenLevels.{IsUpTo, Rises, written_point, written_points, written_along, written_points-length, Writes-data}
+
+-- no level, and one level more
+pub skip_bytes-none : (r : SkipLevel) (k : ℕ) → k ≡ 0 → skip_bytes k r ≡ []
+unfolding skip_bytes
+skip_bytes-none r zero e = refl
+skip_bytes-none r (suc k) e = cc
+
+pub skip_bytes-next : (r : SkipLevel) (k n : ℕ) → n ≡ suc k → skip_bytes n r ≡ skip_bytes k (level_above r) ++ with_length r.number (data_bytes r (data_number r))
+unfolding skip_bytes
+skip_bytes-next r k n e = ap (λ (m : ℕ). skip_bytes m r) e
 
 -- the length of a level is stated where it is not the lowest, and its data start behind it
 abbrev pub stated_for : ℕ → List ℕ → Option ℕ
@@ -41,20 +50,20 @@ Writes-with_length t ps (suc n) above place bytes s small at w =
     (length bytes, [], small, sym (append-nil (spelling vlong (length bytes))), (refl, refl))
     (let test : (length above == 0 && not (place == t.info.freq + t.info.skip)) ≡ false = and-false (length above == 0) (not (place == t.info.freq + t.info.skip)) (λ e. not-same place _ (at e)) in rw test refl) w
 
-pub Writes-level : (t : RuledTerm) (ps : List Posting) (r : Rise) (above : List (List Point)) (place : ℕ) → rise_count r ≡ data_count t r.number → length (data_bytes r (rise_count r)) < 2 ^ 63 → (((length above == 0) ≡ true) → place ≡ t.info.freq + t.info.skip)
-    → Rises t ps r above (stated_for r.number (data_bytes r (rise_count r))) (base_for r.number place (data_bytes r (rise_count r)))
-    → Writes (level_plan t ps r.number above) place (with_length r.number (data_bytes r (rise_count r))) (written_along r (base_for r.number place (data_bytes r (rise_count r))) (rise_count r))
+pub Writes-level : (t : RuledTerm) (ps : List Posting) (r : SkipLevel) (above : List (List Point)) (place : ℕ) → data_number r ≡ data_count t r.number → length (data_bytes r (data_number r)) < 2 ^ 63 → (((length above == 0) ≡ true) → place ≡ t.info.freq + t.info.skip)
+    → Rises t ps r above (stated_for r.number (data_bytes r (data_number r))) (base_for r.number place (data_bytes r (data_number r)))
+    → Writes (level_plan t ps r.number above) place (with_length r.number (data_bytes r (data_number r))) (written_along r (base_for r.number place (data_bytes r (data_number r))) (data_number r))
 Writes-level t ps r above place few small at h =
-    let bytes = data_bytes r (rise_count r) in
+    let bytes = data_bytes r (data_number r) in
     let base = base_for r.number place bytes in
     let l = level_of r.number (stated_for r.number bytes) above in
-    let s = written_along r base (rise_count r) in
+    let s = written_along r base (data_number r) in
     Writes-with_length t ps r.number above place bytes s small at
-    (subst (λ (n : ℕ). Writes (times (datum_kind t ps l) n no_datum) base bytes s) few (Writes-data t ps r above (stated_for r.number bytes) base (rise_count r) h (omega arith)))
+    (subst (λ (n : ℕ). Writes (times (datum_kind t ps l) n no_datum) base bytes s) few (Writes-data t ps r above (stated_for r.number bytes) base (data_number r) h (omega arith)))
 
 -- ---- child pointers
 
-pub written_points-at : (r : Rise) (base count j : ℕ) → j < count → get_or (written_points r base count) j no_point ≡ written_point r base j
+pub written_points-at : (r : SkipLevel) (base count j : ℕ) → j < count → get_or (written_points r base count) j no_point ≡ written_point r base j
 written_points-at r base zero j lt = absurd (omega arith)
 written_points-at r base (suc c) j lt = elim (cases_lt j c) [
   | inl low ↦ get_or-append (written_points r base c) (written_point r base c ∷ []) no_point j (omega (arith, written_points-length r base c)) ∙ written_points-at r base c j low
@@ -63,95 +72,69 @@ written_points-at r base (suc c) j lt = elim (cases_lt j c) [
       ap (λ (n : ℕ). get_or (written_points r base (suc c)) n no_point) (is ∙ sym (written_points-length r base c)) ∙ get_or-append_seam (written_points r base c) (written_point r base c) [] no_point ∙ ap (written_point r base) (sym is)
 ]
 
--- the place just after the ProxSkip of a datum that a child pointer leads to
-place-here : Rise → ℕ → ℕ
-place-here r m = length (data_bytes r m) + length (front_bytes (written_skip r m))
-
-places_after-at : (r : Rise) (count m : ℕ) → 0 < r.interval → m < count → (m + 1) % r.interval ≡ 0 → slice_index (places_after r count) (m / r.interval) ≡ place-here r m
-unfolding places_after place-here
-places_after-at r zero m pos lt e = absurd (omega arith)
-places_after-at r (suc c) m pos lt e = elim (cases_lt m c) [
-  | inl low ↦
-      let before = places_after-at r c m pos low e in
-      let size = places_after-length r c pos in
-      let within : m / r.interval < length (places_after r c) = omega (arith, size, quotient-below m r.interval c pos e low) in
-      elim (cases_eq ((c + 1) % r.interval) 0) [
-        | inl here ↦
-            let test : eqb (suc c % r.interval) 0 ≡ true = eq-eqb _ _ (ap (λ (n : ℕ). n % r.interval) (sym (add-one c)) ∙ here) in
-            rw test (get_or-append (places_after r c) ((length (data_bytes r c) + length (front_bytes (written_skip r c))) ∷ []) 0 (m / r.interval) within ∙ before)
-        | inr ne ↦
-            let test : eqb (suc c % r.interval) 0 ≡ false = ne_eqb _ _ (λ z. ne (ap (λ (n : ℕ). n % r.interval) (add-one c) ∙ z)) in
-            rw test before
-      ]
-  | inr ge ↦
-      let is : m ≡ c = omega arith in
-      let here : (c + 1) % r.interval ≡ 0 = ap (λ (n : ℕ). (n + 1) % r.interval) (sym is) ∙ e in
-      let test : eqb (suc c % r.interval) 0 ≡ true = eq-eqb _ _ (ap (λ (n : ℕ). n % r.interval) (sym (add-one c)) ∙ here) in
-      let index : m / r.interval ≡ length (places_after r c) = ap (λ (n : ℕ). n / r.interval) is ∙ sym (places_after-length r c pos) in
-      rw test (ap (λ (n : ℕ). get_or (places_after r c ++ (length (data_bytes r c) + length (front_bytes (written_skip r c))) ∷ []) n 0) index
-      ∙ get_or-append_seam (places_after r c) (length (data_bytes r c) + length (front_bytes (written_skip r c))) [] 0 ∙ ap (place-here r) (sym is))
-]
-
 -- ---- all levels
 
 -- the marks of a level lead to the entries that its data belong to
-pub record Leads (t : RuledTerm) (ps : List Posting) (r : Rise) : Type 0 where
+pub record Leads (t : RuledTerm) (ps : List Posting) (r : SkipLevel) : Type 0 where
   pub interval : r.interval ≡ t.rules.skip_interval
   pub payloads : r.payloads ≡ t.rules.payloads
-  pub count : rise_count r ≡ data_count t r.number
-  pub up : (m : ℕ) → m < rise_count r → IsUpTo (mark_after r m) (mark_after r (suc m))
-  pub doc : (m : ℕ) → m < rise_count r → (mark_after r (suc m)).doc ≡ (posting_at t r.number ps (suc m)).before
-  pub freq : (m : ℕ) → m < rise_count r → (mark_after r (suc m)).freq ≡ (posting_at t r.number ps (suc m)).place - t.info.freq
-  pub omit : (m : ℕ) → m < rise_count r → t.rules.omit_tf ≡ true → (mark_after r (suc m)).prox ≡ 0
-  pub small : (m : ℕ) → m < rise_count r → ((mark_after r (suc m)).doc < 2 ^ 31) × ((mark_after r (suc m)).freq < 2 ^ 31) × ((mark_after r (suc m)).prox < 2 ^ 31)
-  pub children_small : (m : ℕ) → slice_index r.children m < 2 ^ 63
-  pub bytes_small : length (data_bytes r (rise_count r)) < 2 ^ 63
+  pub count : data_number r ≡ data_count t r.number
+  pub up : (m : ℕ) → m < data_number r → IsUpTo (mark_after r m) (mark_after r (suc m))
+  pub doc : (m : ℕ) → m < data_number r → (mark_after r (suc m)).doc ≡ (posting_at t r.number ps (suc m)).before
+  pub freq : (m : ℕ) → m < data_number r → (mark_after r (suc m)).freq ≡ (posting_at t r.number ps (suc m)).place - t.info.freq
+  pub omit : (m : ℕ) → m < data_number r → t.rules.omit_tf ≡ true → (mark_after r (suc m)).prox ≡ 0
+  pub small : (m : ℕ) → m < data_number r → ((mark_after r (suc m)).doc < 2 ^ 31) × ((mark_after r (suc m)).freq < 2 ^ 31) × ((mark_after r (suc m)).prox < 2 ^ 31)
+  pub child_small : (m : ℕ) → m < data_number r → Stated vlong (nat_lt 0 r.number) (child_after r m)
+  pub above_count : data_number (level_above r) ≡ data_number r / t.rules.skip_interval
+  pub bytes_small : length (data_bytes r (data_number r)) < 2 ^ 63
 
-abbrev pub AllLead : RuledTerm → List Posting → ℕ → Rise → Type 0
+abbrev pub AllLead : RuledTerm → List Posting → ℕ → SkipLevel → Type 0
 AllLead t ps zero r = Unit {0}
-AllLead t ps (suc k) r = Leads t ps r × AllLead t ps k (risen r)
+AllLead t ps (suc k) r = Leads t ps r × AllLead t ps k (level_above r)
 
 -- where the data of so many levels from this one on lead, the nearest first
-abbrev pub found_points : ℕ → Rise → ℕ → List (List Point)
+abbrev pub found_points : ℕ → SkipLevel → ℕ → List (List Point)
 found_points zero r place = []
-found_points (suc k) r place = written_points r (base_for r.number (place + length (skip_bytes k (risen r))) (data_bytes r (rise_count r))) (rise_count r) ∷ found_points k (risen r) place
+found_points (suc k) r place = written_points r (base_for r.number (place + length (skip_bytes k (level_above r))) (data_bytes r (data_number r))) (data_number r) ∷ found_points k (level_above r) place
 
 -- the child pointers of the level above
-child-found : (t : RuledTerm) (ps : List Posting) (k : ℕ) (r : Rise) (place m : ℕ) → 2 ≤ t.rules.skip_interval → Leads t ps r → m < rise_count r
-    → differs (child_above t (found_points k (risen r) place) (suc m)) (length (data_bytes r m) + length (front_bytes (written_skip r m))) ≡ false
-unfolding place-here
-child-found t ps zero r place m two h lt = refl
-child-found t ps (suc k) r place m two h lt =
+child-is : (r : SkipLevel) (m : ℕ) → 2 ≤ r.interval → (m + 1) % r.interval ≡ 0 → number_or 0 (child_after (level_above r) (m / r.interval)) ≡ length (data_bytes r m) + length (front_bytes (written_skip r m))
+unfolding child_pointer
+child-is r m two e =
+    let index : suc (m / r.interval) * r.interval - 1 ≡ m = multiple-index m r.interval (m / r.interval) (omega arith) e refl ∙ (omega arith) in
+    ap (λ (k : ℕ). place_with r (child_after r) k) index
+
+child-found : (t : RuledTerm) (ps : List Posting) (k : ℕ) (r : SkipLevel) (place m : ℕ) → 2 ≤ t.rules.skip_interval → Leads t ps r → data_number (level_above r) ≡ data_number r / t.rules.skip_interval → m < data_number r
+    → differs (child_above t (found_points k (level_above r) place) (suc m)) (length (data_bytes r m) + length (front_bytes (written_skip r m))) ≡ false
+child-found t ps zero r place m two h many lt = refl
+child-found t ps (suc k) r place m two h many lt =
     let s = t.rules.skip_interval in
-    let up = risen r in
-    let base = base_for up.number (place + length (skip_bytes k (risen up))) (data_bytes up (rise_count up)) in
-    let points = written_points up base (rise_count up) in
+    let up = level_above r in
+    let base = base_for up.number (place + length (skip_bytes k (level_above up))) (data_bytes up (data_number up)) in
+    let points = written_points up base (data_number up) in
     elim (cases_eq ((m + 1) % s) 0) [
       | inl e ↦
           let test : eqb (suc m % s) 0 ≡ true = eq-eqb _ _ (ap (λ (n : ℕ). n % s) (sym (add-one m)) ∙ e) in
           let next = quotient-next m s (omega arith) e in
           let index : suc m / s - 1 ≡ m / s = omega arith in
           let own : (m + 1) % r.interval ≡ 0 = ap (λ (n : ℕ). (m + 1) % n) h.interval ∙ e in
-          let many : rise_count up ≡ rise_count r / s = sym (div-div-eq-div-mul (length r.marks) r.step r.interval) ∙ ap (λ (n : ℕ). rise_count r / n) h.interval in
-          let within : m / s < rise_count up = subst (λ (n : ℕ). m / s < n) (sym many) (quotient-below m s (rise_count r) (omega arith) e lt) in
-          let never : eqb (suc r.number) 0 ≡ false = ne_eqb _ _ (λ z. absurd (omega arith)) in
-          let child : number_or 0 (child_after up (m / s)) ≡ slice_index (places_after r (rise_count r)) (m / s) = rw never refl in
-          let here = places_after-at r (rise_count r) m (omega (arith, h.interval)) lt own in
+          let within : m / s < data_number up = subst (λ (n : ℕ). m / s < n) (sym many) (quotient-below m s (data_number r) (omega arith) e lt) in
+          let here = child-is r m (subst (λ (n : ℕ). 2 ≤ n) (sym h.interval) two) own in
           let is : (slice_index_or points (suc m / s - 1) no_point).child ≡ length (data_bytes r m) + length (front_bytes (written_skip r m)) =
-          ap (λ (n : ℕ). (slice_index_or points n no_point).child) index ∙ ap (λ (p : Point). p.child) (written_points-at up base (rise_count up) (m / s) within) ∙ child
-          ∙ ap (λ (n : ℕ). slice_index (places_after r (rise_count r)) (m / n)) (sym h.interval) ∙ here in
+          ap (λ (n : ℕ). (slice_index_or points n no_point).child) index ∙ ap (λ (p : Point). p.child) (written_points-at up base (data_number up) (m / s) within)
+          ∙ ap (λ (n : ℕ). number_or 0 (child_after up (m / n))) (sym h.interval) ∙ here in
           rw test (not-same _ _ is)
       | inr ne ↦
           let test : eqb (suc m % s) 0 ≡ false = ne_eqb _ _ (λ z. ne (ap (λ (n : ℕ). n % s) (add-one m) ∙ z)) in
           rw test refl
     ]
 
-size-found : (t : RuledTerm) (ps : List Posting) (r : Rise) (above : List (List Point)) (m : ℕ) → Leads t ps r → m < rise_count r
-    → differs (length_at t (level_of r.number (stated_for r.number (data_bytes r (rise_count r))) above) (suc m)) (length (data_bytes r (suc m))) ≡ false
+size-found : (t : RuledTerm) (ps : List Posting) (r : SkipLevel) (above : List (List Point)) (m : ℕ) → Leads t ps r → m < data_number r
+    → differs (length_at t (level_of r.number (stated_for r.number (data_bytes r (data_number r))) above) (suc m)) (length (data_bytes r (suc m))) ≡ false
 size-found t ps r above m h lt = elim (cases_eq (suc m) (data_count t r.number)) [
   | inl e ↦
       let test : eqb (suc m) (data_count t r.number) ≡ true = eq-eqb _ _ e in
-      rw test (last r.number (data_bytes r (rise_count r)) (length (data_bytes r (suc m))) (ap (λ (n : ℕ). length (data_bytes r n)) (h.count ∙ sym e)))
+      rw test (last r.number (data_bytes r (data_number r)) (length (data_bytes r (suc m))) (ap (λ (n : ℕ). length (data_bytes r n)) (h.count ∙ sym e)))
   | inr ne ↦ let test : eqb (suc m) (data_count t r.number) ≡ false = ne_eqb _ _ ne in rw test refl
 ]
   where
@@ -160,11 +143,11 @@ size-found t ps r above m h lt = elim (cases_eq (suc m) (data_count t r.number))
     last (suc n) bytes size e = not-same _ _ e
 
 -- no level is above where none was written
-none-found : (k : ℕ) (r : Rise) (place : ℕ) → (length (found_points k r place) == 0) ≡ true → k ≡ 0
+none-found : (k : ℕ) (r : SkipLevel) (place : ℕ) → (length (found_points k r place) == 0) ≡ true → k ≡ 0
 none-found zero r place e = refl
-none-found (suc k) r place e = absurd (true≢false (sym e ∙ ne_eqb (suc (length (found_points k (risen r) place))) 0 (λ z. absurd (omega arith))))
+none-found (suc k) r place e = absurd (true≢false (sym e ∙ ne_eqb (suc (length (found_points k (level_above r) place))) 0 (λ z. absurd (omega arith))))
 
-start-found : (t : RuledTerm) (k : ℕ) (r : Rise) (place : ℕ) → place ≡ t.info.freq + t.info.skip → (length (found_points k r place) == 0) ≡ true → place + length (skip_bytes k r) ≡ t.info.freq + t.info.skip
+start-found : (t : RuledTerm) (k : ℕ) (r : SkipLevel) (place : ℕ) → place ≡ t.info.freq + t.info.skip → (length (found_points k r place) == 0) ≡ true → place + length (skip_bytes k r) ≡ t.info.freq + t.info.skip
 start-found t k r place at e = let none = ap length (skip_bytes-none r k (none-found k r place e)) in omega arith
 
 and-both : (a b c : Bool) → (a && b && c) ≡ true → (a ≡ true) × (b ≡ true)
@@ -176,14 +159,8 @@ base-lowest : (n place : ℕ) (bytes : List ℕ) → n ≡ 0 → base_for n plac
 base-lowest zero place bytes e = refl
 base-lowest (suc n) place bytes e = absurd (omega arith)
 
-child-told : (r : Rise) (m : ℕ) → slice_index r.children m < 2 ^ 63 → Stated vlong (nat_lt 0 r.number) (child_after r m)
-child-told r m small = elim (cases_eq r.number 0) [
-  | inl e ↦ let a : nat_lt 0 r.number ≡ false = grind (arith, nat_tests) in let b : eqb r.number 0 ≡ true = eq-eqb _ _ e in rw (a, b) tt
-  | inr ne ↦ let a : nat_lt 0 r.number ≡ true = grind (arith, nat_tests) in let b : eqb r.number 0 ≡ false = ne_eqb _ _ ne in rw (a, b) small
-]
-
-Rises-found : (t : RuledTerm) (ps : List Posting) (k : ℕ) (r : Rise) (place : ℕ) → 2 ≤ t.rules.skip_interval → place ≡ t.info.freq + t.info.skip → Leads t ps r
-    → Rises t ps r (found_points k (risen r) place) (stated_for r.number (data_bytes r (rise_count r))) (base_for r.number (place + length (skip_bytes k (risen r))) (data_bytes r (rise_count r)))
+Rises-found : (t : RuledTerm) (ps : List Posting) (k : ℕ) (r : SkipLevel) (place : ℕ) → 2 ≤ t.rules.skip_interval → place ≡ t.info.freq + t.info.skip → Leads t ps r
+    → Rises t ps r (found_points k (level_above r) place) (stated_for r.number (data_bytes r (data_number r))) (base_for r.number (place + length (skip_bytes k (level_above r))) (data_bytes r (data_number r)))
 Rises-found t ps k r place two at h = record {
   payloads = h.payloads;
   up = h.up;
@@ -191,16 +168,16 @@ Rises-found t ps k r place two at h = record {
   freq = h.freq;
   omit = h.omit;
   small = h.small;
-  child = λ m lt. child-found t ps k r place m two h lt;
-  size = λ m lt. size-found t ps r (found_points k (risen r) place) m h lt;
+  child = λ m lt. child-found t ps k r place m two h h.above_count lt;
+  size = λ m lt. size-found t ps r (found_points k (level_above r) place) m h lt;
   first = λ e.
-      let both = and-both (r.number == 0) (length (found_points k (risen r) place) == 0) (1 == 1) e in
-      base-lowest r.number _ (data_bytes r (rise_count r)) (eqb-true r.number 0 both.0) ∙ start-found t k (risen r) place at both.1;
-  child_small = λ m lt. child-told r m (h.children_small m);
+      let both = and-both (r.number == 0) (length (found_points k (level_above r) place) == 0) (1 == 1) e in
+      base-lowest r.number _ (data_bytes r (data_number r)) (eqb-true r.number 0 both.0) ∙ start-found t k (level_above r) place at both.1;
+  child_small = h.child_small;
 }
 
 -- so many levels from the highest down to this one
-pub levels-written : (t : RuledTerm) (ps : List Posting) (k : ℕ) (r : Rise) (place : ℕ) (rest : List ℕ) → 2 ≤ t.rules.skip_interval → place ≡ t.info.freq + t.info.skip → AllLead t ps k r
+pub levels-written : (t : RuledTerm) (ps : List Posting) (k : ℕ) (r : SkipLevel) (place : ℕ) (rest : List ℕ) → 2 ≤ t.rules.skip_interval → place ≡ t.info.freq + t.info.skip → AllLead t ps k r
     → read_plan (levels t ps (k + r.number) []) (at place (skip_bytes k r ++ rest)) ≡ read_plan (levels t ps r.number (found_points k r place)) (at (place + length (skip_bytes k r)) rest)
 levels-written t ps zero r place rest two start all =
     let none = skip_bytes-none r 0 refl in
@@ -208,17 +185,17 @@ levels-written t ps zero r place rest two start all =
     ∙ ap (λ (n : ℕ). read_plan (levels t ps n []) (at place rest)) (let z : 0 + r.number ≡ r.number = omega arith in z)
     ∙ ap (λ (n : ℕ). read_plan (levels t ps r.number []) (at n rest)) (let z : place ≡ place + length (skip_bytes 0 r) = omega (arith, ap length none) in z)
 levels-written t ps (suc k) r place rest two start all =
-    let up = skip_bytes k (risen r) in
-    let bytes = data_bytes r (rise_count r) in
+    let up = skip_bytes k (level_above r) in
+    let bytes = data_bytes r (data_number r) in
     let own = with_length r.number bytes in
-    let above = found_points k (risen r) place in
+    let above = found_points k (level_above r) place in
     let here = place + length up in
     let base = base_for r.number here bytes in
     let is = skip_bytes-next r k (suc k) refl in
-    let w = Writes-level t ps r above here all.0.count all.0.bytes_small (start-found t k (risen r) place start) (Rises-found t ps k r place two start all.0) in
+    let w = Writes-level t ps r above here all.0.count all.0.bytes_small (start-found t k (level_above r) place start) (Rises-found t ps k r place two start all.0) in
     ap (λ (b : List ℕ). read_plan (levels t ps (suc k + r.number) []) (at place (b ++ rest))) is
     ∙ ap (λ (b : List ℕ). read_plan (levels t ps (suc k + r.number) []) (at place b)) (append_assoc up own rest)
     ∙ ap (λ (n : ℕ). read_plan (levels t ps n []) (at place (up ++ (own ++ rest)))) (let z : suc k + r.number ≡ k + suc r.number = omega arith in z)
-    ∙ levels-written t ps k (risen r) place (own ++ rest) two start all.1
-    ∙ levels-next t ps (suc r.number) r.number above (at here (own ++ rest)) (written_along r base (rise_count r)) (at (here + length own) rest) refl (w.reads rest)
+    ∙ levels-written t ps k (level_above r) place (own ++ rest) two start all.1
+    ∙ levels-next t ps (suc r.number) r.number above (at here (own ++ rest)) (written_along r base (data_number r)) (at (here + length own) rest) refl (w.reads rest)
     ∙ ap (λ (n : ℕ). read_plan (levels t ps r.number (found_points (suc k) r place)) (at n rest)) (let z : here + length own ≡ place + length (skip_bytes (suc k) r) = omega (arith, ap length is, length-append up own) in z)

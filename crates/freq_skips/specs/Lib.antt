@@ -3,7 +3,9 @@ pub mod ProxPlaces
 pub mod Records
 pub mod Entries
 pub mod Finding
+pub mod InnerLevels
 pub mod Levels
+pub mod Sound
 pub mod Terms
 pub mod Walking
 pub mod Walks

@@ -3,18 +3,13 @@ use Rattle.std.specs.Prelude.{◌<◌, ◌≤◌, ◌^◌, ℕ, zero, suc, ◌+�
 use Rattle.lu_grammar.specs.Parts.{Part, Value, vint, num, vlong, spelling}
 use Rattle.freq_skips.specs.declared.datum.Skip.{Skip}
 use Rattle.freq_skips.specs.declared.writer.Mark.{Mark}
+pub use Rattle.freq_skips.specs.declared.writer.Handed.{Handed}
 use Rattle.freq_skips.specs.Entries.{Posting}
 
 -- a number that may be there
 abbrev pub optional_bytes : (p : Part) → Option (Value p) → List ℕ
 optional_bytes p None = []
 optional_bytes p (Some v) = spelling p v
-
--- an entry as it was handed over: the document, how often the term stands in it, and the bytes of positions before its own
-pub record Handed : Type 0 where
-  pub doc : ℕ
-  pub freq : ℕ
-  pub prox : ℕ
 
 -- no entry
 abbrev pub no_handed : Handed
@@ -72,40 +67,56 @@ front_bytes d = spelling vint d.doc ++ optional_bytes num d.payload ++ spelling 
 abbrev pub datum_bytes : Skip → List ℕ
 datum_bytes d = front_bytes d ++ optional_bytes vlong d.child
 
--- a level as it is written: the marks of the lowest level, of which it has one in so many, and the child pointers of its data
-pub record Rise : Type 0 where
+-- a skip level as it is written: what its field leaves out and may have, the interval, the entries of the term, and its number, from 0
+pub record SkipLevel : Type 0 where
+  pub omit : Bool
   pub payloads : Bool
-  pub marks : List Mark
   pub interval : ℕ
+  pub entries : List Handed
   pub number : ℕ
-  pub step : ℕ
-  pub children : List ℕ
+
+-- a level by its parts
+abbrev pub skip_level : Bool → Bool → ℕ → List Handed → ℕ → SkipLevel
+skip_level omit payloads interval entries number = record { omit = omit; payloads = payloads; interval = interval; entries = entries; number = number }
 
 -- where so many data of a level lead
-abbrev pub mark_after : Rise → ℕ → Mark
-mark_after r m = if m == 0 then no_mark else slice_index_or r.marks (m * r.step - 1) no_mark
+abbrev pub mark_after : SkipLevel → ℕ → Mark
+mark_after l zero = no_mark
+mark_after l (suc m) = mark_of l.omit l.entries (suc m * l.interval ^ suc l.number - 1)
 
--- the child pointer of the datum that follows so many: the lowest level has none
-abbrev pub child_after : Rise → ℕ → Option ℕ
-child_after r m = if r.number == 0 then None else Some (slice_index r.children m)
+-- the datum that follows so many, by the child pointers of the level
+abbrev pub skip_with : SkipLevel → (ℕ → Option ℕ) → ℕ → Skip
+skip_with l child m = skip_between l.payloads (mark_after l m) (mark_after l (suc m)) (child m)
+
+-- so many data of the level
+unfoldable pub data_with : SkipLevel → (ℕ → Option ℕ) → ℕ → List ℕ
+data_with l child zero = []
+data_with l child (suc m) = data_with l child m ++ datum_bytes (skip_with l child m)
+
+-- the place in the level just after the ProxSkip of the datum that follows so many
+abbrev pub place_with : SkipLevel → (ℕ → Option ℕ) → ℕ → ℕ
+place_with l child m = length (data_with l child m) + length (front_bytes (skip_with l child m))
+
+-- the child pointers of a level: the lowest has none, and another leads just after the ProxSkip of every so manieth datum of the level below
+unfoldable pub child_pointer : Bool → Bool → ℕ → List Handed → ℕ → ℕ → Option ℕ
+child_pointer omit payloads interval entries zero m = None
+child_pointer omit payloads interval entries (suc n) m = Some (place_with (skip_level omit payloads interval entries n) (child_pointer omit payloads interval entries n) (suc m * interval - 1))
+
+-- the child pointer of the datum that follows so many
+abbrev pub child_after : SkipLevel → ℕ → Option ℕ
+child_after l m = child_pointer l.omit l.payloads l.interval l.entries l.number m
 
 -- the datum that follows so many
-abbrev pub written_skip : Rise → ℕ → Skip
-written_skip r m = skip_between r.payloads (mark_after r m) (mark_after r (suc m)) (child_after r m)
+abbrev pub written_skip : SkipLevel → ℕ → Skip
+written_skip l m = skip_with l (child_after l) m
 
--- so many data of a level
-unfoldable pub data_bytes : Rise → ℕ → List ℕ
-data_bytes r zero = []
-data_bytes r (suc m) = data_bytes r m ++ datum_bytes (written_skip r m)
+-- so many data of the level
+abbrev pub data_bytes : SkipLevel → ℕ → List ℕ
+data_bytes l m = data_with l (child_after l) m
 
--- the places in the level, just after the ProxSkip, of every so manieth of them: the child pointers of the level above
-unfoldable pub places_after : Rise → ℕ → List ℕ
-places_after r zero = []
-places_after r (suc m) = if suc m % r.interval == 0 then places_after r m ++ (length (data_bytes r m) + length (front_bytes (written_skip r m))) ∷ [] else places_after r m
-
--- how many data a level has
-abbrev pub rise_count : Rise → ℕ
-rise_count r = length r.marks / r.step
+-- how many data the level has
+abbrev pub data_number : SkipLevel → ℕ
+data_number l = length l.entries / l.interval ^ suc l.number
 
 -- a level above the lowest is its length and then its data
 abbrev pub with_length : ℕ → List ℕ → List ℕ
@@ -113,29 +124,13 @@ with_length zero bytes = bytes
 with_length (suc n) bytes = spelling vlong (length bytes) ++ bytes
 
 -- the level above
-abbrev pub risen : Rise → Rise
-risen r = record { payloads = r.payloads; marks = r.marks; interval = r.interval; number = suc r.number; step = r.step * r.interval; children = places_after r (rise_count r) }
+abbrev pub level_above : SkipLevel → SkipLevel
+level_above l = skip_level l.omit l.payloads l.interval l.entries (suc l.number)
 
 -- so many levels from this one on, the highest first
-unfoldable pub skip_bytes : ℕ → Rise → List ℕ
-skip_bytes zero r = []
-skip_bytes (suc k) r = skip_bytes k (risen r) ++ with_length r.number (data_bytes r (rise_count r))
-
--- the lowest level
-abbrev pub lowest : Bool → List Mark → ℕ → Rise
-lowest payloads marks interval = record { payloads = payloads; marks = marks; interval = interval; number = 0; step = 1; children = [] }
-
--- documents and lengths that data can tell
-abbrev pub AreSmallMarks : List Mark → Type 0
-AreSmallMarks marks = (k : ℕ) → k < length marks → ((slice_index_or marks k no_mark).doc < 2 ^ 31) × ((slice_index_or marks k no_mark).freq < 2 ^ 31)
-
--- child pointers that data can tell
-abbrev pub AreSmallPlaces : List ℕ → Type 0
-AreSmallPlaces places = (k : ℕ) → slice_index places k < 2 ^ 63
-
--- a level by its parts
-abbrev pub rise_of : Bool → List Mark → ℕ → ℕ → ℕ → List ℕ → Rise
-rise_of payloads marks interval number step children = record { payloads = payloads; marks = marks; interval = interval; number = number; step = step; children = children }
+unfoldable pub skip_bytes : ℕ → SkipLevel → List ℕ
+skip_bytes zero l = []
+skip_bytes (suc k) l = skip_bytes k (level_above l) ++ with_length l.number (data_bytes l (data_number l))
 
 -- the postings of entries that start at a place, after a document
 abbrev pub written_postings : Bool → ℕ → ℕ → List Handed → List Posting

@@ -1,11 +1,12 @@
 //! Laws on the terms of a file.
-ghost use Rattle.std.specs.Prelude.{◌≡◌, ◌<◌, ◌≤◌, Bool, ℕ, List, [], ◌∷◌, ◌++◌, length};
+ghost use Rattle.std.specs.Prelude.{◌≡◌, ◌<◌, ◌≤◌, ◌+◌, ◌^◌, ℕ, List, [], ◌∷◌, ◌++◌, length};
 ghost use Rattle.lu_types.specs.RuleNumbers as number;
-ghost use Rattle.lu_grammar.specs.Bytes.{IsBytes, place_in};
+ghost use Rattle.lu_grammar.specs.Bytes.{IsBytes, Cursor, place_in};
 ghost use Rattle.lu_grammar.specs.Meaning.{Reads, ReadsTo, FirstFault};
 ghost use Rattle.freq_skips.specs.declared.rules.RuledTerm.{RuledTerm};
-ghost use Rattle.freq_skips.specs.Written.{Handed};
-ghost use Rattle.freq_skips.specs.Writing.{WriterState, begun, added, finished, term_written, IsWriting, IsFinishable, IsAsHanded};
+ghost use Rattle.freq_skips.specs.Writing.{FrqWriting, prox_of, finished, term_written, IsFinishable, IsAsHanded};
+ghost use Rattle.freq_skips.specs.Points.{HasKnownPlaces};
+ghost use Rattle.freq_skips.specs.Sound.{IsSoundTerm};
 ghost use Rattle.freq_skips.specs.Terms.{TermData, IsTermFault, AreTermsUpTo, term_plan, terms_plan};
 
 /// The terms of a file in turn: where each is good from where the one before ends, and the file ends with the last, the bytes
@@ -20,12 +21,24 @@ pub fn terms_in_turn()
     ensures trailing { (terms : List RuledTerm) (values : List TermData) (frq : List ℕ) (place : ℕ) → IsBytes frq → AreTermsUpTo terms frq place values → place < length frq → FirstFault (terms_plan terms) frq place number.trailing }
 {}
 
-/// What a writer does: it begins with nothing handed over; with each entry it holds what was handed over and that entry; and the
-/// term that it finishes, of entries in order, is good in the file, whatever follows, and stands for what was handed over.
-pub fn what_is_written()
-    ensures begun { (w : WriterState) (omit payloads : Bool) → IsWriting (begun w omit payloads) w.bytes [] }
-    ensures added { (w : WriterState) (written : List ℕ) (handed : List Handed) (h : Handed) → 2 ≤ w.interval → IsWriting w written handed → IsWriting (added w h) written (handed ++ h ∷ []) }
-    ensures finished { (w : WriterState) (written : List ℕ) (handed : List Handed) (documents field prox skip : ℕ) (frq rest : List ℕ) → IsFinishable w written handed documents skip → frq ≡ (finished w).bytes ++ rest → IsBytes frq
-        → (value : TermData) × IsAsHanded (term_written w written handed documents field prox skip) handed value
-        × ReadsTo (term_plan (term_written w written handed documents field prox skip)) (place_in frq (length written)) value (place_in frq (length (finished w).bytes)) }
+/// The term that a writer finishes, of entries in order, is good in the file, whatever follows, and stands for the entries that
+/// were handed over.
+pub fn written_is_read()
+    ensures { (w : FrqWriting) (documents field prox : ℕ) (frq rest : List ℕ) → IsFinishable w documents → frq ≡ (finished w).bytes ++ rest → IsBytes frq
+        → (value : TermData) × IsAsHanded (term_written w documents field prox) w.entries value
+        × ReadsTo (term_plan (term_written w documents field prox)) (place_in frq (length w.bytes)) value (place_in frq (length (finished w).bytes)) }
+{}
+
+/// The skip data of the term that a writer finishes tell the bytes of positions that were handed over with its entries, so that
+/// its points can be looked up.
+pub fn written_has_places()
+    ensures { (w : FrqWriting) (documents field prox : ℕ) (frq rest : List ℕ) → IsFinishable w documents → ((k : ℕ) → k < length w.entries → prox + prox_of w.omit w.entries k < 2 ^ 31)
+        → frq ≡ (finished w).bytes ++ rest → IsBytes frq → HasKnownPlaces (term_written w documents field prox).info (term_written w documents field prox).rules frq }
+{}
+
+/// A term that is good has as many entries as the dictionary says; their documents rise, and are below the number of documents;
+/// each frequency is at least 1; and the skip data lead to the entries that they belong to.
+pub fn good_is_sound()
+    ensures { (t : RuledTerm) (frq : List ℕ) (value : TermData) (end : Cursor) → IsBytes frq → 2 ≤ t.rules.skip_interval → t.info.freq ≤ length frq
+        → ReadsTo (term_plan t) (place_in frq t.info.freq) value end → IsSoundTerm t value }
 {}

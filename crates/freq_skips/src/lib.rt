@@ -20,7 +20,7 @@ mod writer;
 pub use check::check_term;
 pub use entries::Entries;
 pub use entry::Entry;
-pub use laws::{terms_in_turn, what_is_written};
+pub use laws::{good_is_sound, terms_in_turn, written_has_places, written_is_read};
 pub use lu_types::TermRules;
 pub use rules::RuledTerm;
 pub use skip_point::SkipPoint;

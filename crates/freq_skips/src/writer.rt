@@ -1,14 +1,24 @@
 //! Entries and skip data of terms are written.
-ghost use Rattle.std.specs.Prelude.{◌≡◌, ◌⊎◌, ◌<◌, ◌≤◌, ◌^◌, ℕ, suc, ◌+◌, ◌-◌, ◌*◌, ◌/◌, ◌%◌, [], ◌∷◌, ◌++◌, length, OnOk, OnErr, slice_index_or, slice_index, false, None, Some, ◌==◌, if◌then◌else◌, IfSome, IfOk};
-ghost use Rattle.lu_grammar.specs.Parts.{spelling, vint, vlong};
-ghost use Rattle.freq_skips.specs.Written.{canonical_parts, entry_parts_bytes, skip_between, front_bytes, Rise, mark_after, child_after, written_skip, data_bytes, places_after, no_mark, optional_bytes, AreSmallMarks, AreSmallPlaces, rise_of, with_length, skip_bytes};
-ghost use Rattle.freq_skips.specs.Writing.{begun, added, levels_due, finished};
+ghost use Rattle.std.specs.Prelude.{◌≡◌, ◌⊎◌, ◌<◌, ◌≤◌, ◌^◌, ◌+◌, ◌-◌, ◌*◌, ◌/◌, [], ◌++◌, length, OnOk, OnErr, slice_index_or, slice_index, false, None, Some, ◌==◌, if◌then◌else◌, IfSome, IfOk};
+ghost use Rattle.lu_grammar.specs.Bytes.{IsBytes};
+ghost use Rattle.lu_grammar.specs.Parts.{vlong};
+ghost use Rattle.freq_skips.specs.Written.{canonical_parts, entry_parts_bytes, last_doc, skip_between, front_bytes, no_mark, optional_bytes, with_length};
+ghost use Rattle.freq_skips.specs.InnerLevels.{marks_of, marked_bytes, marked_count, places_after, marked_levels, AreSmallMarks, AreSmallPlaces};
+ghost use Rattle.freq_skips.specs.Writing.{bytes_so_far, begun, added, skip_delta, finished};
 
 use crate::datum::Skip;
 use crate::level::greatest_power;
 use lu_prims::{OutOfMemory, put_vint, put_vlong};
 use std::alloc::Global;
 use std::marker::Model;
+
+/// An entry as it is handed over: the document, how often the term stands in it, and the bytes of positions before its own.
+#[derive(Clone, Copy, Debug, PartialEq, Eq)]
+pub struct Handed {
+    pub doc: u32,
+    pub freq: u32,
+    pub prox: u32,
+}
 
 /// Where a datum leads: the document of the entry before the one that it belongs to, the bytes of the entries before that
 /// one, and the bytes of their positions.
@@ -129,6 +139,18 @@ fn put_child(out: &mut Vec<u8>, child: Option<u64>) -> Result<(), OutOfMemory>
     }
 }
 
+/// What the data of a level are made of: the marks of the lowest level, of which this one has one in so many; the interval, the
+/// number of the level, from 0; and its child pointers.
+#[derive(Clone, Copy, Debug, PartialEq, Eq)]
+pub struct LevelInput<'a> {
+    pub payloads: bool,
+    pub interval: u32,
+    pub marks: &'a [Mark],
+    pub number: u32,
+    pub step: usize,
+    pub children: &'a [u64],
+}
+
 /// A level as it is written: its bytes, and the child pointers of the level above.
 #[derive(Drop)]
 struct WrittenLevel {
@@ -136,38 +158,30 @@ struct WrittenLevel {
     places: Vec<u64>,
 }
 
-/// Writes the data of a level, which has one mark in so many, and these child pointers.
-fn written_level(
-    alloc: Global,
-    payloads: bool,
-    marks: &[Mark],
-    interval: u32,
-    number: u32,
-    step: usize,
-    children: &[u64],
-) -> Result<WrittenLevel, OutOfMemory>
-    requires step { 0 < step }
-    requires interval { 2 ≤ interval }
-    requires small { AreSmallMarks marks.now }
-    requires pointers { number ≡ 0 ⊎ length marks.now / step ≤ length children.now }
-    requires small_pointers { AreSmallPlaces children.now }
-    ensures bytes { IfOk result (λ level. level.bytes.items ≡ data_bytes (rise_of payloads marks.now interval number step children.now) (length marks.now / step)) }
-    ensures places { IfOk result (λ level. level.places.items ≡ places_after (rise_of payloads marks.now interval number step children.now) (length marks.now / step)) }
-    ensures small { IfOk result (λ level. AreSmallPlaces level.places.items) }
+/// Writes the data of a level.
+fn written_level(alloc: Global, level: &LevelInput<'_>) -> Result<WrittenLevel, OutOfMemory>
+    requires step { 0 < level.now.step }
+    requires interval { 2 ≤ level.now.interval }
+    requires small { AreSmallMarks level.now.marks.now }
+    requires pointers { level.now.number ≡ 0 ⊎ length level.now.marks.now / level.now.step ≤ length level.now.children.now }
+    requires small_pointers { AreSmallPlaces level.now.children.now }
+    ensures bytes { IfOk result (λ written. written.bytes.items ≡ marked_bytes (marks_of level.now) (marked_count (marks_of level.now))) }
+    ensures places { IfOk result (λ written. written.places.items ≡ places_after (marks_of level.now) (marked_count (marks_of level.now))) }
+    ensures small { IfOk result (λ written. AreSmallPlaces written.places.items) }
 {
     let mut bytes = Vec::new(alloc);
     let mut places: Vec<u64> = Vec::new(alloc);
-    let count = marks.len() / step;
+    let count = level.marks.len() / level.step;
     for index in 0..count {
-        let child = child_at(number, children, index);
+        let child = child_at(level.number, level.children, index);
         let skip = skip_to(
-            payloads,
-            &mark_at(marks, step, index),
-            &mark_at(marks, step, index + 1),
+            level.payloads,
+            &mark_at(level.marks, level.step, index),
+            &mark_at(level.marks, level.step, index + 1),
             child,
         );
         put_front(&mut bytes, &skip)?;
-        if (index as u64 + 1) % u64::from(interval) == 0 {
+        if (index as u64 + 1) % u64::from(level.interval) == 0 {
             places.push(bytes.len() as u64)?;
         }
         put_child(&mut bytes, child)?;
@@ -192,82 +206,75 @@ fn put_levels(
     alloc: Global,
     out: &mut Vec<u8>,
     left: u32,
-    payloads: bool,
-    marks: &[Mark],
-    interval: u32,
-    number: u32,
-    step: usize,
-    children: &[u64],
+    level: &LevelInput<'_>,
 ) -> Result<(), OutOfMemory>
-    requires step { 0 < step }
-    requires interval { 2 ≤ interval }
-    requires small { AreSmallMarks marks.now }
-    requires pointers { number ≡ 0 ⊎ length marks.now / step ≤ length children.now }
-    requires small_pointers { AreSmallPlaces children.now }
-    requires steps { left ≡ 0 ⊎ step * interval ^ (left - 1) ≤ 2 ^ 32 }
-    requires fits { number + left < 2 ^ 32 }
-    ensures { OnOk result (out.new.items ≡ out.old.items ++ skip_bytes left (rise_of payloads marks.now interval number step children.now)) }
+    requires step { 0 < level.now.step }
+    requires interval { 2 ≤ level.now.interval }
+    requires small { AreSmallMarks level.now.marks.now }
+    requires pointers { level.now.number ≡ 0 ⊎ length level.now.marks.now / level.now.step ≤ length level.now.children.now }
+    requires small_pointers { AreSmallPlaces level.now.children.now }
+    requires steps { left ≡ 0 ⊎ level.now.step * level.now.interval ^ (left - 1) ≤ 2 ^ 32 }
+    requires fits { level.now.number + left < 2 ^ 32 }
+    ensures { OnOk result (out.new.items ≡ out.old.items ++ marked_levels left (marks_of level.now)) }
 {
     if left == 0 {
         return Ok(());
     }
-    let level = written_level(alloc, payloads, marks, interval, number, step, children)?;
-    put_levels(
-        alloc,
-        out,
-        left - 1,
-        payloads,
-        marks,
-        interval,
-        number + 1,
-        step * interval as usize,
-        &level.places,
-    )?;
-    put_with_length(out, number, &level.bytes)
+    let written = written_level(alloc, level)?;
+    let above = LevelInput {
+        number: level.number + 1,
+        step: level.step * level.interval as usize,
+        children: &written.places,
+        ..*level
+    };
+    put_levels(alloc, out, left - 1, &above)?;
+    put_with_length(out, level.number, &written.bytes)
 }
 
 /// Writes the entries and skip data of the terms of a segment, one term after another (format page, "Entries and skip data").
-/// Contracts see the bytes so far, and of the term that is begun its flags, its start, and what its skip data will be made of.
+/// Contracts see the settings, the bytes of the terms before the one that is begun, and the entries that were handed over; it
+/// keeps those entries until the term is finished.
 #[derive(Drop)]
 pub struct FreqWriter {
     alloc: Global,
     skip_interval: u32,
     max_levels: u32,
     bytes: Vec<u8>,
+    start: usize,
     omit_tf: bool,
     payloads: bool,
-    start: usize,
+    entries: Vec<Handed>,
     count: u32,
     doc: u32,
     marks: Vec<Mark>,
 }
 
 impl Model for FreqWriter {
-    ghost use Rattle.std.specs.Prelude.{◌≡◌, ◌≤◌, ◌<◌, ◌+◌, ◌-◌, ◌/◌, ◌^◌, ℕ, length, slice_index_or};
-    ghost use Rattle.freq_skips.specs.Written.{no_mark};
-    ghost use Rattle.freq_skips.specs.Writing.{WriterState};
+    ghost use Rattle.std.specs.Prelude.{◌≡◌, ◌≤◌, ◌<◌, ◌+◌, ◌-◌, ◌^◌, ◌++◌, ℕ, length, take, slice_index_or};
+    ghost use Rattle.freq_skips.specs.Written.{no_mark, last_doc, entries_bytes, AreInOrder};
+    ghost use Rattle.freq_skips.specs.InnerLevels.{HasMarks};
+    ghost use Rattle.freq_skips.specs.Writing.{FrqWriting};
+    ghost use Rattle.std.specs.Prelude.{true};
 
-    ghost Value = { WriterState };
+    ghost Value = { FrqWriting };
 
     ghost view = { λ w. record {
       interval = w.skip_interval;
       most = w.max_levels;
-      bytes = w.bytes.items;
+      bytes = take w.start w.bytes.items;
       omit = w.omit_tf;
       payloads = w.payloads;
-      start = w.start;
-      count = w.count;
-      doc = w.doc;
-      marks = w.marks.items;
+      entries = w.entries.items;
     } };
 
     ghost invariant = { λ w. record {
       interval : 2 ≤ w.skip_interval;
       start_within : w.start ≤ length w.bytes.items;
-      fresh : w.count ≡ 0 → w.doc ≡ 0;
-      order : w.count ≤ w.doc + 1;
-      doc_small : w.doc < 2 ^ 31;
-      marks_due : length w.marks.items ≡ w.count / w.skip_interval;
+      written : w.bytes.items ≡ take w.start w.bytes.items ++ entries_bytes w.omit_tf 0 w.entries.items;
+      count : w.count ≡ length w.entries.items;
+      last : w.doc ≡ last_doc 0 w.entries.items;
+      order : AreInOrder (2 ^ 31) true 0 w.entries.items;
+      marks : HasMarks w.omit_tf w.skip_interval w.entries.items w.marks.items;
       small : (k : ℕ) → k < length w.marks.items → ((slice_index_or w.marks.items k no_mark).doc < 2 ^ 31) × ((slice_index_or w.marks.items k no_mark).freq ≤ length w.bytes.items - w.start);
     } };
 }
@@ -280,16 +287,17 @@ impl FreqWriter {
         max_levels: u32,
     ) -> Result<FreqWriter, OutOfMemory>
         requires { 2 ≤ skip_interval }
-        ensures { IfOk result (λ writer. writer ≡ record { interval = skip_interval; most = max_levels; bytes = []; omit = false; payloads = false; start = 0; count = 0; doc = 0; marks = [] }) }
+        ensures { IfOk result (λ writer. writer ≡ record { interval = skip_interval; most = max_levels; bytes = []; omit = false; payloads = false; entries = [] }) }
     {
         Ok(FreqWriter {
             alloc,
             skip_interval,
             max_levels,
             bytes: Vec::new(alloc),
+            start: 0,
             omit_tf: false,
             payloads: false,
-            start: 0,
+            entries: Vec::new(alloc),
             count: 0,
             doc: 0,
             marks: Vec::new(alloc),
@@ -298,29 +306,34 @@ impl FreqWriter {
 
     /// How many bytes the file has so far.
     pub fn len(&self) -> usize
-        ensures { result ≡ length self.now.bytes }
+        ensures { result ≡ length (bytes_so_far self.now) }
     {
         self.bytes.len()
     }
 
+    /// How many entries the term that is begun has so far.
+    pub fn count(&self) -> u32
+        ensures { result ≡ length self.now.entries }
+    {
+        self.count
+    }
+
     /// Begins a term, of a field without frequencies or with payloads, and answers its place.
     pub fn start(&mut self, omit_tf: bool, payloads: bool) -> u32
-        requires none { self.old.count ≡ 0 }
+        requires none { self.old.entries ≡ [] }
         requires room { length self.old.bytes < 2 ^ 31 }
         ensures place { result ≡ length self.old.bytes }
         ensures begun { self.new ≡ begun self.old omit_tf payloads }
     {
         self.omit_tf = omit_tf;
         self.payloads = payloads;
-        self.start = self.bytes.len();
-        self.doc = 0;
-        self.start as u32
+        self.bytes.len() as u32
     }
 
     /// Adds an entry to the term that is begun: a document above the one before, how often the term stands in it, and the bytes
     /// of positions that the term has so far. On `Err` the writer is as before.
     pub fn add(&mut self, doc: u32, freq: u32, prox: u32) -> Result<(), OutOfMemory>
-        requires order { self.old.count ≡ 0 ⊎ self.old.doc < doc }
+        requires order { self.old.entries ≡ [] ⊎ last_doc 0 self.old.entries < doc }
         requires doc_small { doc < 2 ^ 31 }
         requires some { 1 ≤ freq }
         requires freq_small { freq < 2 ^ 31 }
@@ -328,13 +341,22 @@ impl FreqWriter {
         ensures err { OnErr result (self.new ≡ self.old) }
     {
         let before = self.bytes.len();
+        let held = self.entries.len();
         let mark = mark_before(self.omit_tf, self.doc, before - self.start, prox);
         let (delta, stated) = canonical(self.omit_tf, doc - self.doc, freq);
         put_entry(&mut self.bytes, delta, stated)?;
+        match self.entries.push(Handed { doc, freq, prox }) {
+            Ok(()) => {}
+            Err(_) => {
+                self.bytes.truncate(before);
+                return Err(OutOfMemory);
+            }
+        }
         if (self.count + 1) % self.skip_interval == 0 {
             match self.marks.push(mark) {
                 Ok(()) => {}
                 Err(_) => {
+                    self.entries.truncate(held);
                     self.bytes.truncate(before);
                     return Err(OutOfMemory);
                 }
@@ -348,31 +370,32 @@ impl FreqWriter {
     /// Writes the skip data of the term that is begun, and answers how far they start from its first entry, or 0 where it has
     /// none. On `Err` the writer is as before.
     pub fn finish_term(&mut self) -> Result<u32, OutOfMemory>
-        requires some { 0 < self.old.count }
-        requires room { length self.old.bytes < 2 ^ 31 }
-        ensures ok { IfOk result (λ delta. (self.new ≡ finished self.old) × (delta ≡ (if levels_due self.old == 0 then 0 else length self.old.bytes - self.old.start))) }
+        requires some { 0 < length self.old.entries }
+        requires room { length (bytes_so_far self.old) < 2 ^ 31 }
+        ensures ok { IfOk result (λ delta. (self.new ≡ finished self.old) × (delta ≡ skip_delta self.old)) }
+        ensures below { length self.old.entries < self.old.interval → IfOk result (λ delta. delta ≡ 0) }
         ensures err { OnErr result (self.new ≡ self.old) }
     {
         let before = self.bytes.len();
         let (left, _power) = greatest_power(self.skip_interval, self.count, self.max_levels);
         let mut skips = Vec::new(self.alloc);
-        put_levels(
-            self.alloc,
-            &mut skips,
-            left,
-            self.payloads,
-            &self.marks,
-            self.skip_interval,
-            0,
-            1,
-            &[],
-        )?;
+        let lowest = LevelInput {
+            payloads: self.payloads,
+            interval: self.skip_interval,
+            marks: &self.marks,
+            number: 0,
+            step: 1,
+            children: &[],
+        };
+        put_levels(self.alloc, &mut skips, left, &lowest)?;
         self.bytes.extend_from_slice(&skips)?;
         let delta = if left == 0 {
             0
         } else {
             (before - self.start) as u32
         };
+        self.start = self.bytes.len();
+        self.entries.clear();
         self.count = 0;
         self.doc = 0;
         self.marks.clear();
@@ -381,8 +404,9 @@ impl FreqWriter {
 
     /// The bytes of the file.
     pub fn finish(self) -> Vec<u8>
-        requires { self.count ≡ 0 }
-        ensures { result.items ≡ self.bytes }
+        requires { self.entries ≡ [] }
+        ensures whole { result.items ≡ self.bytes }
+        ensures bytes { IsBytes result.items }
     {
         self.bytes
     }

@@ -36,7 +36,7 @@ impl Drawn {
     fn of(number: u32) -> Drawn {
         Drawn {
             number,
-            entries: 1 + draw(number, 1000, 0, 70),
+            entries: if number % 10 == 0 { 70 } else { 1 + draw(number, 1000, 0, 20) },
             interval: 2 + number % 15,
             levels: 1 + draw(number, 1000, 1, 6),
             payloads: number % 3 != 0,

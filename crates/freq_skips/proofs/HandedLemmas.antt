@@ -9,6 +9,7 @@ use Rattle.std.proofs.Math.Nat.{zero-div, div-mul-le_self, mul-le-mul_right}
 use Rattle.freq_skips.specs.declared.writer.Mark.{Mark}
 use Rattle.freq_skips.specs.Written.{Handed, no_handed, entry_bytes, entries_bytes, last_doc, mark_of, no_mark, AreInOrder}
 use Rattle.freq_skips.specs.InnerLevels.{HasMarks}
+use Rattle.freq_skips.specs.Writing.{IsRisingProx}
 use Rattle.freq_skips.proofs.Powers.{quotient-same, multiple-index, multiple-next}
 
 -- one entry more at the end
@@ -118,3 +119,26 @@ written-more omit start bytes more entries h le is grown =
 -- how many bytes the entries take
 pub entries-long : (omit : Bool) (start : ℕ) (bytes : List ℕ) (entries : List Handed) → start ≤ length bytes → bytes ≡ take start bytes ++ entries_bytes omit 0 entries → length bytes - start ≡ length (entries_bytes omit 0 entries)
 entries-long omit start bytes entries le is = omega (arith, ap length is, length-append (take start bytes) (entries_bytes omit 0 entries), length-take-le start bytes le)
+
+-- the bytes of positions do not fall, with one entry more that has no fewer
+pub rising-more : (handed : List Handed) (h : Handed) → IsRisingProx handed → ((k : ℕ) → k < length handed → (slice_index_or handed k no_handed).prox ≤ h.prox) → h.prox < 2 ^ 31 → IsRisingProx (handed ++ h ∷ [])
+rising-more handed h rises below small j k le lt = elim (cases_lt k (length handed)) [
+  | inl low ↦ rw (get_or-append handed (h ∷ []) no_handed j (omega arith), get_or-append handed (h ∷ []) no_handed k low) (rises j k le low)
+  | inr ge ↦
+      let last : k ≡ length handed = omega (arith, length-append handed (h ∷ [])) in
+      let here : slice_index_or (handed ++ h ∷ []) k no_handed ≡ h = ap (λ (n : ℕ). get_or (handed ++ h ∷ []) n no_handed) last ∙ get_or-append_seam handed h [] no_handed in
+      elim (cases_lt j (length handed)) [
+        | inl before ↦ rw (here, get_or-append handed (h ∷ []) no_handed j before) (below j before, small)
+        | inr same ↦ let e : j ≡ k = omega arith in rw (e, here) (omega arith, small)
+      ]
+]
+
+-- and none of them has more than the last
+pub prox-below : (handed : List Handed) (h : Handed) (most : ℕ) → ((k : ℕ) → k < length handed → (slice_index_or handed k no_handed).prox ≤ most) → h.prox ≤ most → (k : ℕ) → k < length (handed ++ h ∷ []) → (slice_index_or (handed ++ h ∷ []) k no_handed).prox ≤ most
+prox-below handed h most below le k lt = elim (cases_lt k (length handed)) [
+  | inl low ↦ rw (get_or-append handed (h ∷ []) no_handed k low) (below k low)
+  | inr ge ↦
+      let last : k ≡ length handed = omega (arith, length-append handed (h ∷ [])) in
+      let here : slice_index_or (handed ++ h ∷ []) k no_handed ≡ h = ap (λ (n : ℕ). get_or (handed ++ h ∷ []) n no_handed) last ∙ get_or-append_seam handed h [] no_handed in
+      rw here le
+]

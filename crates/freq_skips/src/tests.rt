@@ -1,4 +1,5 @@
-ghost use Rattle.std.specs.Prelude.{◌≡◌, ◌<◌, ◌≤◌, ◌^◌, length};
+ghost use Rattle.std.specs.Prelude.{◌≡◌, ◌<◌, ◌≤◌, ◌^◌, length, false, IfOk};
+ghost use Rattle.freq_skips.specs.Points.{HasKnownPlaces};
 
 use super::*;
 use lu_prims::Steps;
@@ -16,8 +17,7 @@ struct Read;
 
 /// A term at the start of the file.
 fn info(doc_freq: u32, skip: u32) -> TermInfo
-    ensures count { result.doc_freq ≡ doc_freq }
-    ensures place { result.freq ≡ 0 }
+    ensures { result ≡ record { field = 0; doc_freq = doc_freq; freq = 0; prox = 0; skip = skip } }
 {
     TermInfo {
         field: 0,
@@ -30,7 +30,7 @@ fn info(doc_freq: u32, skip: u32) -> TermInfo
 
 /// A field with frequencies and without payloads.
 fn rules(skip_interval: u32, max_levels: u32) -> TermRules
-    ensures { result.skip_interval ≡ skip_interval }
+    ensures { result ≡ record { documents = 100; skip_interval = skip_interval; max_levels = max_levels; omit_tf = false; payloads = false } }
 {
     TermRules {
         documents: 100,
@@ -50,8 +50,10 @@ fn written(
     levels: u32,
 ) -> Result<(Vec<u8>, u32), Fail>
     requires some { 0 < documents }
-    requires few { documents < 2 ^ 31 }
+    requires few { documents < 100 }
     requires interval { 2 ≤ interval }
+    ensures places { IfOk result (λ x. HasKnownPlaces (record { field = 0; doc_freq = documents; freq = 0; prox = 0; skip = x.1 })
+        (record { documents = 100; skip_interval = interval; max_levels = levels; omit_tf = false; payloads = false }) x.0.items) }
 {
     let mut writer = FreqWriter::new(alloc, interval, levels)?;
     let place = writer.start(false, false);
@@ -61,6 +63,7 @@ fn written(
     }
     assert!(rt; writer.len() < 1 << 31);
     let delta = writer.finish_term()?;
+    assert!(rt; writer.len() < 1 << 31);
     let mut bytes = writer.finish();
     bytes.push(0x55)?;
     Ok((bytes, delta))
@@ -291,6 +294,7 @@ fn found(frq: &[u8], info: &TermInfo, rules: &TermRules, target: u32) -> Option<
     requires some { 0 < info.now.doc_freq }
     requires within { info.now.freq ≤ length frq.now }
     requires small { length frq.now < 2 ^ 32 }
+    requires places { HasKnownPlaces info.now rules.now frq.now }
 {
     if check_term(frq, info.freq as usize, info, rules).is_err() {
         return None;
@@ -301,31 +305,30 @@ fn found(frq: &[u8], info: &TermInfo, rules: &TermRules, target: u32) -> Option<
     Some((point, steps.count()))
 }
 
-/// The points of a term of two levels, whose positions take a byte each.
+/// The points of a term of two levels, whose entries and positions take a byte each, and the data that are read for them: all of
+/// the upper level, up to the first that does not lead below the target, and then those of the lower one.
 fn finds(rt: &impl Abort, alloc: Global) -> Result<(), Fail> {
-    let (bytes, _delta) = written(rt, alloc, 35, 4, 2)?;
+    let (bytes, delta) = written(rt, alloc, 35, 4, 2)?;
     assert!(rt; bytes.len() < 100);
-    for (target, passed, doc, place) in [
-        (35, 31, 30, 31),
-        (34, 31, 30, 31),
-        (20, 19, 18, 19),
-        (0, 0, 0, 0),
-    ] {
-        let point = found(&bytes, &info(35, 35), &rules(4, 2), target);
-        let Some((point, steps)) = point else {
-            panic!(rt; "the term is good");
+    let rows = [
+        (35, 31, 30, 2),
+        (34, 31, 30, 2),
+        (20, 19, 18, 4),
+        (0, 0, 0, 2),
+    ];
+    for (target, passed, doc, steps) in rows {
+        let wanted = SkipPoint {
+            passed,
+            doc,
+            freq: passed,
+            prox: passed,
         };
+        let point = found(&bytes, &info(35, delta), &rules(4, 2), target);
         assert!(rt;
-            point
-                == SkipPoint {
-                    passed,
-                    doc,
-                    freq: place,
-                    prox: place
-                },
+            point == Some((wanted, steps)),
             "target {target}: {point:?}"
         );
-        assert!(rt; steps <= 2 + 4 * 2, "target {target}: {steps}");
+        assert!(rt; steps <= 2 + 4 * 2);
     }
     Ok(())
 }

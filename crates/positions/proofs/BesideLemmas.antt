@@ -8,7 +8,8 @@ use Rattle.freq_skips.specs.declared.rules.RuledTerm.{RuledTerm}
 use Rattle.freq_skips.specs.Entries.{Posting, no_posting}
 use Rattle.freq_skips.specs.Levels.{stride}
 use Rattle.freq_skips.specs.Terms.{TermData, term_plan}
-use Rattle.freq_skips.specs.Written.{Handed, no_handed, entry_bytes, written_postings}
+use Rattle.freq_skips.specs.declared.writer.Handed.{Handed}
+use Rattle.freq_skips.specs.Written.{no_handed, entry_bytes, written_postings}
 use Rattle.freq_skips.specs.Writing.{IsAsHanded}
 use Rattle.freq_skips.proofs.Powers.{power-pos}
 use Rattle.positions.specs.Occurrences.{Occurrence}

@@ -21,3 +21,4 @@ pub mod WrittenDocuments
 pub mod WrittenTerms
 pub mod WritingLemmas
 pub mod BesideLemmas
+pub mod GoodLemmas

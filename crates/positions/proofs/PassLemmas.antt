@@ -74,7 +74,7 @@ Skims-less payloads start m n f g c d fits lt h k =
     omega (arith, moves.0)
 
 -- in a field without payloads no length is stated
-plain-stated : (force : ℕ) (here : Cursor) (r : OccurrenceRecord) (next : Cursor) → read_shape (occurrence_shape false force) here ≡ Ok (r, next) → r.stated ≡ None
+pub plain-stated : (force : ℕ) (here : Cursor) (r : OccurrenceRecord) (next : Cursor) → read_shape (occurrence_shape false force) here ≡ Ok (r, next) → r.stated ≡ None
 plain-stated force here r next e = outer (read_part vint here) e
   where
     inner : (delta : ℕ) (x : Result (List ℕ × Cursor) Bad) → (x >>= λ y. ok_pair {E = Bad} (record { delta = delta; stated = None; payload = y.0 }) y.1) ≡ ok_pair r next → r.stated ≡ None

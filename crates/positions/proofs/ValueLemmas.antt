@@ -41,6 +41,10 @@ Begins-step p front s c m d h e =
       before_is = ap (λ (x : Held). x.before) (sym was.2) ∙ ap (λ (l : List (List Occurrence)). l ++ was.0.now ∷ []) (kept.before_is ∙ h.before_is) ∙ append_assoc front h.back (was.0.now ∷ []);
     }
 
+-- the entries before are kept
+pub entry-kept : (p : PostedTerm) (n : ℕ) (s : Held) (c : Cursor) (m : Held) (d : Cursor) → read_plan (times (occurrence_kind p) n s) c ≡ Ok (m, d) → m.before ≡ s.before
+entry-kept p n s c m d e = (times-keeps (occurrence_kind p) (Keeps s.now s.before) (Keeps-step p s.now s.before) n s c m d (record { back = []; now_is = sym (append-nil s.now); before_is = refl }) e).before_is
+
 -- the occurrences of the entry are those that were read, and others
 pub record IsEntry (p : PostedTerm) (v : List (List Occurrence)) (passed : ℕ) (now : List Occurrence) : Type 0 where
   pub back : List Occurrence

@@ -1,7 +1,8 @@
 -- What is written of the occurrences of a term beside its entries.
 use Rattle.std.specs.Prelude.{◌≡◌, ◌<◌, ◌≤◌, ℕ, false, List, [], length, take, slice_index_or}
 use Rattle.freq_skips.specs.declared.rules.RuledTerm.{RuledTerm}
-use Rattle.freq_skips.specs.Written.{Handed, no_handed}
+use Rattle.freq_skips.specs.declared.writer.Handed.{Handed}
+use Rattle.freq_skips.specs.Written.{no_handed}
 use Rattle.positions.specs.Occurrences.{Occurrence}
 use Rattle.positions.specs.Written.{occurrences_bytes, IsDocument}
 

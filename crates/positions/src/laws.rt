@@ -1,17 +1,18 @@
 //! Laws on the terms of a file.
-ghost use Rattle.std.specs.Prelude.{◌≡◌, ◌<◌, ◌^◌, ◌+◌, ◌-◌, ℕ, Bool, List, [], ◌∷◌, ◌++◌, length};
+ghost use Rattle.std.specs.Prelude.{◌≡◌, ◌<◌, ◌^◌, ◌+◌, ◌-◌, ℕ, Bool, false, slice_index_or, List, [], ◌∷◌, ◌++◌, length};
 ghost use Rattle.lu_types.specs.RuleNumbers as number;
 ghost use Rattle.lu_grammar.specs.Bytes.{IsBytes, Cursor, place_in};
 ghost use Rattle.lu_grammar.specs.Meaning.{Reads, ReadsTo, FirstFault};
 ghost use Rattle.freq_skips.specs.declared.rules.RuledTerm.{RuledTerm};
+ghost use Rattle.freq_skips.specs.Entries.{no_posting};
 ghost use Rattle.freq_skips.specs.Terms.{TermData, term_plan as frq_term_plan};
-ghost use Rattle.freq_skips.specs.Written.{Handed};
+ghost use Rattle.freq_skips.specs.declared.writer.Handed.{Handed};
 ghost use Rattle.freq_skips.specs.Writing.{IsAsHanded};
 ghost use Rattle.positions.specs.Beside.{IsBeside};
 ghost use Rattle.freq_skips.specs.ProxPlaces.{HasProxPlaces};
 ghost use Rattle.positions.specs.Cursors.{StandsInBoth};
 ghost use Rattle.positions.specs.Occurrences.{Occurrence, PostedTerm};
-ghost use Rattle.positions.specs.Written.{occurrences_bytes, IsHanded};
+ghost use Rattle.positions.specs.Written.{occurrences_bytes, IsDocument, IsHanded};
 ghost use Rattle.positions.specs.Writing.{WriterState, begun, document_begun, added, HoldsTerm, HoldsDocument};
 ghost use Rattle.positions.specs.Terms.{IsTermFault, AreTermsUpTo, term_plan, terms_plan};
 
@@ -58,4 +59,11 @@ pub fn written_together()
     ensures { (t : RuledTerm) (value : TermData) (handed : List Handed) (written : List ℕ) (entries : List (List Occurrence)) (frq : List ℕ) (behind : Cursor) (prx rest : List ℕ) → IsAsHanded t handed value
         → IsBeside t handed written entries → ReadsTo (frq_term_plan t) (place_in frq t.info.freq) value behind → prx ≡ written ++ (occurrences_bytes t.rules.payloads entries ++ rest) → IsBytes prx
         → StandsInBoth t value prx entries }
+{}
+
+/// What the occurrences of a term are that stands in both files: those of an entry are as many as its frequency, their positions do
+/// not fall and are below 2^31, and their payloads are bytes, fewer than 2^31, and none in a field without payloads.
+pub fn occurrences_are_good()
+    ensures { (t : RuledTerm) (value : TermData) (prx : List ℕ) (occurrences : List (List Occurrence)) (k : ℕ) → IsBytes prx → StandsInBoth t value prx occurrences → t.rules.omit_tf ≡ false → k < t.info.doc_freq
+        → IsDocument t.rules.payloads 0 (slice_index_or occurrences k []) × (length (slice_index_or occurrences k []) ≡ (slice_index_or value.postings k no_posting).freq) }
 {}

@@ -12,7 +12,8 @@ mod writer;
 
 pub use check::check_term;
 pub use laws::{
-    skip_data_lead, terms_in_turn, what_is_held, written_is_read, written_together,
+    occurrences_are_good, skip_data_lead, terms_in_turn, what_is_held, written_is_read,
+    written_together,
 };
 pub use occurrences::{Occ, Occurrences};
 pub use writer::ProxWriter;

@@ -30,7 +30,7 @@ use Rattle.term_dict.specs.Terms.{DictionaryTerm, no_term, last_term, term_after
 use Rattle.term_dict.specs.Dictionary.{Dictionary, Progress, no_terms, with_term, within, is_past_files, term_place_conditions, against, term_conditions, term_kind, terms_plan, dictionary_plan, tis_plan}
 use Rattle.term_dict.specs.Facts.{IsTermOfSegment, AreGoodTerms}
 use Rattle.term_dict.proofs.FileLemmas.{finish, dictionary_of}
-use Rattle.term_dict.proofs.WalkLemmas.{good_entry, grows, was_ended}
+use Rattle.term_dict.proofs.DictionaryRead.{good_entry, grows, was_ended}
 
 -- ---- the order of terms
 

@@ -27,7 +27,7 @@ use Rattle.term_dict.specs.Terms.{DictionaryTerm, no_term, term_after, field_of,
 use Rattle.term_dict.specs.Dictionary.{Dictionary}
 use Rattle.term_dict.specs.Index.{IndexEntry, IndexProgress, index_shape, index_kind, index_against, index_conditions, index_heading_conditions, indexed_term, indexed_place, no_entries, entry_count, entries_plan, tii_plan, point_after}
 use Rattle.term_dict.proofs.FileLemmas.{record_at-was}
-use Rattle.term_dict.proofs.WalkLemmas.{was_ok}
+use Rattle.term_dict.proofs.DictionaryRead.{was_ok}
 use Rattle.term_index.specs.declared.mark.Mark.{Mark}
 use Rattle.term_index.specs.Points.{progress}
 use Rattle.term_index.specs.Seeking.{Searched, searched, name_of, names_of, AreChecked}

@@ -1,5 +1,5 @@
 -- Which document a JSON value is (format page, "Input"); none where its shape is bad.
-use Rattle.std.specs.Prelude.{ℕ, Bool, true, false, ◌&&◌, cond, List, [], ◌∷◌, Option, Some, None, option_map, codes, length, nat_le, nat_lt}
+use Rattle.std.specs.Prelude.{ℕ, Bool, true, false, ◌&&◌, cond, List, [], ◌∷◌, Option, Some, None, option_map, codes, nat_le}
 use Rattle.std.specs.Result.{result_ok}
 use Rattle.std.specs.List.{list_any}
 use Rattle.std.specs.Str.{bytes_eq}
@@ -130,17 +130,9 @@ token_of d = do
   payload ← or_absent [] bytes_of (get (codes "payload") o)
   Some (record { text = text; position = position; start = start; end = end; payload = payload })
 
--- the length of the shortest text that is not split into tokens; an input has fewer bytes
-abbrev pub text_limit : ℕ
-text_limit = 2147483648
-
--- the tokens of a text
-abbrev pub split : List ℕ → Option (List Token)
-split text = cond (nat_lt (length text) text_limit) (Some (tokens_of text)) None
-
 -- the tokens: exactly one of a text and of a list of tokens
 abbrev pub tokens_in : Option Data → Option Data → Option (List Token)
-tokens_in text tokens = one_of (λ t. as_str t >>= split) (list_of token_of) text tokens
+tokens_in text tokens = one_of (λ t. option_map tokens_of (as_str t)) (list_of token_of) text tokens
 
 abbrev pub indexed_names : List (List ℕ)
 indexed_names = codes "field" ∷ codes "norm" ∷ codes "omitTf" ∷ codes "vector" ∷ codes "text" ∷ codes "tokens" ∷ []

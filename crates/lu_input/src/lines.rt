@@ -3,6 +3,7 @@ ghost use Rattle.std.specs.Prelude.{◌≡◌, ◌⊎◌, ◌<◌, ◌^◌, leng
 ghost use Rattle.serde_json.specs.View.{view};
 ghost use Rattle.lu_input.specs.declared.fault.InputFault.TheVariants.{OutOfMemory};
 ghost use Rattle.lu_input.specs.Answers.{Appends, JudgesLine};
+ghost use Rattle.lu_input.specs.Lengths.{IsShort};
 ghost use Rattle.lu_input.specs.Lines.{input_documents, json_of, line_document, line_found, shaped, sound};
 ghost use Rattle.lu_input.specs.Shapes.{document_of};
 
@@ -54,6 +55,7 @@ fn read_line(
     limits: &Limits,
     documents: &mut Vec<Document>,
 ) -> Result<(), InputFault>
+    requires { length line.now < 2 ^ 31 }
     ensures { Appends (line_found limits.now number line.now) documents.old.items documents.new.items result }
 {
     if line.is_empty() {
@@ -76,6 +78,7 @@ fn line_document(
     number: u32,
     limits: &Limits,
 ) -> Result<Document, InputFault>
+    requires { length line.now < 2 ^ 31 }
     ensures { JudgesLine number (line_document limits.now line.now) result }
 {
     match json(alloc, line) {
@@ -87,7 +90,9 @@ fn line_document(
 
 /// The JSON value that a line is; a `BadShape` says that it is none.
 fn json(alloc: Global, line: &[u8]) -> Result<Value, Misread>
+    requires { length line.now < 2 ^ 31 }
     ensures ok { IfOk result (λ value. json_of line.now ≡ Some (view value)) }
+    ensures short { IfOk result (λ value. IsShort (view value)) }
     ensures err { result ≡ Err Misread.BadShape → json_of line.now ≡ None }
 {
     match Value::from_slice(alloc, line) {
@@ -106,6 +111,7 @@ fn shaped(
     number: u32,
     limits: &Limits,
 ) -> Result<Document, InputFault>
+    requires { IsShort (view value.now) }
     ensures { JudgesLine number (shaped limits.now (document_of (view value.now))) result }
 {
     match objects::document(alloc, value) {

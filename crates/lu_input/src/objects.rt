@@ -3,7 +3,8 @@ ghost use Rattle.std.specs.Prelude.{◌≡◌, ◌<◌, ◌^◌, [], Some, optio
 ghost use Rattle.serde_json.specs.Find.{as_str, get};
 ghost use Rattle.serde_json.specs.View.{view};
 ghost use Rattle.lu_input.specs.Answers.{Reads};
-ghost use Rattle.lu_input.specs.Shapes.{or_absent, list_of, one_of, stored_of, token_of, indexed_of, document_of, stored_value_in, split, tokens_in};
+ghost use Rattle.lu_input.specs.Lengths.{IsShort, IsShortIfAny};
+ghost use Rattle.lu_input.specs.Shapes.{or_absent, list_of, one_of, stored_of, token_of, indexed_of, document_of, stored_value_in, tokens_in};
 
 use crate::fault::Misread;
 use crate::members;
@@ -13,11 +14,9 @@ use lu_types::{Document, IndexedField, Items, Stored, StoredValue, Token};
 use serde_json::Value;
 use std::alloc::Global;
 
-/// The length of the shortest text that is too long to be split into tokens; an input has fewer bytes.
-const TEXT_LIMIT: usize = 1 << 31;
-
-/// The document that a value is.
+/// The document that a value is, whose texts are shorter than 2^31 bytes.
 pub fn document(alloc: Global, value: &Value) -> Result<Document, Misread>
+    requires { IsShort (view value.now) }
     ensures { Reads (document_of (view value.now)) result }
 {
     if !has_only(value, &["stored", "indexed"]) {
@@ -50,6 +49,7 @@ fn stored_values(alloc: Global, member: Option<&Value>) -> Result<Items<StoredVa
 
 /// The indexed fields of a list, none where it is absent.
 fn indexed_fields(alloc: Global, member: Option<&Value>) -> Result<Items<IndexedField>, Misread>
+    requires { IsShortIfAny (option_map (λ v. view v.now) member) }
     ensures { Reads (or_absent [] (list_of indexed_of) (option_map (λ v. view v.now) member.entry)) result }
 {
     let Some(value) = member else {
@@ -98,6 +98,7 @@ fn stored(alloc: Global, text: Option<&Value>, binary: Option<&Value>) -> Result
 
 /// The indexed field that an object is.
 fn indexed_field(alloc: Global, value: &Value) -> Result<IndexedField, Misread>
+    requires { IsShort (view value.now) }
     ensures { Reads (indexed_of (view value.now)) result }
 {
     if !has_only(
@@ -120,27 +121,18 @@ fn indexed_field(alloc: Global, value: &Value) -> Result<IndexedField, Misread>
     })
 }
 
-/// The tokens of a text.
-fn split(alloc: Global, text: &str) -> Result<Items<Token>, Misread>
-    ensures { Reads (split text.now) result }
-{
-    if text.len() >= TEXT_LIMIT {
-        return Err(Misread::BadShape);
-    }
-    Ok(Items::new(tokens_of(alloc, text)?))
-}
-
 /// The tokens: exactly one of a text and of a list of them.
 fn tokens(
     alloc: Global,
     text: Option<&Value>,
     list: Option<&Value>,
 ) -> Result<Items<Token>, Misread>
+    requires { IsShortIfAny (option_map (λ v. view v.now) text) }
     ensures { Reads (tokens_in (option_map (λ v. view v.now) text.entry) (option_map (λ v. view v.now) list.entry)) result }
 {
     match (text, list) {
         (Some(value), None) => match value.as_str() {
-            Some(text) => split(alloc, text),
+            Some(text) => Ok(Items::new(tokens_of(alloc, text)?)),
             None => Err(Misread::BadShape),
         },
         (None, Some(value)) => token_list(alloc, value),

@@ -48,7 +48,7 @@ heading-spelled size count r front (z, back, fits, is, rest) good = by_mark (int
           small = small-value size s s_fits are.0;
           front_is = is ∙ ap (λ (x : ℤ). spelling int32 x ++ back) ((Decides-int_eq z sparse_mark).0 mark)
               ∙ ap (λ (t : List ℕ). spelling int32 sparse_mark ++ t) (s_is ∙ ap (λ (t : List ℕ). spelling int32 s ++ t) (n_is ∙ ap (λ (t : List ℕ). spelling int32 n ++ t) end ∙ append-nil (spelling int32 n)) ∙ ap (λ (x : ℤ). spelling int32 x ++ spelling int32 n) are.0
-                  ∙ ap (λ (x : ℤ). spelling int32 (pos size) ++ spelling int32 x) are.1);
+              ∙ ap (λ (x : ℤ). spelling int32 (pos size) ++ spelling int32 x) are.1);
         }
     by_mark false mark (n, none, n_fits, n_is, (made, end)) =
         let are = heading-good size count false z n (ap (λ (x : DelRecord). first_broken (header_conditions size count x)) made ∙ good) in
@@ -137,11 +137,11 @@ module _ (size count place : ℕ) (docs front : List ℕ) (rs : List (Spelled De
         number = b.number;
         rise = body-rise size count docs b;
         form = inr (
-          ap (λ (t : List ℕ). t ++ bytes_of rs) is
-          ∙ append_assoc (spelling int32 sparse_mark) (sizes_bytes size count) (bytes_of rs)
-          ∙ ap (λ (t : List ℕ). spelling int32 sparse_mark ++ (sizes_bytes size count ++ t)) (was.1 ∙ ap (pairs_bytes 0 0) (body-marks size count docs b))
-          ∙ ap (λ (n : ℕ). spelling int32 sparse_mark ++ (sizes_bytes size n ++ pairs_bytes 0 0 (marks_of size docs))) (sym b.number)
-        );
+            ap (λ (t : List ℕ). t ++ bytes_of rs) is
+            ∙ append_assoc (spelling int32 sparse_mark) (sizes_bytes size count) (bytes_of rs)
+            ∙ ap (λ (t : List ℕ). spelling int32 sparse_mark ++ (sizes_bytes size count ++ t)) (was.1 ∙ ap (pairs_bytes 0 0) (body-marks size count docs b))
+            ∙ ap (λ (n : ℕ). spelling int32 sparse_mark ++ (sizes_bytes size n ++ pairs_bytes 0 0 (marks_of size docs))) (sym b.number)
+            );
       }
 
 file-was : (size count : ℕ) (records : List (Spelled DelRecord)) (docs : List ℕ) → AreGood (del_plan size count) 0 records → due_after (del_plan size count) 0 records ≡ finished docs → IsDelFile size count docs (bytes_of records)

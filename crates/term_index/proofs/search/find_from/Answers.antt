@@ -44,7 +44,6 @@ loop-info-preserved g c =
     subst (IsSearching s field text c.args.steps.now c.args.cursor.now.passed new) (sym c.tick.ensures)
     (IsSearching-more s field text c.args.steps.now c.args.cursor.now.passed w new c.loop-info.steps t Less c.requires.terms c.loop-info.invariant r refl c.in-Some.ensures.passed)
 
-
 pub loop-info-smaller : goal.loop-info-smaller
 loop-info-smaller g c =
     let s = searched c.args.cursor.now.dictionary c.args.names.now in
@@ -61,14 +60,12 @@ returns-in-Equal-clause-term g c =
     let named = subst IsUtf8 c.name.ensures c.name.utf8 in
     ap (option_map (λ (x : DictionaryTerm). x.info)) (sym (found-first s field text c.args.steps.now c.args.cursor.now.passed c.loop-info.cursor c.loop-info.steps t c.requires.terms f named c.requires.texts.0 c.requires.texts.1))
 
-
 pub returns-in-Equal-clause-steps : goal.returns-in-Equal-clause-steps
 returns-in-Equal-clause-steps g c =
     let s = searched c.args.cursor.now.dictionary c.args.names.now in
     let field = c.args.sought.now.field.now in
     let text = c.args.sought.now.text.now in
     c.tick.ensures ∙ (first_read s field text c.args.steps.now c.args.cursor.now.passed c.loop-info.cursor c.next.new.self c.loop-info.steps c.in-Some.info c.loop-info.invariant c.in-Some.ensures.term c.in-Some.ensures.passed c.name.result.now c.text.result.now c.compare.result Equal c.compare.ensures c.name.ensures c.text.ensures c.in-Equal.is refl).steps
-
 
 pub returns-in-Greater-clause-term : goal.returns-in-Greater-clause-term
 returns-in-Greater-clause-term g c =
@@ -79,14 +76,12 @@ returns-in-Greater-clause-term g c =
     let f = first_read s field text c.args.steps.now c.args.cursor.now.passed c.loop-info.cursor c.next.new.self c.loop-info.steps c.in-Some.info c.loop-info.invariant c.in-Some.ensures.term c.in-Some.ensures.passed c.name.result.now c.text.result.now c.compare.result Greater c.compare.ensures c.name.ensures c.text.ensures c.in-Greater.is refl in
     ap (option_map (λ (x : DictionaryTerm). x.info)) (sym (none-above s field text c.args.steps.now c.args.cursor.now.passed c.loop-info.cursor c.loop-info.steps t c.requires.terms f))
 
-
 pub returns-in-Greater-clause-steps : goal.returns-in-Greater-clause-steps
 returns-in-Greater-clause-steps g c =
     let s = searched c.args.cursor.now.dictionary c.args.names.now in
     let field = c.args.sought.now.field.now in
     let text = c.args.sought.now.text.now in
     c.tick.ensures ∙ (first_read s field text c.args.steps.now c.args.cursor.now.passed c.loop-info.cursor c.next.new.self c.loop-info.steps c.in-Some.info c.loop-info.invariant c.in-Some.ensures.term c.in-Some.ensures.passed c.name.result.now c.text.result.now c.compare.result Greater c.compare.ensures c.name.ensures c.text.ensures c.in-Greater.is refl).steps
-
 
 pub returns-clause-term : goal.returns-clause-term
 returns-clause-term g c =

@@ -1,5 +1,5 @@
 -- How long the texts of a JSON value are, the names of members aside.
-use Rattle.std.specs.Prelude.{ℕ, max, ◌<◌, ◌^◌, List, length, Option, Some, None}
+use Rattle.std.specs.Prelude.{ℕ, max, ◌<◌, ◌^◌, length, Option, Some, None}
 use Rattle.serde_json.specs.Data.{Data, null, boolean, number, string, array, object, Items, no_items, item, Members, no_members, member}
 
 -- the length of the longest

@@ -1,14 +1,15 @@
 //! The lines of an input, and their documents (format page, "Input").
-ghost use Rattle.std.specs.Prelude.{◌≡◌, ◌⊎◌, ◌<◌, ◌^◌, length, Some, None, Err, IfOk, IfErr};
+ghost use Rattle.std.specs.Prelude.{◌≡◌, ◌⊎◌, ◌<◌, ◌^◌, length, Ok, Err, All, IfOk, IfErr, OnOk, option_map};
 ghost use Rattle.serde_json.specs.View.{view};
-ghost use Rattle.lu_input.specs.declared.fault.InputFault.TheVariants.{OutOfMemory};
+ghost use Rattle.lu_types.specs.Documents.{IsDocument};
 ghost use Rattle.lu_input.specs.Answers.{Appends, JudgesLine};
-ghost use Rattle.lu_input.specs.Lengths.{IsShort};
+ghost use Rattle.lu_input.specs.Lengths.{IsShort, IsShortIfAny};
 ghost use Rattle.lu_input.specs.Lines.{input_documents, json_of, line_document, line_found, shaped, sound};
 ghost use Rattle.lu_input.specs.Shapes.{document_of};
 
 use crate::fault::{InputFault, LineFault, Misread};
 use crate::objects;
+use lu_prims::OutOfMemory;
 use lu_types::{Document, Limits, first_fault};
 use serde_json::{Category, Value};
 use std::alloc::Global;
@@ -25,7 +26,8 @@ pub fn read_documents(
 ) -> Result<Vec<Document>, InputFault>
     requires { length bytes.now < 2 ^ 31 }
     ensures ok { IfOk result (λ documents. input_documents limits.now bytes.now ≡ Ok documents.items) }
-    ensures err { IfErr result (λ fault. (fault ≡ OutOfMemory) ⊎ (input_documents limits.now bytes.now ≡ Err fault)) }
+    ensures err { IfErr result (λ fault. (fault ≡ InputFault.OutOfMemory) ⊎ (input_documents limits.now bytes.now ≡ Err fault)) }
+    ensures texts { IfOk result (λ documents. All IsDocument documents.items) }
 {
     let mut documents = Vec::new(alloc);
     let mut start = 0;
@@ -56,7 +58,8 @@ fn read_line(
     documents: &mut Vec<Document>,
 ) -> Result<(), InputFault>
     requires { length line.now < 2 ^ 31 }
-    ensures { Appends (line_found limits.now number line.now) documents.old.items documents.new.items result }
+    ensures appends { Appends (line_found limits.now number line.now) documents.old.items documents.new.items result }
+    ensures texts { All IsDocument documents.old.items → OnOk result (All IsDocument documents.new.items) }
 {
     if line.is_empty() {
         return Ok(());
@@ -79,27 +82,30 @@ fn line_document(
     limits: &Limits,
 ) -> Result<Document, InputFault>
     requires { length line.now < 2 ^ 31 }
-    ensures { JudgesLine number (line_document limits.now line.now) result }
+    ensures judges { JudgesLine number (line_document limits.now line.now) result }
+    ensures texts { IfOk result IsDocument }
 {
-    match json(alloc, line) {
-        Ok(value) => shaped(alloc, &value, number, limits),
-        Err(Misread::BadShape) => Err(InputFault::Line(number, LineFault::NotJson)),
-        Err(Misread::OutOfMemory) => Err(InputFault::OutOfMemory),
+    let found = match json(alloc, line) {
+        Ok(found) => found,
+        Err(_) => return Err(InputFault::OutOfMemory),
+    };
+    match found {
+        Some(value) => shaped(alloc, &value, number, limits),
+        None => Err(InputFault::Line(number, LineFault::NotJson)),
     }
 }
 
-/// The JSON value that a line is; a `BadShape` says that it is none.
-fn json(alloc: Global, line: &[u8]) -> Result<Value, Misread>
+/// The JSON value that a line is, where it is one.
+fn json(alloc: Global, line: &[u8]) -> Result<Option<Value>, OutOfMemory>
     requires { length line.now < 2 ^ 31 }
-    ensures ok { IfOk result (λ value. json_of line.now ≡ Some (view value)) }
-    ensures short { IfOk result (λ value. IsShort (view value)) }
-    ensures err { result ≡ Err Misread.BadShape → json_of line.now ≡ None }
+    ensures found { IfOk result (λ found. json_of line.now ≡ option_map view found) }
+    ensures short { IfOk result (λ found. IsShortIfAny (option_map view found)) }
 {
     match Value::from_slice(alloc, line) {
-        Ok(value) => Ok(value),
+        Ok(value) => Ok(Some(value)),
         Err(error) => match error.classify() {
-            Category::Memory => Err(Misread::OutOfMemory),
-            _ => Err(Misread::BadShape),
+            Category::Memory => Err(OutOfMemory),
+            _ => Ok(None),
         },
     }
 }
@@ -112,7 +118,8 @@ fn shaped(
     limits: &Limits,
 ) -> Result<Document, InputFault>
     requires { IsShort (view value.now) }
-    ensures { JudgesLine number (shaped limits.now (document_of (view value.now))) result }
+    ensures judges { JudgesLine number (shaped limits.now (document_of (view value.now))) result }
+    ensures texts { IfOk result IsDocument }
 {
     match objects::document(alloc, value) {
         Ok(document) => sound(alloc, document, number, limits),
@@ -128,7 +135,8 @@ fn sound(
     number: u32,
     limits: &Limits,
 ) -> Result<Document, InputFault>
-    ensures { JudgesLine number (sound limits.now document) result }
+    ensures judges { JudgesLine number (sound limits.now document) result }
+    ensures texts { IfOk result IsDocument }
 {
     let first = match first_fault(alloc, &document, limits) {
         Ok(first) => first,

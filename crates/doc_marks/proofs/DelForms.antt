@@ -1,5 +1,5 @@
 -- What reads as deleted documents is one of the two forms of `.del`.
-use Rattle.std.proofs.Common.{◌≡◌, ℕ, ℤ, pos, ◌+◌, ◌*◌, ◌^◌, ◌<◌, Bool, true, false, not, ◌⊎◌, eqb, List, [], ◌∷◌, ◌++◌, length, None, refl, sym, ap, subst, ◌∙◌, append_assoc, arith, rules, inl, inr}
+use Rattle.std.proofs.Common.{◌≡◌, ℕ, ℤ, pos, ◌+◌, ◌^◌, ◌<◌, Bool, true, false, not, eqb, List, [], ◌∷◌, ◌++◌, length, None, refl, sym, ap, subst, ◌∙◌, append_assoc, arith, rules, inl, inr}
 use Rattle.std.specs.Ordering.{int_eq}
 use Rattle.std.proofs.lemmas.Bool.{eqb-true}
 use Rattle.std.proofs.lemmas.Bool.Decides.{Decides-int_eq}
@@ -7,7 +7,7 @@ use Rattle.std.proofs.lemmas.List.{append-nil}
 use Rattle.lu_grammar.specs.Bytes.{IsBytes}
 use Rattle.lu_grammar.specs.Parts.{int32, IsValue, spelling}
 use Rattle.lu_grammar.specs.Records.{Spells, first_broken}
-use Rattle.lu_grammar.specs.Plans.{Plan, done, due}
+use Rattle.lu_grammar.specs.Plans.{Plan, done}
 use Rattle.lu_grammar.specs.Meaning.{Spelled, bytes_of, AreGood, due_after, Reads}
 use Rattle.doc_marks.specs.Marking.{flags, marked, marking, AreRising}
 use Rattle.doc_marks.specs.Deletions.{DelRecord, header, body, sparse_mark, body_bytes, header_shape, sizes_shape, header_conditions, body_shape, body_conditions, body_documents, is_past, dense_plan, no_pairs, after_header, del_plan}

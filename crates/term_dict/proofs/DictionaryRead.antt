@@ -1,37 +1,28 @@
 -- What it says that terms, and a whole file of them, were read.
-use Rattle.std.proofs.Common.{◌≡◌, ℕ, zero, suc, ◌+◌, ◌-◌, ◌<◌, ◌≤◌, ◌^◌, true, false, Bool, eqb, ltb, leb, not, ◌||◌, List, [], ◌∷◌, ◌++◌, length, get_or, take, drop, Some, None, Result, Ok, Err, refl, sym, ap, subst, ◌∙◌, append_assoc, arith, inl, inr}
-use Rattle.std.specs.Prelude.{slice_get, slice_index_or, if◌then◌else◌}
-use Rattle.std.specs.Str.{is_utf8}
+use Rattle.std.proofs.Common.{◌≡◌, ℕ, zero, suc, ◌+◌, ◌-◌, ◌≤◌, true, false, Bool, eqb, ltb, List, [], ◌∷◌, ◌++◌, length, take, drop, None, Result, Ok, Err, refl, sym, ap, subst, ◌∙◌, append_assoc, arith}
+use Rattle.std.specs.Prelude.{if◌then◌else◌}
 use Rattle.std.specs.Int.{Width, w32, w64}
 use Rattle.std.specs.Prelude.{ℤ}
-use Rattle.std.proofs.lemmas.Bool.{cases_lt, eqb-true, leb-false, ltb-false}
+use Rattle.std.proofs.lemmas.Bool.{eqb-true}
 use Rattle.lu_types.specs.RuleNumbers as number
-use Rattle.lu_grammar.proofs.Parts.{IsBytes-drop}
-use Rattle.term_dict.proofs.LoopLemmas.{last_term-push}
-use Rattle.std.proofs.lemmas.List.{length-append, drop_at, length-take-le, take_all, take-append-le, drop-drop, append-nil, get_or_at, get_or_past, length-drop}
-use Rattle.std.proofs.lemmas.Option.{slice_get-get_or, slice_get_past}
-use Rattle.std.proofs.Math.Seq.{take-append_seam}
-use Rattle.std.proofs.lemmas.Str.{IsUtf8-from_is_utf8}
+use Rattle.std.proofs.lemmas.List.{length-append, drop-drop, append-nil}
 use Rattle.lu_grammar.specs.declared.bad.Bad.{Bad}
 use Rattle.lu_grammar.specs.declared.bad.Bad.TheVariants.{Ends}
 use Rattle.lu_grammar.specs.Bytes.{IsBytes, Cursor, start_of, moved, place_in}
 use Rattle.lu_grammar.specs.Parts.{int32, int64}
 use Rattle.lu_grammar.specs.Reading.{◌>>=◌, read, read_part, signed_of}
 use Rattle.lu_grammar.specs.Records.{whole, followed, first_broken, read_shape, record_at}
-use Rattle.lu_grammar.specs.Plans.{Plan, Broken, broken_at, one, each, times, read_plan, ended}
-use Rattle.lu_grammar.specs.Meaning.{bytes_of}
+use Rattle.lu_grammar.specs.Plans.{Broken, broken_at, one, each, times, read_plan, ended}
 use Rattle.lu_grammar.proofs.Records.{ok_pair, same_pair, TakesRecord, ShapeJudges, read_shape-judges}
-use Rattle.lu_grammar.proofs.Plans.{ok_of, err_of, err_is_not_ok, reads-read_plan}
-use Rattle.lu_grammar.proofs.Loops.{read_plan-and_then, each-none, read_shape-followed, then_ok, one-was, times-again, times-more, each-rest}
+use Rattle.lu_grammar.proofs.Plans.{ok_of, err_of, err_is_not_ok}
+use Rattle.lu_grammar.proofs.Loops.{read_plan-and_then, read_shape-followed, then_ok, one-was}
 use Rattle.term_dict.specs.declared.heading.Heading.{Heading}
 use Rattle.lu_types.specs.declared.term.TermNumbers.{TermNumbers}
 use Rattle.term_dict.specs.Headings.{heading_shape, header, heading_conditions, numbers_of, Line, heading, entry, heading_of, on_entry}
 use Rattle.term_dict.specs.Entries.{TermRecord, entry_shape}
-use Rattle.term_dict.specs.Terms.{DictionaryTerm, no_term, last_term, term_after}
-use Rattle.term_dict.specs.Dictionary.{Dictionary, Standing, anywhere, Progress, no_terms, with_term, term_conditions, is_past_files, term_kind, terms_plan, dictionary_plan}
-use Rattle.term_dict.specs.Last.{IsSoundTerm, Fits}
+use Rattle.term_dict.specs.Terms.{DictionaryTerm, last_term, term_after}
+use Rattle.term_dict.specs.Dictionary.{Dictionary, Standing, anywhere, Progress, no_terms, with_term, term_conditions, term_kind, terms_plan, dictionary_plan}
 use Rattle.term_dict.specs.Content.{dictionary_in, IsRead}
-use Rattle.term_dict.specs.Walk.{IsAt}
 use Rattle.term_dict.proofs.FileLemmas.{record_at-was, dictionary_of, finish, inner}
 
 -- ---- the header

@@ -1,9 +1,9 @@
 -- The index of a writer is read as the index of the terms that it was handed.
-use Rattle.std.proofs.Common.{◌≡◌, ℕ, zero, suc, ◌+◌, ◌-◌, ◌*◌, ◌<◌, ◌≤◌, ◌^◌, true, false, eqb, ltb, List, [], ◌∷◌, ◌++◌, length, take, get_or, None, pos, refl, sym, ap, subst, ◌∙◌, append_assoc, add-one, arith, inl, inr}
+use Rattle.std.proofs.Common.{◌≡◌, ℕ, zero, suc, ◌+◌, ◌-◌, ◌*◌, ◌<◌, ◌≤◌, ◌^◌, true, false, eqb, ltb, List, [], ◌∷◌, ◌++◌, length, get_or, None, pos, refl, sym, ap, subst, ◌∙◌, append_assoc, add-one, arith, inl, inr}
 use Rattle.std.specs.Str.{bytes_eq}
 use Rattle.std.proofs.lemmas.Bool.{le-ltb, eq-eqb, cases_lt}
 use Rattle.std.proofs.lemmas.Slice.Eq.{bytes_eq-Decides}
-use Rattle.std.proofs.lemmas.List.{append-nil, length-append, length-drop, take_all, take_more, get_or_push, get_or_append_left}
+use Rattle.std.proofs.lemmas.List.{append-nil, length-append, length-drop, get_or_push, get_or_append_left}
 use Rattle.lu_grammar.specs.Bytes.{IsBytes}
 use Rattle.lu_grammar.specs.Parts.{vint, vlong, num, spelling}
 use Rattle.lu_grammar.specs.Records.{whole, part, Spells, first_broken}
@@ -17,13 +17,12 @@ use Rattle.lu_types.specs.declared.term.TermInfo.{TermInfo}
 use Rattle.lu_types.specs.declared.term.TermNumbers.{TermNumbers}
 use Rattle.term_dict.specs.Headings.{header, heading, heading_of, Line, entry}
 use Rattle.term_dict.specs.Entries.{TermRecord, entry_shape}
-use Rattle.term_dict.specs.Terms.{DictionaryTerm, no_term, last_term, term_after}
+use Rattle.term_dict.specs.Terms.{DictionaryTerm, no_term, term_after}
 use Rattle.term_dict.specs.Index.{IndexEntry, index_shape, IndexProgress, no_entries, with_entry, index_kind, index_against, index_conditions, index_heading_conditions, indexed_place, entries_plan, tii_plan, entry_count, point_after, same_info, same_term}
 use Rattle.term_dict.specs.Canonical.{shared, skip_delta_bytes, entry_between, terms_bytes, term_record_bytes, header_bytes, start_of_term, starts_of, intervals_begun, TermPoint, point_before, point_bytes, points_bytes, canonical_tii}
-use Rattle.term_dict.specs.Writing.{TermsWritten, numbers_written, FollowsTerm, AreSpellable}
+use Rattle.term_dict.specs.Writing.{TermsWritten, numbers_written, AreSpellable}
 use Rattle.term_dict.specs.Laws.{IsIndexable, dictionary_written}
-use Rattle.term_dict.proofs.LoopLemmas.{last_term-push}
-use Rattle.term_dict.proofs.WriteLemmas.{SpellableAt, spellable-at, last_after, last_after-last, terms_bytes-push, IsPlainEntry, entry-spells, entry_between-again, shared-within}
+use Rattle.term_dict.proofs.WriteLemmas.{spellable-at, IsPlainEntry, entry-spells, entry_between-again, shared-within}
 use Rattle.std.proofs.Math.Nat.{suc-mul}
 use Rattle.std.proofs.Math.Seq.{take-length}
 use Rattle.std.specs.Ordering.{int_eq}

@@ -1,37 +1,14 @@
 -- The places of terms that are written rise, and so does what is said of them.
-use Rattle.std.proofs.Common.{◌≡◌, ℕ, zero, suc, ◌+◌, ◌-◌, ◌*◌, ◌<◌, ◌≤◌, ◌^◌, true, false, eqb, ltb, List, [], ◌∷◌, ◌++◌, length, take, get_or, None, pos, refl, sym, ap, subst, ◌∙◌, append_assoc, add-one, arith, inl, inr}
-use Rattle.std.specs.Str.{bytes_eq}
-use Rattle.std.proofs.lemmas.Bool.{le-ltb, eq-eqb, cases_lt}
-use Rattle.std.proofs.lemmas.Slice.Eq.{bytes_eq-Decides}
-use Rattle.std.proofs.lemmas.List.{append-nil, length-append, length-drop, take_all, take_more, get_or_push, get_or_append_left}
-use Rattle.lu_grammar.specs.Bytes.{IsBytes}
-use Rattle.lu_grammar.specs.Parts.{vint, vlong, num, spelling}
-use Rattle.lu_grammar.specs.Records.{whole, part, Spells, first_broken}
-use Rattle.lu_grammar.specs.Plans.{Plan, done, one, times}
-use Rattle.lu_grammar.specs.Meaning.{Reads}
-use Rattle.lu_grammar.proofs.Records.{Spells-followed}
-use Rattle.lu_grammar.proofs.Writers.{Writes, Writes-none, Writes-record, Writes-due, Writes-done, Writes-and_then, read_file-Writes}
-use Rattle.lu_grammar.proofs.Parts.{IsBytes-drop}
-use Rattle.lu_grammar.proofs.Files.{Reads-from}
+use Rattle.std.proofs.Common.{◌≡◌, ℕ, zero, suc, ◌+◌, ◌-◌, ◌<◌, ◌≤◌, List, [], length, take, get_or, sym, ap, subst, ◌∙◌, add-one, arith, inl, inr}
+use Rattle.std.proofs.lemmas.Bool.{cases_lt}
+use Rattle.std.proofs.lemmas.List.{length-append, take_all, take_more}
 use Rattle.lu_types.specs.declared.term.TermInfo.{TermInfo}
-use Rattle.lu_types.specs.declared.term.TermNumbers.{TermNumbers}
-use Rattle.term_dict.specs.Headings.{header, heading, heading_of, Line, entry}
-use Rattle.term_dict.specs.Entries.{TermRecord, entry_shape}
-use Rattle.term_dict.specs.Terms.{DictionaryTerm, no_term, last_term, term_after}
-use Rattle.term_dict.specs.Index.{IndexEntry, index_shape, IndexProgress, no_entries, with_entry, index_kind, index_against, index_conditions, index_heading_conditions, indexed_place, entries_plan, tii_plan, entry_count, point_after, same_info, same_term}
-use Rattle.term_dict.specs.Canonical.{shared, skip_delta_bytes, entry_between, terms_bytes, term_record_bytes, header_bytes, start_of_term, starts_of, intervals_begun, TermPoint, point_before, point_bytes, points_bytes, canonical_tii}
-use Rattle.term_dict.specs.Writing.{TermsWritten, numbers_written, FollowsTerm, AreSpellable}
-use Rattle.term_dict.specs.Laws.{IsIndexable, dictionary_written}
+use Rattle.term_dict.specs.Terms.{DictionaryTerm, no_term, last_term}
+use Rattle.term_dict.specs.Index.{point_after}
+use Rattle.term_dict.specs.Canonical.{entry_between, terms_bytes, term_record_bytes, start_of_term}
+use Rattle.term_dict.specs.Writing.{FollowsTerm, AreSpellable}
 use Rattle.term_dict.proofs.LoopLemmas.{last_term-push}
-use Rattle.term_dict.proofs.WriteLemmas.{SpellableAt, spellable-at, last_after, last_after-last, terms_bytes-push, IsPlainEntry, entry-spells, entry_between-again, shared-within}
-use Rattle.std.proofs.Math.Nat.{suc-mul}
-use Rattle.std.proofs.Math.Seq.{take-length}
-use Rattle.std.specs.Ordering.{int_eq}
-use Rattle.lu_grammar.proofs.SpelledBytes.{IsBytes-append}
-use Rattle.term_dict.proofs.ByteLemmas.{IsSmallEntry, term_record_bytes-bytes, header_bytes-bytes, vlong-bytes}
-use Rattle.term_dict.proofs.WriterLemmas.{terms-few}
-use Rattle.term_dict.proofs.IndexLemmas.{intervals_begun-first, intervals_begun-few}
-use Rattle.term_dict.proofs.ReadBack.{heading_written, header-spells}
+use Rattle.term_dict.proofs.WriteLemmas.{SpellableAt, spellable-at, last_after, last_after-last, terms_bytes-push}
 
 -- ---- places rise
 

@@ -23,7 +23,7 @@ loop-place-preserved c =
             within = omega (arith, w.start-is);
             counted = omega (arith, w.number-is, c.loop-place.invariant.counted);
             so_far = moved c.args.limits.now c.args.bytes.now _ _ _ _ _ _ _ (read_line c.args.limits.now c.args.bytes.now _ _ _ _ so c.loop-place-test.true w.if-byte-eq-LINE_FEED.true kept.0 kept.1) (ap (λ v. v.items) w.documents-is ∙ kept.2) w.number-is w.start-is;
-          texts = subst (λ v. All IsDocument v.items) (sym w.documents-is) (w.in-Ok.ensures.texts c.loop-place.invariant.texts);
+            texts = subst (λ v. All IsDocument v.items) (sym w.documents-is) (w.in-Ok.ensures.texts c.loop-place.invariant.texts);
           }
       | else-byte-eq-LINE_FEED w ↦ record {
         within = omega (arith, w.start-is, c.loop-place.invariant.within);

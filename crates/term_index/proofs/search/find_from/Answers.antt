@@ -1,4 +1,4 @@
-use Rattle.std.proofs.Common.{◌≡◌, ℕ, ◌-◌, Bool, true, false, List, length, Option, Some, None, refl, sym, ap, subst, ◌∙◌, arith}
+use Rattle.std.proofs.Common.{◌≡◌, ℕ, ◌-◌, false, List, Some, refl, sym, ap, subst, ◌∙◌, arith}
 use Rattle.std.specs.Prelude.{slice_get}
 use Rattle.std.specs.Option.{option_map}
 use Rattle.std.specs.Ordering.{ordering_then, is_lt}
@@ -10,7 +10,7 @@ use Rattle.lu_types.specs.declared.term.TermInfo.{TermInfo}
 use Rattle.term_dict.specs.Terms.{DictionaryTerm}
 use Rattle.term_dict.specs.Walk.{TermWalk, term_passed, passed_on}
 use Rattle.term_index.specs.Seeking.{Searched, searched, name_of}
-use Rattle.term_index.proofs.SearchLemmas.{IsSearching, IsRead, IsFirst, IsTermAt, passed_term, first_is, IsSearching-more, all_passed, found-first, none-above, none-left, steps-end}
+use Rattle.term_index.proofs.SearchLemmas.{IsSearching, IsRead, IsFirst, passed_term, first_is, IsSearching-more, all_passed, found-first, none-above, none-left, steps-end}
 use Rattle.term_index.proofs.search.find_from.Goals as goal
 
 abbrev term_with : List ℕ → TermInfo → DictionaryTerm

@@ -87,18 +87,18 @@ gap-right size index before gap within (inr some) =
     let inside : ltb (size / 8) (index + gap) ≡ false = le-ltb _ _ within in
     rw (further, inside) refl
 
-neither : (a b : Bool) → (a || b) ≡ false → (a ≡ false) × (b ≡ false)
+pub neither : (a b : Bool) → (a || b) ≡ false → (a ≡ false) × (b ≡ false)
 neither true b e = absurd (true≢false e)
 neither false b e = (refl, e)
 
 -- what the first of some bytes marks, and what the others do
-split : (index b : ℕ) (found : List ℕ) → places (8 * index) (flags (b ∷ found)) ≡ marked_at index b ++ places (8 * suc index) (flags found)
+pub places-byte : (index b : ℕ) (found : List ℕ) → places (8 * index) (flags (b ∷ found)) ≡ marked_at index b ++ places (8 * suc index) (flags found)
 unfolding flags
-split index b found =
+places-byte index b found =
     places-append (8 * index) (bits 8 b) (flags found)
     ∙ ap (λ (m : ℕ). marked_at index b ++ places m (flags found)) (ap (λ (m : ℕ). 8 * index + m) (length-bits 8 b) ∙ (let e : 8 * index + 8 ≡ 8 * suc index = omega arith in e))
 
-marked_at-none : (index b : ℕ) → b ≡ 0 → marked_at index b ≡ []
+pub marked_at-none : (index b : ℕ) → b ≡ 0 → marked_at index b ≡ []
 unfolding bits places
 marked_at-none index b is = ap (marked_at index) is
 
@@ -115,7 +115,7 @@ pairs-written size count more s place index [] fits small within fine total enou
 pairs-written size count more s place index (b ∷ found) fits small within fine total enough below order =
     let here = marked_at index b in
     let later = places (8 * suc index) (flags found) in
-    let both = split index b found in
+    let both = places-byte index b found in
     let clear = neither (is_past size here) (is_past size later) (sym (list_any-append (λ doc. leb size doc) here later) ∙ sym (ap (is_past size) both) ∙ fine) in
     let long = length-append here later in
     let sum = ap length both in

@@ -8,6 +8,8 @@ pub mod WalkLemmas
 pub mod MarksLemmas
 pub mod WriteLemmas
 pub mod DelLaws
+pub mod PairForms
+pub mod DelForms
 pub mod DelReads
 pub mod NormLemmas
 pub mod NormLaws

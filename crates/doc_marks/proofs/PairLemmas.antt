@@ -1,10 +1,11 @@
 -- What pairs that were read mark: rising documents, those of a later pair behind those of the pairs before.
-use Rattle.std.proofs.Common.{◌≡◌, ◌≢◌, ℕ, zero, suc, ◌+◌, ◌*◌, ◌^◌, ◌<◌, ◌≤◌, Bool, true, false, eqb, ltb, cond, List, [], ◌++◌, length, Option, Some, None, Result, Ok, refl, sym, ap, subst, ◌∙◌, append_assoc, arith, inl, inr}
+use Rattle.std.proofs.Common.{◌≡◌, ◌≢◌, ℕ, zero, suc, ◌+◌, ◌*◌, ◌^◌, ◌<◌, ◌≤◌, Bool, true, false, eqb, ltb, cond, List, [], ◌∷◌, ◌++◌, length, Option, Some, None, Result, Ok, refl, sym, ap, subst, ◌∙◌, append_assoc, arith, inl, inr}
 use mathlib.Core.Bool.{true≢false}
 use Rattle.std.specs.Prelude.{MatchResult}
 use Rattle.std.proofs.lemmas.Bool.{ne_eqb, eqb-false, cases_lt, ltb-false}
 use Rattle.std.proofs.lemmas.List.{length-append, append-nil}
 use Rattle.lu_grammar.specs.Bytes.{IsBytes, Cursor}
+use Rattle.lu_grammar.specs.Parts.{groups}
 use Rattle.lu_grammar.specs.Records.{first_broken, Spells, Breaks, record_at}
 use Rattle.lu_grammar.specs.Plans.{Plan, read_plan}
 use Rattle.lu_grammar.proofs.Records.{ok_pair, same_pair, record_at-judges, IsGoodRecord}
@@ -14,8 +15,8 @@ use Rattle.lu_grammar.proofs.Codecs.{due_was}
 use Rattle.doc_marks.proofs.MarkLemmas.{length-bits, AreRising-append, AreRising-later, AreRising-places, AreRising-not_past}
 use Rattle.doc_marks.proofs.DelLemmas.{marked_at-some, pairs-due, pairs-end}
 
--- a pair that was read: its gap and its byte, which break no condition
-pub record ReadPair (size count index before : ℕ) (r : DelRecord) (d : Cursor) : Type 0 where
+-- a good pair: its gap and its byte, which break no condition, and how it is spelled
+pub record GoodPair (size count index before : ℕ) (r : DelRecord) (front : List ℕ) : Type 0 where
   pub gap : ℕ
   pub marks : ℕ
   pub it : r ≡ pair gap marks
@@ -25,7 +26,7 @@ pub record ReadPair (size count index before : ℕ) (r : DelRecord) (d : Cursor)
   pub some : marks ≢ 0
   pub below : is_past size (marked_at (index + gap) marks) ≡ false
   pub few : before + length (marked_at (index + gap) marks) ≤ count
-  pub fits : IsBytes d.rest
+  pub spelled : front ≡ groups 4 gap ++ marks ∷ []
 
 some_is_none : {n : ℕ} → Some n ≡ None → ⊥
 some_is_none h = cc
@@ -35,17 +36,14 @@ pub first-good : (b : Bool) (rule : ℕ) (rest : Option ℕ) → cond b (Some ru
 first-good true rule rest e = absurd (some_is_none e)
 first-good false rule rest e = (refl, e)
 
-pair-spelled : (r : DelRecord) (front : List ℕ) → Spells pair_shape r front → (gap : ℕ) × (marks : ℕ) × (gap < 2 ^ 31) × (marks < 256) × (r ≡ pair gap marks)
-pair-spelled r front (gap, back, low, is, (marks, more, small, also, (made, none))) = (gap, marks, low, small, sym made)
+pair-spelled : (r : DelRecord) (front : List ℕ) → Spells pair_shape r front → (gap : ℕ) × (marks : ℕ) × (gap < 2 ^ 31) × (marks < 256) × (r ≡ pair gap marks) × (front ≡ groups 4 gap ++ marks ∷ [])
+pair-spelled r front (gap, back, low, is, (marks, more, small, also, (made, none))) = (gap, marks, low, small, sym made, is ∙ ap (λ (t : List ℕ). groups 4 gap ++ t) (also ∙ ap (λ (t : List ℕ). marks ∷ t) none))
 
-pub pair_was : (size count index before : ℕ) (c : Cursor) (r : DelRecord) (d : Cursor) → IsBytes c.rest → record_at pair_shape (pair_conditions size count index before) c ≡ Ok (r, d) → ReadPair size count index before r d
-pair_was size count index before c r d fits e =
-    let good : IsGoodRecord pair_shape (pair_conditions size count index before) c (r, d) =
-    subst (λ (x : Result (DelRecord × Cursor) ℕ). MatchResult x (λ y. IsGoodRecord pair_shape (pair_conditions size count index before) c y) (λ rule. Breaks pair_shape (pair_conditions size count index before) c.rest rule)) e
-    (record_at-judges pair_shape (pair_conditions size count index before) c fits) in
-    let is = pair-spelled r good.0.front good.0.spells in
+pub good-pair : (size count index before : ℕ) (r : DelRecord) (front : List ℕ) → Spells pair_shape r front → first_broken (pair_conditions size count index before r) ≡ None → GoodPair size count index before r front
+good-pair size count index before r front spells good =
+    let is = pair-spelled r front spells in
     let found = marked_at (index + is.0) is.1 in
-    let conditions : first_broken (pair_conditions size count index before (pair is.0 is.1)) ≡ None = ap (λ (x : DelRecord). first_broken (pair_conditions size count index before x)) (sym is.4) ∙ good.1 in
+    let conditions : first_broken (pair_conditions size count index before (pair is.0 is.1)) ≡ None = ap (λ (x : DelRecord). first_broken (pair_conditions size count index before x)) (sym is.4) ∙ good in
     let gap = first-good (is_wrong_gap size index before is.0) 89 _ conditions in
     let marks = first-good (eqb is.1 0) 90 _ gap.1 in
     let past = first-good (is_past size found) 91 _ marks.1 in
@@ -60,8 +58,21 @@ pair_was size count index before c r d fits e =
       some = eqb-false is.1 0 marks.0;
       below = past.0;
       few = ltb-false count (before + length found) total.0;
-      fits = good.0.fits;
+      spelled = is.5;
     }
+
+-- a pair that was read
+pub record ReadPair (size count index before : ℕ) (r : DelRecord) (d : Cursor) : Type 0 where
+  pub front : List ℕ
+  pub good : GoodPair size count index before r front
+  pub fits : IsBytes d.rest
+
+pub pair_was : (size count index before : ℕ) (c : Cursor) (r : DelRecord) (d : Cursor) → IsBytes c.rest → record_at pair_shape (pair_conditions size count index before) c ≡ Ok (r, d) → ReadPair size count index before r d
+pair_was size count index before c r d fits e =
+    let good : IsGoodRecord pair_shape (pair_conditions size count index before) c (r, d) =
+    subst (λ (x : Result (DelRecord × Cursor) ℕ). MatchResult x (λ y. IsGoodRecord pair_shape (pair_conditions size count index before) c y) (λ rule. Breaks pair_shape (pair_conditions size count index before) c.rest rule)) e
+    (record_at-judges pair_shape (pair_conditions size count index before) c fits) in
+    record { front = good.0.front; good = good-pair size count index before r good.0.front good.0.spells good.1; fits = good.0.fits }
 
 -- the first document that the next pair may mark
 abbrev pub next_first : Pairs → ℕ
@@ -104,11 +115,12 @@ pairs-later size count (suc more) s c docs d fits e = elim (cases_lt (length s.d
         let index = s.index in
         let before = length s.documents in
         let was = due_was pair_shape (λ place r. pair_conditions size count index before r) (λ place r. pairs_plan size count more (with_pair s r)) c (docs, d) (ap (λ (p : Plan (List ℕ) DelRecord). read_plan p c) (sym (pairs-due size count more s lt)) ∙ e) in
-        let read = pair_was size count index before c was.0.0 was.0.1 fits was.1 in
+        let was_pair = pair_was size count index before c was.0.0 was.0.1 fits was.1 in
+        let read = was_pair.good in
         let found = marked_at (index + read.gap) read.marks in
         let t = with_pair s (pair read.gap read.marks) in
         let rest : read_plan (pairs_plan size count more t) was.0.1 ≡ ok_pair docs d = ap (λ (r : DelRecord). read_plan (pairs_plan size count more (with_pair s r)) was.0.1) (sym read.it) ∙ was.2 in
-        let next = after t was.0.1 read.fits rest in
+        let next = after t was.0.1 was_pair.fits rest in
         let some = marked_at-some (index + read.gap) read.marks read.marks_fit read.some in
         let long = length-append s.documents found in
         let first = 8 * (index + read.gap) in

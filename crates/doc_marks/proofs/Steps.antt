@@ -1,5 +1,5 @@
 -- Records of so many bytes, and what it says that one was read.
-use Rattle.std.proofs.Common.{◌≡◌, ℕ, ◌<◌, ◌≤◌, List, length, take, true, false, ltb, None, Ok, ap, refl, ◌∙◌, sym, inl, inr}
+use Rattle.std.proofs.Common.{◌≡◌, ℕ, ◌≤◌, List, length, take, true, false, ltb, None, Ok, ap, refl, ◌∙◌, sym, inl, inr}
 use Rattle.std.proofs.lemmas.Bool.{cases_lt, lt-ltb, le-ltb}
 use Rattle.lu_grammar.specs.Bytes.{Cursor, moved}
 use Rattle.lu_grammar.specs.Parts.{Part, bytes, Value}

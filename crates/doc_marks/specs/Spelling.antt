@@ -1,7 +1,7 @@
 -- The bytes of `.del` that are written (format page, "What the writer chooses").
-use Rattle.std.specs.Prelude.{ℕ, suc, pos, ◌+◌, ◌-◌, ◌*◌, ◌^◌, Bool, List, [], ◌∷◌, ◌++◌, length, nat_lt, ◌==◌, if◌then◌else◌}
+use Rattle.std.specs.Prelude.{◌≡◌, ◌⊎◌, ℕ, suc, pos, ◌+◌, ◌-◌, ◌*◌, ◌^◌, ◌<◌, Bool, List, [], ◌∷◌, ◌++◌, length, nat_lt, ◌==◌, if◌then◌else◌}
 use Rattle.lu_grammar.specs.Parts.{int32, num, spelling}
-use Rattle.doc_marks.specs.Marking.{marking}
+use Rattle.doc_marks.specs.Marking.{marking, AreRising}
 use Rattle.doc_marks.specs.Deletions.{sparse_mark, body_bytes}
 
 -- the bytes that mark these documents of a segment of this size
@@ -36,3 +36,10 @@ is_sparse size count = nat_lt (10 * (4 + pair_bits (body_bytes size) * count)) s
 -- the one file that is written for these deleted documents of a segment of this size
 abbrev pub del_bytes : ℕ → List ℕ → List ℕ
 del_bytes size docs = if is_sparse size (length docs) then sparse_bytes size docs else dense_bytes size docs
+
+-- the file is one of the two forms for these deleted documents of a segment of this size, and so many are counted
+pub record IsDelFile (size count : ℕ) (docs bytes : List ℕ) : Type 0 where
+  pub small : size < 2 ^ 31
+  pub number : length docs ≡ count
+  pub rise : AreRising 0 size docs
+  pub form : (bytes ≡ dense_bytes size docs) ⊎ (bytes ≡ sparse_bytes size docs)

@@ -8,7 +8,6 @@ ghost use Rattle.doc_marks.specs.Marking.{marked};
 ghost use Rattle.doc_marks.specs.Deletions.{body as body_of, body_bytes, body_conditions, dense_plan};
 
 use crate::byte_marks::{BYTE_BITS, byte_marks};
-use crate::faults::spot;
 use crate::segment::Segment;
 use lu_prims::Cur;
 use lu_types::rules::{DEL_PAST, DEL_TOTAL, rule_of};
@@ -44,11 +43,11 @@ pub fn dense_body<'a>(cur: &mut Cur<'a>, segment: Segment) -> Result<&'a [u8], S
 {
     let place = cur.place();
     let body = match cur.bytes((segment.size / BYTE_BITS) as usize + 1) {
-        Err(bad) => return Err(spot(FileKind::Del, place, rule_of(bad))),
+        Err(bad) => return Err(Spot::at(FileKind::Del, place, rule_of(bad))),
         Ok(body) => body,
     };
     match body_broken(body, segment) {
-        Some(rule) => Err(spot(FileKind::Del, place, rule)),
+        Some(rule) => Err(Spot::at(FileKind::Del, place, rule)),
         None => Ok(body),
     }
 }

@@ -4,7 +4,7 @@ ghost use Rattle.lu_grammar.specs.Bytes.{IsBytes};
 ghost use Rattle.lu_grammar.specs.Meaning.{Reads};
 ghost use Rattle.doc_marks.specs.Marking.{AreRising};
 ghost use Rattle.doc_marks.specs.Deletions.{del_plan};
-ghost use Rattle.doc_marks.specs.Spelling.{dense_bytes, sparse_bytes, del_bytes};
+ghost use Rattle.doc_marks.specs.Spelling.{dense_bytes, sparse_bytes, del_bytes, IsDelFile};
 ghost use Rattle.doc_marks.specs.Norms.{nrm_plan, separate_plan, nrm_spelling, AreColumns};
 
 /// Columns that are written are read as exactly these columns, and no other bytes are read so.
@@ -22,9 +22,10 @@ pub fn written_separate_is_read()
 {}
 
 /// Rising documents below the size are written as bytes, in either form and so in the one that is chosen, which are read as
-/// exactly these documents.
+/// exactly these documents; and bytes that are read as some documents are one of the two forms for these.
 pub fn written_deletions_are_read()
     ensures dense { (size : ℕ) (docs : List ℕ) → size < 2 ^ 31 → AreRising 0 size docs → Reads (del_plan size (length docs)) (dense_bytes size docs) docs }
     ensures sparse { (size : ℕ) (docs : List ℕ) → size < 2 ^ 31 → AreRising 0 size docs → Reads (del_plan size (length docs)) (sparse_bytes size docs) docs }
     ensures chosen { (size : ℕ) (docs : List ℕ) → size < 2 ^ 31 → AreRising 0 size docs → Reads (del_plan size (length docs)) (del_bytes size docs) docs }
+    ensures only { (bytes docs : List ℕ) (size count : ℕ) → Reads (del_plan size count) bytes docs → IsDelFile size count docs bytes }
 {}

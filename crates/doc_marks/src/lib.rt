@@ -3,7 +3,6 @@
 
 mod byte_marks;
 mod dense;
-mod faults;
 mod form;
 mod heading;
 pub mod laws;

@@ -8,7 +8,6 @@ ghost use Rattle.doc_marks.specs.Deletions.{header as header_of, after_header, d
 ghost use Rattle.doc_marks.specs.Lent.{behind_header, documents_in, IsSound};
 
 use crate::dense::dense_body;
-use crate::faults::spot;
 use crate::form::Form;
 use crate::heading::pass_heading;
 use crate::marks::Marks;
@@ -50,14 +49,14 @@ impl<'a> Live<'a> {
         let mut cur = Cur::at(del, 0);
         let is_sparse = match pass_heading(&mut cur, segment) {
             Ok(is_sparse) => is_sparse,
-            Err(rule) => return Err(spot(FileKind::Del, 0, rule)),
+            Err(rule) => return Err(Spot::at(FileKind::Del, 0, rule)),
         };
         let form = match check_body(&mut cur, del, is_sparse, segment) {
             Ok(form) => form,
             Err(fault) => return Err(fault),
         };
         if cur.left() > 0 {
-            return Err(spot(FileKind::Del, cur.place(), TRAILING));
+            return Err(Spot::at(FileKind::Del, cur.place(), TRAILING));
         }
         Ok(Live { form, segment })
     }

@@ -7,7 +7,6 @@ ghost use Rattle.lu_types.specs.Judging.{ChecksPlain, GivesInPlain};
 ghost use Rattle.lu_grammar.specs.Answers.{Gives};
 ghost use Rattle.doc_marks.specs.Norms.{norm_header, bytes_shape, header_conditions, one_column, nrm_plan, separate_plan, column_of, AreColumns, nrm_bytes, columns_in};
 
-use crate::faults::spot;
 use lu_prims::{Cur, OutOfMemory};
 use lu_types::rules::{NORM_HEADER, TRAILING, rule_of};
 use lu_types::{FileKind, Spot};
@@ -92,14 +91,14 @@ impl<'a> Norms<'a> {
     {
         let mut cur = Cur::at(nrm, 0);
         if let Err(rule) = pass_header(&mut cur) {
-            return Err(spot(FileKind::Nrm, 0, rule));
+            return Err(Spot::at(FileKind::Nrm, 0, rule));
         }
         let bytes = nrm.split_at(HEADER.len()).1;
         if let Err(fault) = pass_columns(&mut cur, columns, documents) {
             return Err(fault);
         }
         if cur.left() > 0 {
-            return Err(spot(FileKind::Nrm, cur.place(), TRAILING));
+            return Err(Spot::at(FileKind::Nrm, cur.place(), TRAILING));
         }
         Ok(Norms {
             bytes,
@@ -163,7 +162,7 @@ fn pass_columns(cur: &mut Cur<'_>, columns: u32, documents: u32) -> Result<(), S
     for _ in 0..columns {
         let place = cur.place();
         if let Err(bad) = cur.bytes(documents as usize) {
-            return Err(spot(FileKind::Nrm, place, rule_of(bad)));
+            return Err(Spot::at(FileKind::Nrm, place, rule_of(bad)));
         }
     }
     Ok(())
@@ -177,11 +176,11 @@ pub fn check_separate(bytes: &[u8], field: u32, documents: u32) -> Result<&[u8],
 {
     let mut cur = Cur::at(bytes, 0);
     let norms = match cur.bytes(documents as usize) {
-        Err(bad) => return Err(spot(FileKind::Sep(field), 0, rule_of(bad))),
+        Err(bad) => return Err(Spot::at(FileKind::Sep(field), 0, rule_of(bad))),
         Ok(norms) => norms,
     };
     if cur.left() > 0 {
-        return Err(spot(FileKind::Sep(field), cur.place(), TRAILING));
+        return Err(Spot::at(FileKind::Sep(field), cur.place(), TRAILING));
     }
     Ok(norms)
 }

@@ -10,7 +10,6 @@ ghost use Rattle.doc_marks.specs.Marking.{marked_at};
 ghost use Rattle.doc_marks.specs.Deletions.{pair as pair_of, pair_shape, is_wrong_gap, pair_conditions, no_pairs, pairs_plan, pairs_documents};
 
 use crate::byte_marks::{BYTE_BITS, byte_marks};
-use crate::faults::spot;
 use crate::segment::Segment;
 use lu_prims::{Bad, Cur};
 use lu_types::rules::{DEL_BYTE, DEL_GAP, DEL_PAST, DEL_TOTAL, rule_of};
@@ -131,7 +130,7 @@ pub fn pass_pairs(cur: &mut Cur<'_>, segment: Segment) -> Result<(), Spot>
     while passed.documents < segment.count {
         let place = cur.place();
         match next_pair(cur, passed, segment) {
-            Err(rule) => return Err(spot(FileKind::Del, place, rule)),
+            Err(rule) => return Err(Spot::at(FileKind::Del, place, rule)),
             Ok(pair) => {
                 passed.index += pair.gap;
                 passed.documents += pair.documents;

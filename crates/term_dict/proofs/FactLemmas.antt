@@ -1,5 +1,5 @@
 -- What is so of every term of a good file.
-use Rattle.std.proofs.Common.{◌≡◌, ℕ, zero, suc, ◌+◌, ◌-◌, ◌<◌, ◌≤◌, ◌^◌, Bool, true, false, eqb, ltb, leb, not, ◌||◌, List, [], ◌∷◌, ◌++◌, length, get_or, Option, Some, None, Result, Ok, Err, refl, sym, ap, subst, ◌∙◌, arith, inl, inr}
+use Rattle.std.proofs.Common.{◌≡◌, ℕ, ◌+◌, ◌-◌, ◌<◌, ◌^◌, Bool, true, false, eqb, ltb, leb, not, ◌||◌, List, [], ◌∷◌, ◌++◌, length, get_or, Option, Some, None, Ok, refl, sym, ap, subst, ◌∙◌, arith, inl, inr}
 use Rattle.std.specs.Prelude.{if◌then◌else◌, All, AllPairs}
 use Rattle.std.specs.Ordering.{is_lt}
 use Rattle.std.specs.Option.{unwrap_or}
@@ -14,23 +14,22 @@ use Rattle.std.proofs.lemmas.Str.{IsUtf8-from_is_utf8}
 use Rattle.lu_grammar.specs.Bytes.{Cursor, start_of}
 use Rattle.lu_grammar.specs.Parts.{num, vlong, bytes as some_bytes}
 use Rattle.lu_grammar.specs.Reading.{read_part}
-use Rattle.lu_grammar.specs.Records.{Shape, whole, part, followed, optional, Condition, first_broken, read_shape, record_at}
-use Rattle.lu_grammar.specs.Plans.{broken_at, times, read_plan, ended, read_file}
+use Rattle.lu_grammar.specs.Records.{whole, part, optional, first_broken, read_shape, record_at}
+use Rattle.lu_grammar.specs.Plans.{broken_at, times, read_plan, ended}
 use Rattle.lu_grammar.specs.Meaning.{Reads}
 use Rattle.lu_grammar.proofs.Files.{read_file-Reads}
-use Rattle.lu_grammar.proofs.Plans.{ok_of}
 use Rattle.lu_grammar.proofs.Loops.{then_ok, times-keeps, read_plan-and_then}
 use Rattle.lu_grammar.proofs.Records.{ok_pair, same_pair}
 use Rattle.lu_prims.proofs.Units.{text_order}
 use Rattle.lu_types.specs.RuleNumbers as number
 use Rattle.lu_types.specs.Tables.{TableField}
-use Rattle.term_dict.specs.Headings.{header, heading_conditions, numbers_of, Line, heading_of, on_entry, entry}
-use Rattle.term_dict.specs.Entries.{TermRecord, entry_shape, field_number}
+use Rattle.term_dict.specs.Headings.{header, heading_conditions, numbers_of, Line, heading_of, on_entry}
+use Rattle.term_dict.specs.Entries.{TermRecord, entry_shape}
 use Rattle.term_dict.specs.Terms.{DictionaryTerm, no_term, last_term, term_after, no_field, field_of, is_indexed, is_above, term_cmp}
-use Rattle.term_dict.specs.Dictionary.{Dictionary, Progress, no_terms, with_term, within, is_past_files, term_place_conditions, against, term_conditions, term_kind, terms_plan, dictionary_plan, tis_plan}
+use Rattle.term_dict.specs.Dictionary.{Dictionary, Progress, no_terms, with_term, within, is_past_files, term_conditions, term_kind, terms_plan, dictionary_plan, tis_plan}
 use Rattle.term_dict.specs.Facts.{IsTermOfSegment, AreGoodTerms}
 use Rattle.term_dict.proofs.FileLemmas.{finish, dictionary_of}
-use Rattle.term_dict.proofs.WalkLemmas.{good_entry, grows, was_ended}
+use Rattle.term_dict.proofs.DictionaryRead.{good_entry, grows, was_ended}
 
 -- ---- the order of terms
 

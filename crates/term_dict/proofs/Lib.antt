@@ -11,8 +11,10 @@ pub mod OrderLemmas
 mod Rows
 pub mod SpellingLemmas
 pub mod TextLemmas
+pub mod DictionaryRead
 pub mod WalkLemmas
 pub mod WriteLemmas
 pub mod WriterLemmas
 pub mod ReadBack
+pub mod RisingPlaces
 pub mod IndexBack

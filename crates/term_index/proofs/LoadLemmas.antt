@@ -1,6 +1,6 @@
 -- What the loop that reads the entries of a good index keeps.
-use Rattle.std.proofs.Common.{◌≡◌, ℕ, zero, suc, ◌+◌, ◌-◌, ◌*◌, ◌<◌, ◌≤◌, ◌^◌, List, [], ◌∷◌, ◌++◌, length, map, get_or, Some, None, Result, Ok, Err, refl, sym, ap, subst, ◌∙◌, arith, inl, inr}
-use Rattle.std.specs.Prelude.{All, slice_index}
+use Rattle.std.proofs.Common.{◌≡◌, ℕ, zero, suc, ◌+◌, ◌-◌, ◌*◌, ◌<◌, ◌≤◌, ◌^◌, List, [], ◌∷◌, ◌++◌, length, map, get_or, None, Ok, refl, sym, ap, subst, ◌∙◌, arith, inl, inr}
+use Rattle.std.specs.Prelude.{All}
 use Rattle.std.proofs.lemmas.Bool.{cases_lt}
 use Rattle.std.proofs.lemmas.List.{map-append}
 use Rattle.std.specs.Str.{IsUtf8}
@@ -13,21 +13,19 @@ use Rattle.term_dict.proofs.FactLemmas.{good-terms}
 use Rattle.lu_grammar.specs.declared.bad.Bad.{Bad}
 use Rattle.lu_grammar.specs.Bytes.{Cursor, start_of}
 use Rattle.lu_grammar.specs.Records.{whole, followed, first_broken, read_shape, record_at}
-use Rattle.lu_grammar.specs.Plans.{Plan, done, broken_at, one, times, read_plan, ended}
+use Rattle.lu_grammar.specs.Plans.{broken_at, one, times, read_plan, ended}
 use Rattle.lu_grammar.specs.Meaning.{Reads}
 use Rattle.lu_grammar.proofs.Files.{read_file-Reads}
 use Rattle.lu_grammar.proofs.Plans.{ok_of, err_of, err_is_not_ok}
 use Rattle.lu_grammar.proofs.Loops.{then_ok, each-none, times-again, times-more, read_plan-and_then, read_shape-followed}
 use Rattle.lu_grammar.proofs.Records.{ok_pair, same_pair}
 use Rattle.term_dict.specs.declared.heading.Heading.{Heading}
-use Rattle.lu_types.specs.declared.term.TermNumbers.{TermNumbers}
 use Rattle.term_dict.specs.Headings.{Line, heading, entry, header, heading_of, heading_shape, on_entry}
-use Rattle.term_dict.specs.Entries.{TermRecord}
 use Rattle.term_dict.specs.Terms.{DictionaryTerm, no_term, term_after, field_of, term_cmp}
 use Rattle.term_dict.specs.Dictionary.{Dictionary}
-use Rattle.term_dict.specs.Index.{IndexEntry, IndexProgress, index_shape, index_kind, index_against, index_conditions, index_heading_conditions, indexed_term, indexed_place, no_entries, entry_count, entries_plan, tii_plan, point_after}
+use Rattle.term_dict.specs.Index.{IndexEntry, IndexProgress, index_shape, index_kind, index_conditions, index_heading_conditions, indexed_term, indexed_place, no_entries, entry_count, entries_plan, tii_plan, point_after}
 use Rattle.term_dict.proofs.FileLemmas.{record_at-was}
-use Rattle.term_dict.proofs.WalkLemmas.{was_ok}
+use Rattle.term_dict.proofs.DictionaryRead.{was_ok}
 use Rattle.term_index.specs.declared.mark.Mark.{Mark}
 use Rattle.term_index.specs.Points.{progress}
 use Rattle.term_index.specs.Seeking.{Searched, searched, name_of, names_of, AreChecked}

@@ -10,7 +10,7 @@ use Rattle.doc_marks.proofs.dense.dense_body.Goals as goal
 pub returns-in-Err-clause-gives : goal.returns-in-Err-clause-gives
 returns-in-Err-clause-gives c =
     let s = c.args.segment in
-    rw (c.spot.ensures, c.place-place.ensures) (
+    rw (c.at.ensures, c.place-place.ensures) (
       refl,
       body-fault s.size s.count c.rule_of.result c.args.cur.now (alone_unread (bytes (body_bytes s.size)) (λ v. body_of v) (body_conditions s.size s.count) c.args.cur.now c.in-Err.bad c.rule_of.result c.in-Err.ensures.0 c.rule_of.ensures),
     )
@@ -24,7 +24,7 @@ body_broken-requires c =
 pub returns-in-Some-clause-gives : goal.returns-in-Some-clause-gives
 returns-in-Some-clause-gives c =
     let s = c.args.segment in
-    rw (c.spot-in-Some.ensures, c.place-place.ensures) (
+    rw (c.at-in-Some.ensures, c.place-place.ensures) (
       refl,
       body-fault s.size s.count c.in-Some.rule c.args.cur.now
           (alone_breaks (bytes (body_bytes s.size)) (λ v. body_of v) (body_conditions s.size s.count) c.args.cur.now c.bytes.new.self c.in-Ok.body.now c.in-Some.rule c.in-Ok.ensures (sym c.in-Some.ensures)),

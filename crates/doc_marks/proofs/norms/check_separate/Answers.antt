@@ -10,12 +10,12 @@ use Rattle.doc_marks.proofs.norms.check_separate.Goals as goal
 pub returns-in-Err-clause-checks : goal.returns-in-Err-clause-checks
 returns-in-Err-clause-checks c =
     let unread : read_part (bytes c.args.documents) (start_of c.args.bytes.now) ≡ Err c.in-Err.bad = rw c.at-cur.ensures at c.in-Err.ensures.0 in
-    rw c.spot.ensures (refl, separate-unread c.args.documents c.args.bytes.now (λ i. (c.type_inv.bytes i).fits) c.in-Err.bad c.rule_of.result unread c.rule_of.ensures)
+    rw c.at.ensures (refl, separate-unread c.args.documents c.args.bytes.now (λ i. (c.type_inv.bytes i).fits) c.in-Err.bad c.rule_of.result unread c.rule_of.ensures)
 
 pub returns-then-left-gt0-clause-checks : goal.returns-then-left-gt0-clause-checks
 returns-then-left-gt0-clause-checks c =
     let is : read_part (bytes c.args.documents) (start_of c.args.bytes.now) ≡ Ok (c.in-Ok.norms.now, c.bytes.new.self) = rw c.at-cur.ensures at c.in-Ok.ensures in
-    rw (c.spot-then-left-gt0.ensures, c.place.ensures) (refl, separate-left c.args.documents c.args.bytes.now (λ i. (c.type_inv.bytes i).fits) c.in-Ok.norms.now c.bytes.new.self is (omega (arith, c.left.ensures, c.if-left-gt0.true)))
+    rw (c.at-then-left-gt0.ensures, c.place.ensures) (refl, separate-left c.args.documents c.args.bytes.now (λ i. (c.type_inv.bytes i).fits) c.in-Ok.norms.now c.bytes.new.self is (omega (arith, c.left.ensures, c.if-left-gt0.true)))
 
 pub returns-clause-checks : goal.returns-clause-checks
 returns-clause-checks c =

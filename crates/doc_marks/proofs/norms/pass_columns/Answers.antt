@@ -4,7 +4,7 @@ use Rattle.doc_marks.proofs.norms.pass_columns.Goals as goal
 
 pub returns-in-Err-clause-gives : goal.returns-in-Err-clause-gives
 returns-in-Err-clause-gives c =
-    rw (c.spot.ensures, c.place-place.ensures) (
+    rw (c.at.ensures, c.place-place.ensures) (
       refl,
       columns-fault c.args.columns c.loop.counter c.args.documents c.args.cur.now c.loop.cur c.in-Err.bad c.rule_of.result c.loop-test.true c.loop.invariant.there c.loop.invariant.behind c.in-Err.ensures.0 c.rule_of.ensures,
     )

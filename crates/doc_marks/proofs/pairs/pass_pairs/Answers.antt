@@ -13,7 +13,7 @@ returns-in-Err c =
     let s = c.args.segment in
     let p = c.loop-passed.passed in
     let h = c.loop-passed.invariant in
-    rw (c.spot.ensures, c.place-place.ensures) (
+    rw (c.at.ensures, c.place-place.ensures) (
       refl,
       h.2 ∙ pairs-fault s.size s.count h.1 p.index p.documents h.0 c.loop-passed.cur c.in-Err.rule h.3 h.4 c.loop-passed-test.true h.5 c.in-Err.ensures.gives,
     )

@@ -9,7 +9,7 @@ use Rattle.doc_marks.proofs.live.Live.check_del.Goals as goal
 pub returns-in-Err-clause-checks : goal.returns-in-Err-clause-checks
 returns-in-Err-clause-checks c =
     let broken : record_at header_shape (header_conditions c.args.size c.args.count) (start_of c.args.del.now) ≡ Err c.in-Err.rule = rw c.at-cur.ensures at c.in-Err.ensures in
-    rw c.spot.ensures (refl, del-heading_fault c.args.size c.args.count c.args.del.now (λ i. (c.type_inv.del i).fits) c.in-Err.rule broken)
+    rw c.at.ensures (refl, del-heading_fault c.args.size c.args.count c.args.del.now (λ i. (c.type_inv.del i).fits) c.in-Err.rule broken)
 
 pub check_body-requires : goal.check_body-requires
 check_body-requires c = λ sparse.
@@ -26,7 +26,7 @@ returns-in-Err-check_body-clause-checks c =
 pub returns-then-left-gt0-clause-checks : goal.returns-then-left-gt0-clause-checks
 returns-then-left-gt0-clause-checks c =
     let heading : record_at header_shape (header_conditions c.args.size c.args.count) (start_of c.args.del.now) ≡ Ok (header_of c.in-Ok.is_sparse (pos c.args.size) (pos c.args.count), c.pass_heading.new.cur) = rw c.at-cur.ensures at c.in-Ok.ensures in
-    rw (c.spot-then-left-gt0.ensures, c.place.ensures) (
+    rw (c.at-then-left-gt0.ensures, c.place.ensures) (
       refl,
       del-left c.args.size c.args.count c.args.del.now (λ i. (c.type_inv.del i).fits) c.in-Ok.is_sparse c.pass_heading.new.cur heading (documents_in c.in-Ok-check_body.form (record { size = c.args.size; count = c.args.count })) c.check_body.new.cur
           c.in-Ok-check_body.ensures.gives (omega (arith, c.left.ensures, c.if-left-gt0.true)),

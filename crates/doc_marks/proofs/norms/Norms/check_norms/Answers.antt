@@ -9,7 +9,7 @@ use Rattle.doc_marks.proofs.norms.Norms.check_norms.Goals as goal
 pub returns-in-Err-clause-checks : goal.returns-in-Err-clause-checks
 returns-in-Err-clause-checks c =
     let broken : record_at (bytes_shape 4) header_conditions (start_of c.args.nrm.now) ≡ Err c.in-Err.rule = rw c.at-cur.ensures at c.in-Err.ensures in
-    rw c.spot.ensures (refl, nrm-header_fault c.args.columns c.args.documents c.args.nrm.now (λ i. (c.type_inv.nrm i).fits) c.in-Err.rule broken)
+    rw c.at.ensures (refl, nrm-header_fault c.args.columns c.args.documents c.args.nrm.now (λ i. (c.type_inv.nrm i).fits) c.in-Err.rule broken)
 
 pub split_at-requires : goal.split_at-requires
 split_at-requires c =
@@ -26,7 +26,7 @@ returns-in-Err-pass_columns-clause-checks c =
 pub returns-then-left-gt0-clause-checks : goal.returns-then-left-gt0-clause-checks
 returns-then-left-gt0-clause-checks c =
     let header : record_at (bytes_shape 4) header_conditions (start_of c.args.nrm.now) ≡ Ok (norm_header, c.pass_header.new.cur) = rw c.at-cur.ensures at c.in_default.ensures in
-    rw (c.spot-then-left-gt0.ensures, c.place.ensures) (
+    rw (c.at-then-left-gt0.ensures, c.place.ensures) (
       refl,
       nrm-left c.args.columns c.args.documents c.args.nrm.now (λ i. (c.type_inv.nrm i).fits) c.pass_header.new.cur header (columns_in c.args.columns c.args.documents c.pass_header.new.cur.rest) c.pass_columns.new.cur
           c.in_default-pass_columns.ensures.gives (omega (arith, c.left.ensures, c.if-left-gt0.true)),

@@ -10,32 +10,32 @@ use Rattle.term_index.proofs.MarkLemmas.{below-marks, interval-before, steps-few
 use Rattle.term_index.proofs.index.TermIndex.seek.Goals as goal
 
 -- the entries that are below, as a slice
-below-slice : (s : Searched) (sought : Sought) (marks slice : List Mark) → slice ≡ marks → IsSearchable s → map index_mark_of marks ≡ marks_to s (entry_count s.dictionary.numbers - 1) → AreBelow sought slice (interval_of s.dictionary (rank s sought.field.now sought.text.now))
+below-slice : (s : Searched) (sought : Sought) (marks slice : List Mark) → slice ≡ marks → IsSearchable s → map index_mark_of marks ≡ marks_to s (entry_count s.dictionary.numbers - 1)
+    → AreBelow sought slice (interval_of s.dictionary (rank s sought.field.now sought.text.now))
 below-slice s sought marks slice is h kept = subst (λ (ms : List Mark). AreBelow sought ms (interval_of s.dictionary (rank s sought.field.now sought.text.now))) (sym is) (below-marks s sought marks h kept)
+
+-- how many entries were counted
+counted : (s : Searched) (sought : Sought) (marks slice : List Mark) (number : ℕ) → slice ≡ marks → IsSearchable s → map index_mark_of marks ≡ marks_to s (entry_count s.dictionary.numbers - 1)
+    → ((below : ℕ) → AreBelow sought slice below → number ≡ below) → (number ≡ interval_of s.dictionary (rank s sought.field.now sought.text.now)) × (number ≤ length slice)
+counted s sought marks slice number is h kept count =
+    let below = below-slice s sought marks slice is h kept in
+    let there = count _ below in (there, omega (arith, there, below.few))
 
 pub enter_interval-requires-clause-number : goal.enter_interval-requires-clause-number
 enter_interval-requires-clause-number g c =
     let i = c.self.inside in
-    let s = searched i.cursor.dictionary i.names in
-    let sought : Sought = record { field = c.args.field; text = c.args.text } in
-    let below = below-slice s sought i.marks.items c.as_slice.result.now c.as_slice.ensures.value c.self.invariant.0 c.self.invariant.2 in
-    let number = c.count_below-number.ensures.count _ below in
-    omega (arith, number, below.few, ap length c.as_slice.ensures.value, ap length c.as_slice-2.ensures.value)
+    omega (arith, (counted (searched i.cursor.dictionary i.names) (record { field = c.args.field; text = c.args.text }) i.marks.items c.as_slice.result.now c.count_below-number.result c.as_slice.ensures.value c.self.invariant.0 c.self.invariant.2 c.count_below-number.ensures.count).1, ap length c.as_slice.ensures.value, ap length c.as_slice-2.ensures.value)
 
 pub find_from-requires-clause-before : goal.find_from-requires-clause-before
 find_from-requires-clause-before g c =
     let i = c.self.inside in
     let d = i.cursor.dictionary in
-    let s = searched d i.names in
-    let field = c.args.field.now in
-    let text = c.args.text.now in
-    let sought : Sought = record { field = c.args.field; text = c.args.text } in
-    let below = below-slice s sought i.marks.items c.as_slice.result.now c.as_slice.ensures.value c.self.invariant.0 c.self.invariant.2 in
-    let number = c.count_below-number.ensures.count _ below in
-    let before = interval-before d (rank s field text) (omega (arith, c.self.invariant.0.bounded.index_interval.0)) in
-    let at : c.count_below-number.result * i.index_interval ≡ interval_of d (rank s field text) * d.numbers.index_interval = ap (λ (k : ℕ). k * i.index_interval) number ∙ ap (λ (k : ℕ). interval_of d (rank s field text) * k) c.self.invariant.1 in
-    let le : c.count_below-number.result * i.index_interval ≤ rank s field text = omega (arith, at, before) in
-    subst (λ (w : TermWalk). w.passed ≤ rank (searched w.dictionary i.names) field text) (sym c.enter_interval.ensures) le
+    let k = rank (searched d i.names) c.args.field.now c.args.text.now in
+    let number = (counted (searched i.cursor.dictionary i.names) (record { field = c.args.field; text = c.args.text }) i.marks.items c.as_slice.result.now c.count_below-number.result c.as_slice.ensures.value c.self.invariant.0 c.self.invariant.2 c.count_below-number.ensures.count).0 in
+    let before = interval-before d k (omega (arith, c.self.invariant.0.bounded.index_interval.0)) in
+    let at : c.count_below-number.result * i.index_interval ≡ interval_of d k * d.numbers.index_interval = ap (λ (n : ℕ). n * i.index_interval) number ∙ ap (λ (n : ℕ). interval_of d k * n) c.self.invariant.1 in
+    let le : c.count_below-number.result * i.index_interval ≤ k = omega (arith, at, before) in
+    subst (λ (w : TermWalk). w.passed ≤ rank (searched w.dictionary i.names) c.args.field.now c.args.text.now) (sym c.enter_interval.ensures) le
 
 -- the steps of both parts
 steps : (d : Dictionary) (names : List (List ℕ)) (field text : List ℕ) (marks slice : List Mark) (first between last number interval : ℕ) (w : TermWalk) → map index_mark_of marks ≡ marks_to (searched d names) (entry_count d.numbers - 1) → slice ≡ marks
@@ -48,25 +48,15 @@ steps d names field text marks slice first between last number interval w kept i
 pub returns-clause-steps : goal.returns-clause-steps
 returns-clause-steps g c =
     let i = c.self.inside in
-    let d = i.cursor.dictionary in
-    let s = searched d i.names in
-    let field = c.args.field.now in
-    let text = c.args.text.now in
-    let sought : Sought = record { field = c.args.field; text = c.args.text } in
-    let below = below-slice s sought i.marks.items c.as_slice.result.now c.as_slice.ensures.value c.self.invariant.0 c.self.invariant.2 in
-    let number = c.count_below-number.ensures.count _ below in
-    steps d i.names field text i.marks.items c.as_slice.result.now c.args.steps.now c.count_below-number.new.steps c.find_from.new.steps c.count_below-number.result i.index_interval c.enter_interval.new.cursor c.self.invariant.2 c.as_slice.ensures.value number c.self.invariant.1 c.enter_interval.ensures c.count_below-number.ensures.steps c.find_from.ensures.steps
-    ∙ ap (λ (x : Searched). ticked (seek_steps x field text) c.args.steps.now) c.self.view_is
+    steps i.cursor.dictionary i.names c.args.field.now c.args.text.now i.marks.items c.as_slice.result.now c.args.steps.now c.count_below-number.new.steps c.find_from.new.steps c.count_below-number.result i.index_interval c.enter_interval.new.cursor c.self.invariant.2
+    c.as_slice.ensures.value (counted (searched i.cursor.dictionary i.names) (record { field = c.args.field; text = c.args.text }) i.marks.items c.as_slice.result.now c.count_below-number.result c.as_slice.ensures.value c.self.invariant.0 c.self.invariant.2 c.count_below-number.ensures.count).0 c.self.invariant.1 c.enter_interval.ensures c.count_below-number.ensures.steps c.find_from.ensures.steps
+    ∙ ap (λ (x : Searched). ticked (seek_steps x c.args.field.now c.args.text.now) c.args.steps.now) c.self.view_is
 
 pub returns-clause-bound : goal.returns-clause-bound
 returns-clause-bound g c =
     let i = c.self.inside in
-    let d = i.cursor.dictionary in
-    let s = searched d i.names in
-    let field = c.args.field.now in
-    let text = c.args.text.now in
-    let sought : Sought = record { field = c.args.field; text = c.args.text } in
-    let below = below-slice s sought i.marks.items c.as_slice.result.now c.as_slice.ensures.value c.self.invariant.0 c.self.invariant.2 in
-    let number = c.count_below-number.ensures.count _ below in
-    let all = steps d i.names field text i.marks.items c.as_slice.result.now c.args.steps.now c.count_below-number.new.steps c.find_from.new.steps c.count_below-number.result i.index_interval c.enter_interval.new.cursor c.self.invariant.2 c.as_slice.ensures.value number c.self.invariant.1 c.enter_interval.ensures c.count_below-number.ensures.steps c.find_from.ensures.steps in
-    subst (λ (x : Searched). c.find_from.new.steps ≤ c.args.steps.now + most_steps x.dictionary) c.self.view_is (steps-few s field text c.args.steps.now c.find_from.new.steps c.self.invariant.0 all)
+    let all =
+    steps i.cursor.dictionary i.names c.args.field.now c.args.text.now i.marks.items c.as_slice.result.now c.args.steps.now c.count_below-number.new.steps c.find_from.new.steps c.count_below-number.result i.index_interval c.enter_interval.new.cursor c.self.invariant.2
+    c.as_slice.ensures.value (counted (searched i.cursor.dictionary i.names) (record { field = c.args.field; text = c.args.text }) i.marks.items c.as_slice.result.now c.count_below-number.result c.as_slice.ensures.value c.self.invariant.0 c.self.invariant.2 c.count_below-number.ensures.count).0 c.self.invariant.1 c.enter_interval.ensures c.count_below-number.ensures.steps c.find_from.ensures.steps in
+    subst (λ (x : Searched). c.find_from.new.steps ≤ c.args.steps.now + most_steps x.dictionary) c.self.view_is
+    (steps-few (searched i.cursor.dictionary i.names) c.args.field.now c.args.text.now c.args.steps.now c.find_from.new.steps c.self.invariant.0 all)

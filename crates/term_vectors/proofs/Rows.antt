@@ -8,8 +8,9 @@ use Rattle.lu_grammar.specs.Parts.{groups}
 use Rattle.lu_grammar.specs.Reading.{read, read_groups}
 use Rattle.lu_grammar.specs.Records.{record_at}
 use Rattle.lu_grammar.specs.Plans.{Broken, read_plan, read_file}
-use Rattle.term_vectors.specs.Places.{DocumentPlaces, places_plan, tvx_plan}
-use Rattle.term_vectors.specs.Fields.{VectorPlace, numbers_plan, slots_plan, documents_plan, tvd_plan}
+use Rattle.term_vectors.specs.declared.layout.DocumentPlaces.{DocumentPlaces}
+use Rattle.term_vectors.specs.Places.{places_plan, tvx_plan}
+use Rattle.term_vectors.specs.Fields.{VectorPlace, numbers_plan, further_plan, placed, documents_plan, tvd_plan}
 use Rattle.term_vectors.specs.Vectors.{Vector, positions_plan, spans_plan, terms_plan, vectors_plan, all_plan, tvf_plan}
 
 abbrev broken : {A : Type 0} → ℕ → ℕ → Result A Broken
@@ -41,24 +42,24 @@ abbrev slots : List ℕ → Result (List (List VectorPlace)) Broken
 slots tvd = read_file (tvd_plan fields whole (at ∷ [])) tvd
 
 tvd_good : slots (0 ∷ 0 ∷ 0 ∷ 4 ∷ 1 ∷ 1 ∷ []) ≡ Ok ((record { field = 1; place = 4 } ∷ []) ∷ [])
-unfolding read read_groups read_plan record_at numbers_plan slots_plan documents_plan
+unfolding read read_groups read_plan record_at numbers_plan further_plan placed documents_plan
 tvd_good = refl
 
 tvd_field : slots (0 ∷ 0 ∷ 0 ∷ 4 ∷ 1 ∷ 0 ∷ []) ≡ broken 5 100
-unfolding read read_groups read_plan record_at numbers_plan slots_plan documents_plan
+unfolding read read_groups read_plan record_at numbers_plan further_plan placed documents_plan
 tvd_field = refl
 
 tvd_no_field : slots (0 ∷ 0 ∷ 0 ∷ 4 ∷ 1 ∷ 2 ∷ []) ≡ broken 5 100
-unfolding read read_groups read_plan record_at numbers_plan slots_plan documents_plan
+unfolding read read_groups read_plan record_at numbers_plan further_plan placed documents_plan
 tvd_no_field = refl
 
 tvd_twice : slots (0 ∷ 0 ∷ 0 ∷ 4 ∷ 2 ∷ 1 ∷ 1 ∷ 0 ∷ []) ≡ broken 6 101
-unfolding read read_groups read_plan record_at numbers_plan slots_plan documents_plan
+unfolding read read_groups read_plan record_at numbers_plan further_plan placed documents_plan
 tvd_twice = refl
 
 -- a document outside of the window may have any fields
 tvd_outside : read_file (tvd_plan fields (record { offset = 0; count = 0 }) (at ∷ [])) (0 ∷ 0 ∷ 0 ∷ 4 ∷ 1 ∷ 2 ∷ []) ≡ Ok ((record { field = 2; place = 4 } ∷ []) ∷ [])
-unfolding read read_groups read_plan record_at numbers_plan slots_plan documents_plan
+unfolding read read_groups read_plan record_at numbers_plan further_plan placed documents_plan
 tvd_outside = refl
 
 abbrev vectors : List ℕ → Result (List (List Vector)) Broken

@@ -1,6 +1,6 @@
 -- The records of `.tvd`: its header, and for each document how many vectors it has, their fields, and how far each vector stands from the one
 -- before it (format page, "Term vectors").
-use Rattle.std.specs.Prelude.{ℕ, zero, suc, ◌+◌, Bool, not, ◌&&◌, ◌==◌, List, [], ◌∷◌, ℤ, nat_lt, nat_le}
+use Rattle.std.specs.Prelude.{ℕ, zero, suc, ◌+◌, ◌-◌, Bool, not, ◌&&◌, ◌==◌, List, [], ◌∷◌, ℤ, nat_lt, nat_le}
 use Rattle.std.specs.List.{list_any}
 use Rattle.lu_types.specs.Bits as bit
 use Rattle.lu_types.specs.Bits.{has_bit}
@@ -10,8 +10,8 @@ use Rattle.lu_types.specs.declared.stored.Window.{Window}
 use Rattle.lu_grammar.specs.Parts.{num, vlong}
 use Rattle.lu_grammar.specs.Records.{Shape, whole, part, Condition}
 use Rattle.lu_grammar.specs.Plans.{Plan, done, due, and_then}
-use Rattle.term_vectors.specs.Format.{greatest_place, format_shape, is_other_format, headed}
-use Rattle.term_vectors.specs.Places.{DocumentPlaces}
+use Rattle.term_vectors.specs.Format.{greatest_place, format_shape, format_rule, headed}
+use Rattle.term_vectors.specs.declared.layout.DocumentPlaces.{DocumentPlaces}
 
 -- a record of `.tvd`: the format number, how many vectors a document has, the field of one, or how far it stands from the one before
 pub data TvdRecord : Type 0 where
@@ -27,7 +27,7 @@ pub record VectorPlace : Type 0 where
 
 -- the format number must be the right one
 abbrev pub format_conditions : TvdRecord → List Condition
-format_conditions (format z) = record { rule = rules.tvd_format; broken = is_other_format z } ∷ []
+format_conditions (format z) = format_rule rules.tvd_format z
 format_conditions _ = []
 
 -- how many vectors a document has
@@ -78,19 +78,25 @@ difference_shape = part vlong (λ n. whole (difference n))
 abbrev pub difference_conditions : ℕ → ℕ → List Condition
 difference_conditions place far = record { rule = rules.tvf_sum; broken = nat_lt greatest_place (place + far) } ∷ []
 
--- the vectors of these fields, the first at a place
-unfoldable pub slots_plan : ℕ → List ℕ → Plan (List VectorPlace) TvdRecord
-slots_plan place [] = done []
-slots_plan place (field ∷ []) = done (record { field = field; place = place } ∷ [])
-slots_plan place (field ∷ next ∷ fields) =
+-- the places of so many further vectors, after one at this place
+unfoldable pub further_plan : ℕ → ℕ → Plan (List ℕ) TvdRecord
+further_plan zero place = done []
+further_plan (suc n) place =
     due difference_shape (λ _ r. difference_conditions place (stated r))
-    (λ _ r. headed (record { field = field; place = place }) (slots_plan (place + stated r) (next ∷ fields)))
+    (λ _ r. headed (place + stated r) (further_plan n (place + stated r)))
+
+-- the vectors of these fields, at these places
+unfoldable pub placed : List ℕ → List ℕ → List VectorPlace
+placed [] places = []
+placed (field ∷ fields) [] = []
+placed (field ∷ fields) (place ∷ places) = record { field = field; place = place } ∷ placed fields places
 
 -- a document that stands at these places, and of whose vectors the fields are looked up or not
 abbrev pub document_plan : Bool → List TableField → DocumentPlaces → Plan (List VectorPlace) TvdRecord
 document_plan asked fields at =
     due count_shape (λ place _. count_conditions at.tvd place)
-    (λ _ r. and_then (numbers_plan asked fields (stated r) []) (slots_plan at.tvf))
+    (λ _ r. and_then (numbers_plan asked fields (stated r) [])
+    (λ numbers. and_then (further_plan (stated r - 1) at.tvf) (λ further. done (placed numbers (at.tvf ∷ further)))))
 
 -- the window has the document with this number
 abbrev pub is_within : Window → ℕ → Bool
@@ -101,6 +107,10 @@ unfoldable pub documents_plan : List TableField → Window → ℕ → List Docu
 documents_plan fields window nth [] = done []
 documents_plan fields window nth (at ∷ places) =
     and_then (document_plan (is_within window nth) fields at) (λ slots. headed slots (documents_plan fields window (suc nth) places))
+
+-- a window of no documents
+abbrev pub no_window : Window
+no_window = record { offset = 0; count = 0 }
 
 -- `.tvd` of a store with these places, of which a segment with these fields takes the documents in the window
 abbrev pub tvd_plan : List TableField → Window → List DocumentPlaces → Plan (List (List VectorPlace)) TvdRecord

@@ -1,8 +1,8 @@
 -- The numbers that the format fixes for the three files of vectors, and the format number at their heads (format page, "Term vectors").
-use Rattle.std.specs.Prelude.{ℕ, ◌^◌, Bool, not, cond, nat_lt, Option, Some, None, ℤ, pos, negsuc, Result, Ok, Err, List, ◌∷◌}
+use Rattle.std.specs.Prelude.{ℕ, Bool, not, cond, nat_lt, Option, Some, None, ℤ, pos, negsuc, List, [], ◌∷◌}
 use Rattle.std.specs.Ordering.{int_eq}
 use Rattle.lu_grammar.specs.Parts.{int32}
-use Rattle.lu_grammar.specs.Records.{Shape, whole, part}
+use Rattle.lu_grammar.specs.Records.{Shape, whole, part, Condition}
 use Rattle.lu_grammar.specs.Plans.{Plan, done, and_then}
 
 -- the format number of each of the files
@@ -40,6 +40,10 @@ format_shape format = part int32 (λ z. whole (format z))
 -- the number is not that of the format
 abbrev pub is_other_format : ℤ → Bool
 is_other_format z = not (int_eq z vector_format)
+
+-- the rule is broken by another number
+abbrev pub format_rule : ℕ → ℤ → List Condition
+format_rule rule z = record { rule = rule; broken = is_other_format z } ∷ []
 
 -- the place that a number stands for, where it is from 0 to the greatest
 abbrev pub place_of : ℤ → Option ℕ

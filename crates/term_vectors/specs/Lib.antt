@@ -4,3 +4,4 @@ pub mod Fields
 pub mod Vectors
 pub mod Stores
 pub mod InnerAnswers
+pub mod InnerFields

@@ -5,21 +5,17 @@ use Rattle.lu_types.specs.RuleNumbers as rules
 use Rattle.lu_grammar.specs.Parts.{int64}
 use Rattle.lu_grammar.specs.Records.{Shape, whole, part, Condition}
 use Rattle.lu_grammar.specs.Plans.{Plan, done, due}
-use Rattle.term_vectors.specs.Format.{header_length, format_shape, is_other_format, place_of, headed}
+use Rattle.term_vectors.specs.declared.layout.DocumentPlaces.{DocumentPlaces}
+use Rattle.term_vectors.specs.Format.{header_length, format_shape, format_rule, place_of, headed}
 
 -- a record of `.tvx`: the format number, or the places of a document, none where a number is no place
 pub data TvxRecord : Type 0 where
   format : ℤ → TvxRecord
   places : Option ℕ → Option ℕ → TvxRecord
 
--- where a document stands in `.tvd`, and its first vector in `.tvf`
-pub record DocumentPlaces : Type 0 where
-  pub tvd : ℕ
-  pub tvf : ℕ
-
 -- the format number must be the right one
 abbrev pub format_conditions : TvxRecord → List Condition
-format_conditions (format z) = record { rule = rules.tvx_format; broken = is_other_format z } ∷ []
+format_conditions (format z) = format_rule rules.tvx_format z
 format_conditions _ = []
 
 -- the places of a document

@@ -8,8 +8,9 @@ use Rattle.lu_grammar.specs.Bytes.{IsBytes}
 use Rattle.lu_grammar.specs.Reading.{value_or}
 use Rattle.lu_grammar.specs.Plans.{read_file}
 use Rattle.lu_model.specs.Valid.{IsVector}
-use Rattle.term_vectors.specs.Places.{DocumentPlaces, tvx_plan}
-use Rattle.term_vectors.specs.Fields.{VectorPlace, tvd_plan}
+use Rattle.term_vectors.specs.declared.layout.DocumentPlaces.{DocumentPlaces}
+use Rattle.term_vectors.specs.Places.{tvx_plan}
+use Rattle.term_vectors.specs.Fields.{VectorPlace, no_window, tvd_plan}
 use Rattle.term_vectors.specs.Vectors.{Vector, tvf_plan}
 
 -- all documents of a store of so many
@@ -40,9 +41,9 @@ pub record AreVectors (fields : List TableField) (vectors : List Vector) : Type 
 abbrev pub places_in : ℕ → List ℕ → List DocumentPlaces
 places_in total tvx = value_or [] (read_file (tvx_plan total) tvx)
 
--- where the vectors stand by a `.tvd` without a fault
-abbrev pub slots_in : List TableField → Window → List DocumentPlaces → List ℕ → List (List VectorPlace)
-slots_in fields window places tvd = value_or [] (read_file (tvd_plan fields window places) tvd)
+-- where the vectors stand by a `.tvd` without a fault, whichever of them a segment takes
+abbrev pub slots_in : List DocumentPlaces → List ℕ → List (List VectorPlace)
+slots_in places tvd = value_or [] (read_file (tvd_plan [] no_window places) tvd)
 
 -- the vectors that a `.tvf` without a fault holds
 abbrev pub vectors_in : List (List VectorPlace) → List ℕ → List (List Vector)

@@ -10,7 +10,7 @@ use Rattle.lu_grammar.specs.Parts.{byte, vint, num, bytes}
 use Rattle.lu_grammar.specs.Records.{Shape, whole, part, Condition}
 use Rattle.lu_grammar.specs.Plans.{Plan, done, due, and_then}
 use Rattle.lu_model.specs.Index.{Span, VectorTerm, FieldVector}
-use Rattle.term_vectors.specs.Format.{greatest_place, start_modulus, bit_positions, bit_offsets, format_shape, is_other_format, headed}
+use Rattle.term_vectors.specs.Format.{greatest_place, start_modulus, bit_positions, bit_offsets, format_shape, format_rule, headed}
 use Rattle.term_vectors.specs.Fields.{VectorPlace}
 
 -- a record of `.tvf`: the format number; how many terms a vector has, and its bits; how many bytes a text shares with the text before, its other bytes,
@@ -28,7 +28,7 @@ Vector = FieldVector ℕ
 
 -- the format number must be the right one
 abbrev pub format_conditions : TvfRecord → List Condition
-format_conditions (format z) = record { rule = rules.tvf_format; broken = is_other_format z } ∷ []
+format_conditions (format z) = format_rule rules.tvf_format z
 format_conditions _ = []
 
 -- ---- positions

@@ -83,8 +83,12 @@ further-done place c = refl
 
 -- ---- a document
 
+-- the places of so many vectors, whose fields were read
+abbrev pub further_of : DocumentPlaces → ℕ → List ℕ → Plan (List VectorPlace) TvdRecord
+further_of at n ns = and_then (further_plan (n - 1) at.tvf) (λ further. done (placed ns (at.tvf ∷ further)))
+
 abbrev pub rest_of_document : Bool → List TableField → DocumentPlaces → ℕ → Plan (List VectorPlace) TvdRecord
-rest_of_document asked fields at n = and_then (numbers_plan asked fields n []) (λ numbers. and_then (further_plan (n - 1) at.tvf) (λ further. done (placed numbers (at.tvf ∷ further))))
+rest_of_document asked fields at n = and_then (numbers_plan asked fields n []) (further_of at n)
 
 module _ (asked : Bool) (fields : List TableField) (at : DocumentPlaces) (c : Cursor) where
   pub document-count_broken : (rule : ℕ) → record_at count_shape (λ _. count_conditions at.tvd c.place) c ≡ Err rule → read_plan (document_plan asked fields at) c ≡ Err (record { offset = c.place; rule = rule })

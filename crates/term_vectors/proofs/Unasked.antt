@@ -13,7 +13,7 @@ use Rattle.term_vectors.specs.Format.{format_shape, headed}
 use Rattle.term_vectors.specs.Fields.{TvdRecord, VectorPlace, format, format_conditions, stated, count_shape, count_conditions, has_vectors, is_among, number_shape, number_conditions, numbers_plan, further_plan, placed, document_plan, is_within, no_window, documents_plan, tvd_plan}
 use Rattle.term_vectors.specs.Stores.{slots_in}
 use Rattle.term_vectors.proofs.Steps.{headed_was, headed-done}
-use Rattle.term_vectors.proofs.FieldLemmas.{reads_numbers, rest_of_document}
+use Rattle.term_vectors.proofs.FieldLemmas.{reads_numbers, further_of, rest_of_document}
 
 -- a number that is good where its field is asked of is good where it is not
 good_unasked : (asked : Bool) (fields : List TableField) (before : List ℕ) (n : ℕ) → first_broken (number_conditions asked fields before n) ≡ None → first_broken (number_conditions false [] before n) ≡ None
@@ -34,10 +34,6 @@ numbers-unasked asked fields (suc n) before c all d e =
     read_due number_shape (λ _ r. number_conditions false [] before (stated r)) (λ _ r. headed (stated r) (numbers_plan false [] n (stated r ∷ before))) c head.0.0 head.0.1
     (record_at-read number_shape (λ r. number_conditions false [] before (stated r)) c head.0.0 head.0.1 judged.0 (good_unasked asked fields before (stated head.0.0) judged.1))
     ∙ headed-done (stated head.0.0) (numbers_plan false [] n (stated head.0.0 ∷ before)) head.0.1 rest.0 d later ∙ ap (λ (ns : List ℕ). ok_pair ns d) (sym rest.2)
-
--- the places of so many vectors, whose fields were read
-abbrev further_of : DocumentPlaces → ℕ → List ℕ → Plan (List VectorPlace) TvdRecord
-further_of at n ns = and_then (further_plan (n - 1) at.tvf) (λ further. done (placed ns (at.tvf ∷ further)))
 
 document-unasked : (asked : Bool) (fields : List TableField) (at : DocumentPlaces) (c : Cursor) (v : List VectorPlace) (d : Cursor) → read_plan (document_plan asked fields at) c ≡ ok_pair v d → read_plan (document_plan false [] at) c ≡ ok_pair v d
 document-unasked asked fields at c v d e =

@@ -5,3 +5,6 @@ pub mod Vectors
 pub mod Stores
 pub mod InnerAnswers
 pub mod InnerFields
+pub mod Pairs
+pub mod InnerTexts
+pub mod InnerVectors

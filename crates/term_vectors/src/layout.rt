@@ -19,6 +19,9 @@ pub const DOCUMENT_BYTES: usize = 16;
 /// The greatest place in a file, position and offset.
 pub const GREATEST_PLACE: u32 = 2147483647;
 
+/// A start is the end before and a difference, modulo this.
+pub const START_MODULUS: u64 = 4294967296;
+
 /// The bit of a vector with positions.
 pub const POSITIONS: u8 = 1;
 

@@ -1,10 +1,15 @@
 //! Term vectors: `.tvx`, `.tvd` and `.tvf`, written, checked through a window, and read as borrowed values.
 #![tactic(auto)]
 
+mod checking;
 mod fields;
 mod layout;
+mod occurrences;
 mod places;
+mod texts;
+mod vectors;
 
 pub use fields::{StorePart, check_fields};
 pub use layout::DocumentPlaces;
+pub use occurrences::Pair;
 pub use places::check_places;

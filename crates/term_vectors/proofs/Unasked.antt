@@ -46,7 +46,7 @@ document-unasked asked fields at c v d e =
     ∙ ap (λ (r : Result (List ℕ × Cursor) Broken). r >>= λ x. read_plan (tail x.0) x.1) (numbers-unasked asked fields n [] head.0.1 first.0.0 first.0.1 first.1) ∙ first.2
 
 -- the window of no documents has none
-outside : (i : ℕ) → is_within no_window i ≡ false
+pub outside : (i : ℕ) → is_within no_window i ≡ false
 outside i = let none : ltb i (0 + 0) ≡ false = le-ltb i 0 (omega arith) in go (leb 0 i) (ltb i (0 + 0)) none
   where
     go : (a b : Bool) → b ≡ false → (a && b) ≡ false

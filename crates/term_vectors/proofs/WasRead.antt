@@ -1,5 +1,6 @@
 -- What it says of `.tvd` that it was read: the parts of its documents.
 use Rattle.std.proofs.Common.{◌≡◌, ℕ, zero, suc, ◌+◌, ◌-◌, ◌<◌, ◌≤◌, Bool, true, false, not, eqb, List, [], ◌∷◌, length, Option, Some, None, Result, Ok, Err, refl, sym, ap, subst, ◌∙◌, arith}
+use Rattle.std.proofs.lemmas.List.{nil_from_length}
 use Rattle.lu_grammar.specs.declared.bad.Bad.{Bad}
 use Rattle.lu_grammar.specs.Bytes.{Cursor, start_of, moved}
 use Rattle.lu_grammar.specs.Parts.{int32, num}
@@ -128,3 +129,34 @@ tvd_was places tvd all e =
     let read = alone_was int32 (λ z. format z) (start_of tvd) head.0.0 head.0.1 judged.0 in
     let four = int32_read (start_of tvd) head.0.1 read.0 read.1 in
     (four.0, (file.0, ap (λ (c : Cursor). read_plan (documents_plan [] no_window 0 places) c) (sym four.1) ∙ head.2))
+
+-- ---- what is left of a document whose number of vectors was read
+
+module _ (places : DocumentPlaces) (c : Cursor) (slots : List VectorPlace) (d : Cursor) (was : DocumentWas places c slots d) where
+  pub numbers_from : (n : ℕ) (b : Cursor) → read_part num c ≡ ok_pair n b → (reads_numbers false [] n [] b ≡ ok_pair was.numbers was.behind) × (n ≡ was.count)
+  numbers_from n b e =
+      let same = same_pair was.count n was.from b (sym was.counted ∙ e) in
+      (ap (λ (k : ℕ). reads_numbers false [] k [] b) (sym same.0) ∙ ap (λ (x : Cursor). reads_numbers false [] was.count [] x) (sym same.1) ∙ was.numbered, sym same.0)
+
+  pub document-none : was.count ≡ 0 → (slots ≡ []) × (was.behind ≡ d)
+  unfolding placed
+  document-none none =
+      let no_numbers : was.numbers ≡ [] = nil_from_length was.numbers (was.many ∙ none) in
+      let less : was.count - 1 ≡ 0 = omega arith in
+      (was.all ∙ ap (λ (ns : List ℕ). placed ns (places.tvf ∷ was.further)) no_numbers,
+      (further-ends places.tvf was.behind was.further d (ap (λ (k : ℕ). reads_further k places.tvf was.behind) (sym less) ∙ was.placed_so)).1)
+
+  -- the first vector, and the others
+  pub record First : Type 0 where
+    pub field : ℕ
+    pub numbers : List ℕ
+    pub many : length numbers ≡ was.count - 1
+    pub all : slots ≡ record { field = field; place = places.tvf } ∷ placed numbers was.further
+
+  pub document-some : 0 < was.count → First
+  unfolding placed
+  document-some some = go was.numbers was.many was.all
+    where
+      go : (ns : List ℕ) → length ns ≡ was.count → slots ≡ placed ns (places.tvf ∷ was.further) → First
+      go [] many all = absurd (omega arith)
+      go (n ∷ ns) many all = record { field = n; numbers = ns; many = omega arith; all = all }

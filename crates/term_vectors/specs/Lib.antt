@@ -8,3 +8,5 @@ pub mod InnerFields
 pub mod Pairs
 pub mod InnerTexts
 pub mod InnerVectors
+pub mod Walks
+pub mod InnerViews

@@ -1,16 +1,18 @@
 //! The positions and the pairs of a term (format page, "Term vectors").
-ghost use Rattle.std.specs.Prelude.{◌≡◌};
+ghost use Rattle.std.specs.Prelude.{◌≡◌, [], ◌∷◌, MatchOption};
 ghost use Rattle.lu_types.specs.declared.kind.FileKind.TheVariants.{Tvf};
 ghost use Rattle.lu_grammar.specs.Records.{record_at};
 ghost use Rattle.lu_grammar.specs.Plans.{read_plan};
 ghost use Rattle.term_vectors.specs.Vectors.{position_shape, position_after, position_conditions, positions_plan, pair_shape, span_after, pair_conditions, spans_plan};
 ghost use Rattle.term_vectors.specs.InnerAnswers.{Makes, Passes};
 ghost use Rattle.term_vectors.specs.Pairs.{span_of, IsPairAfter};
+ghost use Rattle.term_vectors.specs.InnerViews.{positions_left, ArePositionsLeft, spans_left, AreSpansLeft};
 
 use crate::layout::{GREATEST_PLACE, START_MODULUS};
 use lu_prims::Cur;
 use lu_types::rules::{VECTOR_OFFSET, VECTOR_POSITION, rule_of};
 use lu_types::{FileKind, Spot};
+use std::marker::Model;
 
 /// From where to where an occurrence of a term stands in the text of its field.
 #[derive(Clone, Copy, Debug, PartialEq, Eq)]
@@ -100,4 +102,105 @@ pub fn pass_pairs(here: &mut Cur<'_>, count: u32) -> Result<(), Spot>
         }
     }
     Ok(())
+}
+
+/// The positions of a term that are left to read, in order. Contracts see them as a list.
+#[derive(Drop)]
+pub struct Positions<'a> {
+    here: Cur<'a>,
+    left: u32,
+    last: u32,
+}
+
+impl<'a> Model for Positions<'a> {
+    ghost use Rattle.std.specs.Prelude.{ℕ, List};
+    ghost use Rattle.term_vectors.specs.InnerViews.{positions_left, ArePositionsLeft};
+
+    ghost Value = { List ℕ };
+
+    ghost view = { λ p. positions_left p.left p.last p.here };
+
+    ghost invariant = { λ p. ArePositionsLeft p.left p.last p.here };
+}
+
+impl<'a> Positions<'a> {
+    /// So many positions, which stand there.
+    pub fn at(here: Cur<'a>, left: u32) -> Positions<'a>
+        requires { ArePositionsLeft left 0 here }
+        ensures { result ≡ positions_left left 0 here.entry }
+    {
+        Positions {
+            here,
+            left,
+            last: 0,
+        }
+    }
+
+    /// The next position; `None` after the last. Takes no memory.
+    pub fn next(&mut self) -> Option<u32>
+        ensures { MatchOption result ((self.old ≡ []) × (self.new ≡ [])) (λ position. self.old ≡ position ∷ self.new) }
+    {
+        if self.left == 0 {
+            return None;
+        }
+        match next_position(&mut self.here, self.last) {
+            Err(_) => unreachable!(),
+            Ok(position) => {
+                self.left -= 1;
+                self.last = position;
+                Some(position)
+            }
+        }
+    }
+}
+
+/// The pairs of a term that are left to read, in order. Contracts see them as a list of spans.
+#[derive(Drop)]
+pub struct Pairs<'a> {
+    here: Cur<'a>,
+    left: u32,
+    last: u32,
+}
+
+impl<'a> Model for Pairs<'a> {
+    ghost use Rattle.std.specs.Prelude.{List};
+    ghost use Rattle.lu_model.specs.Index.{Span};
+    ghost use Rattle.term_vectors.specs.InnerViews.{spans_left, AreSpansLeft};
+
+    ghost Value = { List Span };
+
+    ghost view = { λ p. spans_left p.left p.last p.here };
+
+    ghost invariant = { λ p. AreSpansLeft p.left p.last p.here };
+}
+
+impl<'a> Pairs<'a> {
+    /// So many pairs, which stand there.
+    pub fn at(here: Cur<'a>, left: u32) -> Pairs<'a>
+        requires { AreSpansLeft left 0 here }
+        ensures { result ≡ spans_left left 0 here.entry }
+    {
+        Pairs {
+            here,
+            left,
+            last: 0,
+        }
+    }
+
+    /// The next pair; `None` after the last. Takes no memory.
+    pub fn next(&mut self) -> Option<Pair>
+        ensures { MatchOption result ((self.old ≡ []) × (self.new ≡ [])) (λ pair. self.old ≡ span_of pair ∷ self.new) }
+    {
+        if self.left == 0 {
+            return None;
+        }
+        match next_pair(&mut self.here, self.last) {
+            Err(_) => unreachable!(),
+            Ok(pair) => {
+                self.left -= 1;
+                self.last = pair.end;
+                Some(pair)
+            }
+        }
+    }
 }

@@ -51,10 +51,10 @@ module _ (last : LastText) (sound : IsSoundText last) (prefix : ℕ) (suffix : L
 abbrev pub term_of : Option (List ℕ) → TvfRecord → List ℕ → List Span → VectorTerm
 term_of before r positions spans = record { text = text_after before r; frequency = freq_of r; positions = positions; spans = spans }
 
-abbrev spans_after : ℕ → Option (List ℕ) → TvfRecord → List ℕ → Plan VectorTerm TvfRecord
+abbrev pub spans_after : ℕ → Option (List ℕ) → TvfRecord → List ℕ → Plan VectorTerm TvfRecord
 spans_after bits before r positions = and_then (spans_plan (kept_count bit_offsets bits (freq_of r)) 0) (λ spans. done (term_of before r positions spans))
 
-abbrev rest_of_term : ℕ → Option (List ℕ) → TvfRecord → Plan VectorTerm TvfRecord
+abbrev pub rest_of_term : ℕ → Option (List ℕ) → TvfRecord → Plan VectorTerm TvfRecord
 rest_of_term bits before r = and_then (positions_plan (kept_count bit_positions bits (freq_of r)) 0) (spans_after bits before r)
 
 module _ (bits : ℕ) (before : Option (List ℕ)) (c : Cursor) where

@@ -1,9 +1,9 @@
 -- What the views read (format page, "Term vectors").
-use Rattle.std.specs.Prelude.{◌≡◌, ◌<◌, ◌≤◌, ◌+◌, ◌-◌, ℕ, false, List, [], ◌∷◌, length, get_or, map, All, Option, Result, Ok}
+use Rattle.std.specs.Prelude.{◌≡◌, ◌<◌, ◌≤◌, ◌+◌, ◌-◌, ℕ, false, List, [], ◌∷◌, length, map, Option, Ok}
 use Rattle.lu_types.specs.declared.stored.Window.{Window}
 use Rattle.lu_grammar.specs.Bytes.{IsBytes, Cursor, place_in}
 use Rattle.lu_grammar.specs.Reading.{value_or}
-use Rattle.lu_grammar.specs.Plans.{Plan, done, and_then, Broken, read_plan, read_file}
+use Rattle.lu_grammar.specs.Plans.{Plan, done, and_then, read_plan, read_file}
 use Rattle.lu_model.specs.Index.{Span, VectorTerm}
 use Rattle.term_vectors.specs.Places.{tvx_plan}
 use Rattle.term_vectors.specs.Fields.{TvdRecord, VectorPlace, numbers_plan, further_plan, placed, no_window, tvd_plan}
@@ -33,12 +33,16 @@ vectors_here tvd numbers count place tvf = map (vector_here tvf) (slots_here cou
 abbrev pub IsThere : List ℕ → VectorPlace → Type 0
 IsThere tvf at = (d : Cursor) × (read_plan (vector_plan at) (place_in tvf at.place) ≡ Ok (vector_here tvf at, d)) × (at.place ≤ length tvf)
 
+abbrev pub AreAllThere : List ℕ → List VectorPlace → Type 0
+AreAllThere tvf [] = Unit {0}
+AreAllThere tvf (at ∷ slots) = IsThere tvf at × AreAllThere tvf slots
+
 -- the vectors of a document stand there
 pub record AreThere (tvd : List ℕ) (numbers count place : ℕ) (tvf : List ℕ) : Type 0 where
   pub within : numbers ≤ length tvd
   pub end : Cursor
   pub slots : read_plan (slots_plan count place) (place_in tvd numbers) ≡ Ok (slots_here count place (place_in tvd numbers), end)
-  pub vectors : All (IsThere tvf) (slots_here count place (place_in tvd numbers))
+  pub vectors : AreAllThere tvf (slots_here count place (place_in tvd numbers))
 
 -- the files have no fault, and the window is in the store
 pub record HaveNoFault (total : ℕ) (window : Window) (tvx tvd tvf : List ℕ) : Type 0 where
@@ -68,12 +72,11 @@ AreSpansLeft n last here = (end : Cursor) × (read_plan (spans_plan n last) here
 abbrev pub terms_left : ℕ → ℕ → Option (List ℕ) → Cursor → List VectorTerm
 terms_left bits n before here = (value_or ([], here) (read_plan (terms_plan bits n before) here)).0
 
+-- so many terms stand there, after the text before, if there is one
+abbrev pub AreTermsThere : ℕ → ℕ → Option (List ℕ) → Cursor → Type 0
+AreTermsThere bits n before here = (end : Cursor) × (read_plan (terms_plan bits n before) here ≡ Ok (terms_left bits n before here, end))
+
 -- no text is longer
 abbrev pub AreWithin : ℕ → List VectorTerm → Type 0
-AreWithin most terms = All (λ t. length t.text ≤ most) terms
-
--- so many terms stand there, after the text before, if there is one, and no text is longer
-pub record AreTermsLeft (bits n : ℕ) (before : Option (List ℕ)) (here : Cursor) (most : ℕ) : Type 0 where
-  pub end : Cursor
-  pub reads : read_plan (terms_plan bits n before) here ≡ Ok (terms_left bits n before here, end)
-  pub within : AreWithin most (terms_left bits n before here)
+AreWithin most [] = Unit {0}
+AreWithin most (t ∷ terms) = (length t.text ≤ most) × AreWithin most terms

@@ -10,3 +10,4 @@ pub mod InnerTexts
 pub mod InnerVectors
 pub mod Walks
 pub mod InnerViews
+pub mod InnerTerms

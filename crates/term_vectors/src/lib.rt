@@ -6,6 +6,7 @@ mod fields;
 mod layout;
 mod occurrences;
 mod places;
+mod terms;
 mod texts;
 mod vectors;
 

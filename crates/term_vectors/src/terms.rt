@@ -1,70 +1,76 @@
 //! The terms of a vector, one after another (format page, "Term vectors").
-ghost use Rattle.std.specs.Prelude.{◌≡◌, ◌≤◌, ◌^◌, ◌<◌, [], length, drop, slice_get, vec_capacity, IfOk, None};
-ghost use Rattle.std.specs.Option.{option_map};
-ghost use Rattle.lu_grammar.specs.Bytes.{place_in};
-ghost use Rattle.term_vectors.specs.Pairs.{span_of};
-ghost use Rattle.term_vectors.specs.Walks.{walk_of, has_left, walk_on};
-ghost use Rattle.term_vectors.specs.InnerTexts.{text_before, IsSoundText};
-ghost use Rattle.term_vectors.specs.InnerViews.{AreWithin, terms_left, AreTermsLeft};
+ghost use Rattle.std.specs.Prelude.{◌≡◌, ◌≤◌, ℕ, List, length, None, Option, Ok};
+ghost use Rattle.lu_grammar.specs.Bytes.{Cursor, place_in};
+ghost use Rattle.lu_grammar.specs.Plans.{read_plan};
+ghost use Rattle.lu_model.specs.Index.{VectorTerm};
+ghost use Rattle.term_vectors.specs.Vectors.{term_plan};
+ghost use Rattle.term_vectors.specs.InnerTerms.{HasParts};
+ghost use Rattle.term_vectors.specs.InnerViews.{AreWithin, terms_left, AreTermsThere};
 
 use crate::layout::{OFFSETS, POSITIONS};
-use crate::occurrences::{Pair, Pairs, Positions, pass_pairs, pass_positions};
-use crate::texts::{LastText, entry_at};
+use crate::occurrences::{Pairs, Positions, pass_pairs, pass_positions};
+use crate::texts::entry_at;
 use crate::vectors::kept_count;
-use lu_prims::{Cur, OutOfMemory};
-use std::alloc::Global;
-use std::marker::Model;
+use lu_prims::Cur;
 
-/// A walk over the terms of a vector of checked files. Contracts see the last term that was passed, what of its positions and
-/// pairs was not taken, and the terms that are left. The text stands in one buffer, reserved when the walk is made; no call
-/// takes memory.
+/// A term of a vector, in its parts: how many bytes its text shares with the text before, the bytes that follow them, how often
+/// it stands in the field, its positions and its pairs as far as the vector keeps them, and the place behind them.
 #[derive(Drop)]
-pub struct VectorTerms<'a> {
-    tvf: &'a [u8],
-    place: usize,
-    bits: u8,
-    left: u32,
-    last: LastText,
-    freq: u32,
-    positions: Positions<'a>,
-    pairs: Pairs<'a>,
+pub struct TermParts<'a> {
+    pub prefix: u32,
+    pub suffix: &'a [u8],
+    pub freq: u32,
+    pub positions: Positions<'a>,
+    pub pairs: Pairs<'a>,
+    pub end: usize,
 }
 
-impl<'a> Model for VectorTerms<'a> {
-    ghost use Rattle.std.specs.Prelude.{◌≤◌, length, vec_capacity};
-    ghost use Rattle.lu_grammar.specs.Bytes.{place_in};
-    ghost use Rattle.term_vectors.specs.Walks.{TermWalk};
-    ghost use Rattle.term_vectors.specs.InnerTexts.{text_before, IsSoundText};
-    ghost use Rattle.term_vectors.specs.InnerViews.{terms_left, AreTermsLeft};
-
-    ghost Value = { TermWalk };
-
-    ghost view = { λ w. record {
-        text = w.last.bytes.items;
-        frequency = w.freq;
-        positions = w.positions;
-        spans = w.pairs;
-        left = terms_left w.bits w.left (text_before w.last) (place_in w.tvf.now w.place);
-    } };
-
-    ghost invariant = { λ w. (w.place ≤ length w.tvf.now) × IsSoundText w.last
-        × AreTermsLeft w.bits w.left (text_before w.last) (place_in w.tvf.now w.place) (vec_capacity w.last.bytes) };
+/// The term that stands at a place, in a vector with these bits.
+fn term_at<'a>(tvf: &'a [u8], place: usize, bits: u8) -> TermParts<'a>
+    requires within { place ≤ length tvf.now }
+    requires there { (before : Option (List ℕ)) × (x : VectorTerm × Cursor) × (read_plan (term_plan bits before) (place_in tvf.now place) ≡ Ok x) }
+    ensures { (before : Option (List ℕ)) (t : VectorTerm) (d : Cursor) → read_plan (term_plan bits before) (place_in tvf.entry.now place) ≡ Ok (t, d)
+        → HasParts tvf.entry.now before t d result }
+{
+    let mut here = Cur::at(tvf, place);
+    let entry = match entry_at(&mut here) {
+        Err(_) => unreachable!(),
+        Ok(entry) => entry,
+    };
+    let count = kept_count(POSITIONS, bits, entry.freq);
+    let positions = Positions::at(Cur::at(tvf, here.place()), count);
+    match pass_positions(&mut here, count) {
+        Err(_) => unreachable!(),
+        Ok(()) => {}
+    }
+    let many = kept_count(OFFSETS, bits, entry.freq);
+    let pairs = Pairs::at(Cur::at(tvf, here.place()), many);
+    match pass_pairs(&mut here, many) {
+        Err(_) => unreachable!(),
+        Ok(()) => {}
+    }
+    TermParts {
+        prefix: entry.prefix,
+        suffix: entry.suffix,
+        freq: entry.freq,
+        positions,
+        pairs,
+        end: here.place(),
+    }
 }
 
 /// The length of the longest text of so many terms, which stand there in a vector with these bits.
 fn longest_text(tvf: &[u8], place: usize, bits: u8, count: u32) -> usize
     requires within { place ≤ length tvf.now }
-    requires there { AreReadable bits count None (place_in tvf.now place) }
+    requires there { AreTermsThere bits count None (place_in tvf.now place) }
     ensures { AreWithin result (terms_left bits count None (place_in tvf.now place)) }
 {
-    let mut here = Cur::at(tvf, place);
+    let mut here = place;
     let mut longest = 0;
     for _nth in 0..count {
-        let length = match entry_at(&mut here) {
-            Err(_) => unreachable!(),
-            Ok(entry) => entry.prefix as usize + entry.suffix.len(),
-        };
-        longest = longest.max(length);
+        let parts = term_at(tvf, here, bits);
+        longest = longest.max(parts.prefix as usize + parts.suffix.len());
+        here = parts.end;
     }
     longest
 }

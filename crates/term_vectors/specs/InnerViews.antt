@@ -1,5 +1,5 @@
 -- What the views read (format page, "Term vectors").
-use Rattle.std.specs.Prelude.{◌≡◌, ◌<◌, ◌≤◌, ◌+◌, ◌-◌, ℕ, false, List, [], ◌∷◌, length, map, Option, Ok}
+use Rattle.std.specs.Prelude.{◌≡◌, ◌<◌, ◌≤◌, ◌+◌, ◌-◌, ℕ, false, List, [], ◌∷◌, length, map, Option, Ok, vec_capacity}
 use Rattle.lu_types.specs.declared.stored.Window.{Window}
 use Rattle.lu_grammar.specs.Bytes.{IsBytes, Cursor, place_in}
 use Rattle.lu_grammar.specs.Reading.{value_or}
@@ -8,11 +8,17 @@ use Rattle.lu_model.specs.Index.{Span, VectorTerm}
 use Rattle.term_vectors.specs.Places.{tvx_plan}
 use Rattle.term_vectors.specs.Fields.{TvdRecord, VectorPlace, numbers_plan, further_plan, placed, no_window, tvd_plan}
 use Rattle.term_vectors.specs.Vectors.{Vector, positions_plan, spans_plan, terms_plan, vector_plan, tvf_plan}
+use Rattle.term_vectors.specs.declared.texts.LastText.{LastText}
+use Rattle.term_vectors.specs.InnerTexts.{text_before, IsSoundText}
 use Rattle.term_vectors.specs.Stores.{places_in, slots_in, vectors_in}
 
 -- what stands for no vector
 abbrev pub no_vector : Vector
 no_vector = record { field = 0; bits = 0; terms = [] }
+
+-- what stands for no place
+abbrev pub no_slot : VectorPlace
+no_slot = record { field = 0; place = 0 }
 
 -- so many vectors of a document, whose fields stand here, and the first of which stands at a place of `.tvf`
 abbrev pub slots_plan : ℕ → ℕ → Plan (List VectorPlace) TvdRecord
@@ -80,3 +86,10 @@ AreTermsThere bits n before here = (end : Cursor) × (read_plan (terms_plan bits
 abbrev pub AreWithin : ℕ → List VectorTerm → Type 0
 AreWithin most [] = Unit {0}
 AreWithin most (t ∷ terms) = (length t.text ≤ most) × AreWithin most terms
+
+-- a walk over terms: so many stand at this place, after the last text, if there is one, and the buffer has room for each text
+pub record IsTermWalk (tvf : List ℕ) (place bits left : ℕ) (last : LastText) : Type 0 where
+  pub within : place ≤ length tvf
+  pub sound : IsSoundText last
+  pub there : AreTermsThere bits left (text_before last) (place_in tvf place)
+  pub room : AreWithin (vec_capacity last.bytes) (terms_left bits left (text_before last) (place_in tvf place))

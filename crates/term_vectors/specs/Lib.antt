@@ -11,3 +11,4 @@ pub mod InnerVectors
 pub mod Walks
 pub mod InnerViews
 pub mod InnerTerms
+pub mod InnerSlots

@@ -2,6 +2,7 @@
 #![tactic(auto)]
 
 mod checking;
+mod document;
 mod fields;
 mod layout;
 mod occurrences;
@@ -10,7 +11,9 @@ mod terms;
 mod texts;
 mod vectors;
 
+pub use document::{VectorDoc, VectorField};
 pub use fields::{StorePart, check_fields};
 pub use layout::DocumentPlaces;
 pub use occurrences::Pair;
+pub use terms::VectorTerms;
 pub use places::check_places;

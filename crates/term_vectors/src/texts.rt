@@ -1,5 +1,5 @@
 //! The text of the last term of a vector that was read, and how the next one follows from it (format page, "Term vectors").
-ghost use Rattle.std.specs.Prelude.{◌≡◌, ◌++◌, ◌≤◌, ◌+◌, true, length, take, Some, None, IsOk, IfOk, OnOk, vec_capacity};
+ghost use Rattle.std.specs.Prelude.{◌≡◌, ◌++◌, ◌≤◌, ◌+◌, true, [], length, take, Some, None, IsOk, IfOk, OnOk, vec_capacity};
 ghost use Rattle.std.specs.Str.{IsUtf8, is_utf8};
 ghost use Rattle.lu_prims.specs.Order.{byte_rank};
 ghost use Rattle.lu_grammar.specs.Answers.{Gives};
@@ -117,6 +117,35 @@ impl LastText {
             bytes: Vec::new(alloc),
             is_some: false,
         }
+    }
+
+    /// No text yet, with room for texts of so many bytes.
+    pub fn with_room(alloc: Global, longest: usize) -> Result<LastText, OutOfMemory>
+        ensures before { IfOk result (λ last. text_before last ≡ None) }
+        ensures sound { IfOk result IsSoundText }
+        ensures none { IfOk result (λ last. last.bytes.items ≡ []) }
+        ensures room { IfOk result (λ last. longest ≤ vec_capacity last.bytes) }
+    {
+        let mut last = LastText::new(alloc);
+        last.bytes.reserve(longest)?;
+        Ok(last)
+    }
+
+    /// Makes it the text that shares so many bytes with this one and goes on with the suffix, for which there is room.
+    pub fn advance(&mut self, prefix: u32, suffix: &[u8])
+        requires prefix { prefix ≤ length self.old.bytes.items }
+        requires text { IsUtf8 (take prefix self.old.bytes.items ++ suffix.now) }
+        requires room { prefix + length suffix.now ≤ vec_capacity self.old.bytes }
+        ensures before { text_before self.new ≡ Some (take prefix self.old.bytes.items ++ suffix.now) }
+        ensures bytes { self.new.bytes.items ≡ take prefix self.old.bytes.items ++ suffix.now }
+        ensures sound { IsSoundText self.new }
+        ensures room { vec_capacity self.old.bytes ≤ vec_capacity self.new.bytes }
+    {
+        match follow(&mut self.bytes, prefix as usize, suffix) {
+            Err(_) => unreachable!(),
+            Ok(()) => {}
+        }
+        self.is_some = true;
     }
 
     /// Stands before the first text again, and keeps the room.

@@ -44,7 +44,7 @@ module _ (wanted : ℕ) (c b d : Cursor) (count bits : ℕ) (first : read_part n
 abbrev pub vector_of : VectorPlace → TvfRecord → List VectorTerm → Vector
 vector_of at r terms = record { field = at.field; bits = bits_of r; terms = terms }
 
-abbrev rest_of_vector : VectorPlace → TvfRecord → Plan Vector TvfRecord
+abbrev pub rest_of_vector : VectorPlace → TvfRecord → Plan Vector TvfRecord
 rest_of_vector at r = and_then (terms_plan (bits_of r) (count_of r) None) (λ terms. done (vector_of at r terms))
 
 module _ (at : VectorPlace) (c : Cursor) where

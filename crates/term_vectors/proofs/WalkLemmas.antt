@@ -34,7 +34,7 @@ slot field place = record { field = field; place = place }
 abbrev pub all_further : ℕ → ℕ → Cursor → List ℕ × Cursor
 all_further count place start = value_or ([], start) (reads_further count place start)
 
-one_left : (xs : List ℕ) (i : ℕ) → i < length xs → drop i xs ≡ get_or xs i 0 ∷ drop (i + 1) xs
+pub one_left : (xs : List ℕ) (i : ℕ) → i < length xs → drop i xs ≡ get_or xs i 0 ∷ drop (i + 1) xs
 one_left xs i lt = drop-cons xs i 0 lt ∙ ap (λ (k : ℕ). get_or xs i 0 ∷ drop k xs) (sym (add-one i))
 
 module _ (count place : ℕ) (start first : Cursor) where

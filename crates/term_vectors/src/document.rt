@@ -1,5 +1,5 @@
 //! The vectors of a document (format page, "Term vectors").
-ghost use Rattle.std.specs.Prelude.{◌≡◌, ◌<◌, ◌≤◌, ◌+◌, ◌-◌, ℕ, false, List, [], ◌∷◌, length, get_or, IfOk, Ok};
+ghost use Rattle.std.specs.Prelude.{◌≡◌, ◌<◌, ◌≤◌, ◌+◌, ◌-◌, ℕ, false, cond, List, [], ◌∷◌, length, get_or, IfOk, Ok};
 ghost use Rattle.lu_grammar.specs.Bytes.{Cursor, place_in};
 ghost use Rattle.lu_grammar.specs.Plans.{read_plan};
 ghost use Rattle.term_vectors.specs.Fields.{VectorPlace, numbers_plan, further_plan};
@@ -55,6 +55,13 @@ impl<'a> Model for VectorDoc<'a> {
     ghost invariant = { λ d. AreThere d.tvd.now d.numbers d.count d.place d.tvf.now };
 }
 
+/// The first number where the test holds, and else the second.
+fn either(test: bool, first: u32, second: u32) -> u32
+    ensures { result ≡ cond test first second }
+{
+    if test { first } else { second }
+}
+
 /// Passes the fields of so many vectors, and answers that of the one with a number.
 fn number_at(beside: &mut Cur<'_>, count: u32, nth: u32) -> u32
     requires there { (x : List ℕ × Cursor) × (read_plan (numbers_plan false [] count []) beside.old ≡ Ok x) }
@@ -67,9 +74,7 @@ fn number_at(beside: &mut Cur<'_>, count: u32, nth: u32) -> u32
             Err(_) => unreachable!(),
             Ok(found) => found,
         };
-        if i == nth {
-            number = found;
-        }
+        number = either(i == nth, found, number);
     }
     number
 }

@@ -53,14 +53,14 @@ unfolding terms_plan read_plan
 terms-end bits before c all d e = sym (same_pair [] all c d e).0
 
 -- a record that is read in some bytes ends in them
-record_in : {R : Type 0} (shape : Shape R) (conditions : R → List Condition) (bytes : List ℕ) (at : ℕ) (r : R) (b : Cursor) → IsBytes bytes → at ≤ length bytes → record_at shape conditions (place_in bytes at) ≡ Ok (r, b)
+pub record_in : {R : Type 0} (shape : Shape R) (conditions : R → List Condition) (bytes : List ℕ) (at : ℕ) (r : R) (b : Cursor) → IsBytes bytes → at ≤ length bytes → record_at shape conditions (place_in bytes at) ≡ Ok (r, b)
     → (b ≡ place_in bytes b.place) × (b.place ≤ length bytes)
 unfolding read_plan
 record_in shape conditions bytes at r b fits le e =
     place_in-after (due shape (λ _ s. conditions s) (λ _ s. done s)) bytes at r b fits le (read_due shape (λ _ s. conditions s) (λ _ s. done s) (place_in bytes at) r b e)
 
 -- a plan that is read where the bytes stand ends in them
-plan_in : {V R : Type 0} (plan : Plan V R) (bytes : List ℕ) (c : Cursor) (v : V) (d : Cursor) → IsBytes bytes → (c ≡ place_in bytes c.place) × (c.place ≤ length bytes) → read_plan plan c ≡ Ok (v, d) → (d ≡ place_in bytes d.place) × (d.place ≤ length bytes)
+pub plan_in : {V R : Type 0} (plan : Plan V R) (bytes : List ℕ) (c : Cursor) (v : V) (d : Cursor) → IsBytes bytes → (c ≡ place_in bytes c.place) × (c.place ≤ length bytes) → read_plan plan c ≡ Ok (v, d) → (d ≡ place_in bytes d.place) × (d.place ≤ length bytes)
 plan_in plan bytes c v d fits (is, le) e = place_in-after plan bytes c.place v d fits le (ap (λ (x : Cursor). read_plan plan x) (sym is) ∙ e)
 
 -- the parts of a term whose record was read

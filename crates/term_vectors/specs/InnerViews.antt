@@ -46,6 +46,7 @@ AreAllThere tvf (at ∷ slots) = IsThere tvf at × AreAllThere tvf slots
 -- the vectors of a document stand there
 pub record AreThere (tvd : List ℕ) (numbers count place : ℕ) (tvf : List ℕ) : Type 0 where
   pub within : numbers ≤ length tvd
+  pub bytes : IsBytes tvf
   pub end : Cursor
   pub slots : read_plan (slots_plan count place) (place_in tvd numbers) ≡ Ok (slots_here count place (place_in tvd numbers), end)
   pub vectors : AreAllThere tvf (slots_here count place (place_in tvd numbers))

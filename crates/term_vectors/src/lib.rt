@@ -10,10 +10,12 @@ mod places;
 mod terms;
 mod texts;
 mod vectors;
+mod view;
 
 pub use document::{VectorDoc, VectorField};
 pub use fields::{StorePart, check_fields};
 pub use layout::DocumentPlaces;
 pub use occurrences::Pair;
 pub use terms::VectorTerms;
+pub use view::VectorView;
 pub use places::check_places;

@@ -42,9 +42,10 @@ behind_places c d r e =
     let a = int64_read c first.0.1 first.0.0 first.1 in
     let b = int64_read first.0.1 second.0.1 second.0.0 second.1 in
     let same = same_pair (places (place_of first.0.0) (place_of second.0.0)) r second.0.1 d second.2 in
-    let rest : first.0.1.rest ≡ drop 8 c.rest = ap (λ (x : Cursor). x.rest) a.2 in
-    (omega (arith, a.0, b.0, ap length rest, length-drop 8 c.rest),
-    sym same.1 ∙ b.2 ∙ ap (λ (x : Cursor). moved 8 x) a.2 ∙ ap (λ (x : List ℕ). at (c.place + 8 + 8) x) (drop-drop 8 8 c.rest) ∙ ap (λ (n : ℕ). at n (drop 16 c.rest)) (let n : c.place + 8 + 8 ≡ c.place + 16 = omega arith in n))
+    let rest : first.0.1.rest ≡ drop 8 c.rest = ap (λ (x : Cursor). x.rest) a.2 in (
+      omega (arith, a.0, b.0, ap length rest, length-drop 8 c.rest),
+      sym same.1 ∙ b.2 ∙ ap (λ (x : Cursor). moved 8 x) a.2 ∙ ap (λ (x : List ℕ). at (c.place + 8 + 8) x) (drop-drop 8 8 c.rest) ∙ ap (λ (n : ℕ). at n (drop 16 c.rest)) (let n : c.place + 8 + 8 ≡ c.place + 16 = omega arith in n),
+    )
   where
     at : ℕ → List ℕ → Cursor
     at n bs = record { place = n; rest = bs }

@@ -6,8 +6,8 @@ use Rattle.lu_types.specs.declared.stored.Window.{Window}
 use Rattle.lu_grammar.specs.Bytes.{Cursor, start_of}
 use Rattle.lu_grammar.specs.Reading.{◌>>=◌, value_or}
 use Rattle.lu_grammar.specs.Records.{first_broken, record_at}
-use Rattle.lu_grammar.specs.Plans.{Plan, done, and_then, Broken, read_plan, ended}
-use Rattle.lu_grammar.proofs.Codecs.{ok_pair, ok_of, then_ok, due_was, record_at-was, record_at-read, read_due, read_plan-and_then, nothing_left}
+use Rattle.lu_grammar.specs.Plans.{Plan, done, and_then, Broken, read_plan, ended, read_file}
+use Rattle.lu_grammar.proofs.Codecs.{ok_pair, ok_of, then_ok, due_was, record_at-was, record_at-read, read_due, read_plan-and_then, nothing_left, file_was}
 use Rattle.term_vectors.specs.declared.layout.DocumentPlaces.{DocumentPlaces}
 use Rattle.term_vectors.specs.Format.{format_shape, headed}
 use Rattle.term_vectors.specs.Fields.{TvdRecord, VectorPlace, format, format_conditions, stated, count_shape, count_conditions, has_vectors, is_among, number_shape, number_conditions, numbers_plan, further_plan, placed, document_plan, is_within, no_window, documents_plan, tvd_plan}
@@ -75,3 +75,13 @@ slots-read fields window places tvd all d e none =
     let again = read_due (format_shape format) (λ _ r. format_conditions r) (λ _ _. documents_plan [] no_window 0 places) (start_of tvd) head.0.0 head.0.1 head.1
     ∙ documents-unasked fields window 0 places head.0.1 all d head.2 in
     ap (λ (r : Result (List (List VectorPlace) × Cursor) Broken). value_or [] (r >>= ended)) again ∙ ap (value_or []) (nothing_left all d none)
+
+-- the file is read so too
+pub slots_file : (fields : List TableField) (window : Window) (places : List DocumentPlaces) (tvd : List ℕ) (all : List (List VectorPlace)) → read_file (tvd_plan fields window places) tvd ≡ ok_of all → read_file (tvd_plan [] no_window places) tvd ≡ Ok (slots_in places tvd)
+slots_file fields window places tvd all e =
+    let file = file_was (tvd_plan fields window places) tvd all e in
+    let head = due_was (format_shape format) (λ _ r. format_conditions r) (λ _ _. documents_plan fields window 0 places) (start_of tvd) (all, file.0) file.1 in
+    let again = read_due (format_shape format) (λ _ r. format_conditions r) (λ _ _. documents_plan [] no_window 0 places) (start_of tvd) head.0.0 head.0.1 head.1
+    ∙ documents-unasked fields window 0 places head.0.1 all file.0 head.2 in
+    ap (λ (r : Result (List (List VectorPlace) × Cursor) Broken). r >>= ended) again ∙ nothing_left all file.0 file.2
+    ∙ ap (λ (x : List (List VectorPlace)). ok_of x) (sym (slots-read fields window places tvd all file.0 file.1 file.2))

@@ -111,12 +111,14 @@ module _ (count place : ℕ) (start first : Cursor) where
   unfolding placed
   walked-end i before beside here w is =
       let none : count - i ≡ 0 = omega arith in
-      let end = further-ends before beside w.rest (all_further count place start).1 (ap (λ (k : ℕ). reads_further k before beside) (sym none) ∙ w.left) in
-      (end.1, λ numbers many.
-          let all = reads_vectors (placed numbers (all_further count place start).0) first in
-          let past : drop i numbers ≡ [] = ap (λ (k : ℕ). drop k numbers) (is ∙ sym many) ∙ drop-length numbers in
-          let h = w.vectors numbers many in
-          (h.make [], Continues-ok all (reads_vectors (placed (drop i numbers) w.rest) here) [] here h (ap (λ (ns : List ℕ). reads_vectors (placed ns w.rest) here) past ∙ vectors-done here)))
+      let end = further-ends before beside w.rest (all_further count place start).1 (ap (λ (k : ℕ). reads_further k before beside) (sym none) ∙ w.left) in (
+        end.1,
+        λ numbers many.
+            let all = reads_vectors (placed numbers (all_further count place start).0) first in
+            let past : drop i numbers ≡ [] = ap (λ (k : ℕ). drop k numbers) (is ∙ sym many) ∙ drop-length numbers in
+            let h = w.vectors numbers many in
+            (h.make [], Continues-ok all (reads_vectors (placed (drop i numbers) w.rest) here) [] here h (ap (λ (ns : List ℕ). reads_vectors (placed ns w.rest) here) past ∙ vectors-done here)),
+      )
 
 -- ---- the documents
 

@@ -142,9 +142,10 @@ module _ (places : DocumentPlaces) (c : Cursor) (slots : List VectorPlace) (d : 
   unfolding placed
   document-none none =
       let no_numbers : was.numbers ≡ [] = nil_from_length was.numbers (was.many ∙ none) in
-      let less : was.count - 1 ≡ 0 = omega arith in
-      (was.all ∙ ap (λ (ns : List ℕ). placed ns (places.tvf ∷ was.further)) no_numbers,
-      (further-ends places.tvf was.behind was.further d (ap (λ (k : ℕ). reads_further k places.tvf was.behind) (sym less) ∙ was.placed_so)).1)
+      let less : was.count - 1 ≡ 0 = omega arith in (
+        was.all ∙ ap (λ (ns : List ℕ). placed ns (places.tvf ∷ was.further)) no_numbers,
+        (further-ends places.tvf was.behind was.further d (ap (λ (k : ℕ). reads_further k places.tvf was.behind) (sym less) ∙ was.placed_so)).1,
+      )
 
   -- the first vector, and the others
   pub record First : Type 0 where

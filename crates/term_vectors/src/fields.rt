@@ -11,10 +11,14 @@ ghost use Rattle.term_vectors.specs.Stores.{places_in, slots_in};
 ghost use Rattle.term_vectors.specs.InnerAnswers.{Makes, Passes, PassesIn};
 ghost use Rattle.term_vectors.specs.InnerFields.{HasNumbers, IsStatedAt};
 
-use crate::layout::{DOCUMENT_BYTES, DocumentPlaces, GREATEST_PLACE, HEADER_BYTES, pass_format, place_of};
+use crate::layout::{
+    DOCUMENT_BYTES, DocumentPlaces, GREATEST_PLACE, HEADER_BYTES, pass_format, place_of,
+};
 use lu_prims::Cur;
 use lu_types::bits::{VECTORS, has_bit};
-use lu_types::rules::{TRAILING, TVD_FORMAT, TVD_PLACE, TVF_SUM, VECTOR_FIELD, VECTOR_TWICE, rule_of};
+use lu_types::rules::{
+    TRAILING, TVD_FORMAT, TVD_PLACE, TVF_SUM, VECTOR_FIELD, VECTOR_TWICE, rule_of,
+};
 use lu_types::{CodecFault, FieldTable, FileKind, Spot, Window};
 use std::alloc::Global;
 use std::collections::BTreeSet;

@@ -16,6 +16,9 @@ pub use document::{VectorDoc, VectorField};
 pub use fields::{StorePart, check_fields};
 pub use layout::DocumentPlaces;
 pub use occurrences::Pair;
+pub use places::check_places;
 pub use terms::VectorTerms;
 pub use view::VectorView;
-pub use places::check_places;
+
+#[cfg(test)]
+mod tests;

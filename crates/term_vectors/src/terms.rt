@@ -102,11 +102,11 @@ impl<'a> Model for VectorTerms<'a> {
     ghost Value = { TermWalk };
 
     ghost view = { λ w. record {
-        text = w.last.bytes.items;
-        frequency = w.freq;
-        positions = w.positions;
-        spans = w.pairs;
-        left = terms_left w.bits w.left (text_before w.last) (place_in w.tvf.now w.place);
+      text = w.last.bytes.items;
+      frequency = w.freq;
+      positions = w.positions;
+      spans = w.pairs;
+      left = terms_left w.bits w.left (text_before w.last) (place_in w.tvf.now w.place);
     } };
 
     ghost invariant = { λ w. IsTermWalk w.tvf.now w.place w.bits w.left w.last };

@@ -30,12 +30,14 @@ pub loop-number-init : goal.loop-number-init
 loop-number-init c =
     let places : List DocumentPlaces = places_in c.args.total c.args.tvx.now in
     let slots : List (List VectorPlace) = slots_in places c.args.tvd.now in
-    let (le, (end, read)) = tvd_was places c.args.tvd.now slots c.requires.slots in
-    (end, record {
-      rest = slots;
-      left = ap (λ (b : Cursor). read_plan (documents_plan [] no_window 0 places) b) c.at-beside.ensures ∙ read;
-      vectors = Continues-same (reads_all slots c.pass_format.new.here) (reads_all slots c.pass_format.new.here) refl;
-    })
+    let (le, (end, read)) = tvd_was places c.args.tvd.now slots c.requires.slots in (
+      end,
+      record {
+        rest = slots;
+        left = ap (λ (b : Cursor). read_plan (documents_plan [] no_window 0 places) b) c.at-beside.ensures ∙ read;
+        vectors = Continues-same (reads_all slots c.pass_format.new.here) (reads_all slots c.pass_format.new.here) refl;
+      },
+    )
 
 pub places_at-places-requires : goal.places_at-places-requires
 places_at-places-requires c =

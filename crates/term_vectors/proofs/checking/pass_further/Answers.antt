@@ -18,10 +18,12 @@ unreachable-requires c = walked-no_fault c.args.count c.args.place c.args.beside
 pub returns-in-Err-pass_vector : goal.returns-in-Err-pass_vector
 returns-in-Err-pass_vector c = λ numbers further d many e.
     let made = c.in-Ok.ensures in
-    let is : all_further c.args.count c.args.place c.args.beside.now ≡ (further, d) = ap (value_or ([], c.args.beside.now)) e in
-    (subst (λ (x : List ℕ × Cursor). IsBrokenSo Tvf (reads_vectors (placed numbers x.0) c.args.here.now) c.in-Err-pass_vector.fault) is
-    (walked-fault c.args.count c.args.place c.args.beside.now c.args.here.now Tvf c.loop-nth._nth c.loop-nth.before c.in-Ok.next made.0 c.loop-nth.beside c.loop-nth.here c.next_place.new.here c.in-Err-pass_vector.fault
-    c.loop-nth.invariant c.loop-nth-test.true made.1 made.2 c.in-Err-pass_vector.ensures numbers many), tt)
+    let is : all_further c.args.count c.args.place c.args.beside.now ≡ (further, d) = ap (value_or ([], c.args.beside.now)) e in (
+      subst (λ (x : List ℕ × Cursor). IsBrokenSo Tvf (reads_vectors (placed numbers x.0) c.args.here.now) c.in-Err-pass_vector.fault) is
+          (walked-fault c.args.count c.args.place c.args.beside.now c.args.here.now Tvf c.loop-nth._nth c.loop-nth.before c.in-Ok.next made.0 c.loop-nth.beside c.loop-nth.here c.next_place.new.here c.in-Err-pass_vector.fault
+          c.loop-nth.invariant c.loop-nth-test.true made.1 made.2 c.in-Err-pass_vector.ensures numbers many),
+      tt,
+    )
 
 pub loop-nth-preserved : goal.loop-nth-preserved
 loop-nth-preserved c =

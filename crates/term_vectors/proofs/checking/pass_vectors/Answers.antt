@@ -35,17 +35,21 @@ returns-in-Err-pass_vector c = λ slots d e.
     let was = document_was c.args.places c.args.beside.now slots d e in
     let from = numbers_from c.args.places c.args.beside.now slots d was c.in-Ok.count c.num.new.self c.in-Ok.ensures.takes in
     let some : 0 < was.count = omega (arith, from.1) in
-    let first = document-some c.args.places c.args.beside.now slots d was some in
-    (subst (λ (ss : List VectorPlace). IsBrokenSo Tvf (reads_vectors ss c.args.here.now) c.in-Err-pass_vector.fault) (sym first.all)
-    (vectors-broken Tvf (slot first.field c.args.places.tvf) (placed first.numbers was.further) c.args.here.now c.in-Err-pass_vector.fault (c.in-Err-pass_vector.ensures first.field)), tt)
+    let first = document-some c.args.places c.args.beside.now slots d was some in (
+      subst (λ (ss : List VectorPlace). IsBrokenSo Tvf (reads_vectors ss c.args.here.now) c.in-Err-pass_vector.fault) (sym first.all)
+          (vectors-broken Tvf (slot first.field c.args.places.tvf) (placed first.numbers was.further) c.args.here.now c.in-Err-pass_vector.fault (c.in-Err-pass_vector.ensures first.field)),
+      tt,
+    )
 
 pub pass_further-requires : goal.pass_further-requires
 pass_further-requires c =
     let (x, e) = c.requires in
     let was = document_was c.args.places c.args.beside.now x.0 x.1 e in
-    let from = numbers_from c.args.places c.args.beside.now x.0 x.1 was c.in-Ok.count c.num.new.self c.in-Ok.ensures.takes in
-    ((was.further, x.1), ap (λ (k : ℕ). reads_further (k - 1) c.args.places.tvf c.skip_numbers.new.beside) from.1
-    ∙ ap (λ (b : Cursor). reads_further (was.count - 1) c.args.places.tvf b) (c.skip_numbers.ensures was.numbers was.behind from.0) ∙ was.placed_so)
+    let from = numbers_from c.args.places c.args.beside.now x.0 x.1 was c.in-Ok.count c.num.new.self c.in-Ok.ensures.takes in (
+      (was.further, x.1),
+      ap (λ (k : ℕ). reads_further (k - 1) c.args.places.tvf c.skip_numbers.new.beside) from.1
+          ∙ ap (λ (b : Cursor). reads_further (was.count - 1) c.args.places.tvf b) (c.skip_numbers.ensures was.numbers was.behind from.0) ∙ was.placed_so,
+    )
 
 pub returns : goal.returns
 returns c = λ slots d e.
@@ -59,6 +63,8 @@ returns c = λ slots d e.
     let many = first.many ∙ ap (λ (k : ℕ). k - 1) (sym from.1) in
     let reads = ap (λ (k : ℕ). reads_further (k - 1) c.args.places.tvf c.skip_numbers.new.beside) from.1
     ∙ ap (λ (b : Cursor). reads_further (was.count - 1) c.args.places.tvf b) (c.skip_numbers.ensures was.numbers was.behind from.0) ∙ was.placed_so in
-    let (passes, ends) = c.pass_further.ensures first.numbers was.further d many reads in
-    (Continues-passes Tvf (reads_vectors slots c.args.here.now) rest c.pass_further.new.here c.pass_further.result
-    (subst (λ (ss : List VectorPlace). Continues (reads_vectors ss c.args.here.now) rest) (sym first.all) left) passes, ends)
+    let (passes, ends) = c.pass_further.ensures first.numbers was.further d many reads in (
+      Continues-passes Tvf (reads_vectors slots c.args.here.now) rest c.pass_further.new.here c.pass_further.result
+          (subst (λ (ss : List VectorPlace). Continues (reads_vectors ss c.args.here.now) rest) (sym first.all) left) passes,
+      ends,
+    )

@@ -20,9 +20,11 @@ returns-in-Err-pass_places c =
     let s = c.in-Err-pass_places.spot in
     let broken = c.in-Err-pass_places.ensures in
     let numbers = c.in_default.ensures in
-    let less : c.saturating_sub.result ≡ c.in-Ok.count - 1 = omega (arith, c.saturating_sub.ensures) in
-    (broken.0, document-further_broken c.args.asked c.args.fields.now c.args.places c.args.here.now c.in-Ok.count c.next_count.new.here c.pass_numbers.new.here numbers.0 (record { offset = s.offset; rule = s.rule }) c.in-Ok.ensures numbers.1
-    (ap (λ (k : ℕ). reads_further k c.args.places.tvf c.pass_numbers.new.here) (sym less) ∙ broken.1))
+    let less : c.saturating_sub.result ≡ c.in-Ok.count - 1 = omega (arith, c.saturating_sub.ensures) in (
+      broken.0,
+      document-further_broken c.args.asked c.args.fields.now c.args.places c.args.here.now c.in-Ok.count c.next_count.new.here c.pass_numbers.new.here numbers.0 (record { offset = s.offset; rule = s.rule }) c.in-Ok.ensures numbers.1
+          (ap (λ (k : ℕ). reads_further k c.args.places.tvf c.pass_numbers.new.here) (sym less) ∙ broken.1),
+    )
 
 pub returns-in-Ok-pass_places : goal.returns-in-Ok-pass_places
 returns-in-Ok-pass_places c =

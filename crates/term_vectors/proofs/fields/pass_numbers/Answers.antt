@@ -18,10 +18,12 @@ returns-in-Err c =
 
 pub loop-nth-preserved : goal.loop-nth-preserved
 loop-nth-preserved c =
-    let (before, has, left) = c.loop-nth.invariant in
-    (c.in-Ok.number ∷ before, numbers-more c.loop-nth.numbers c.insert.new.self c.in-Ok.number before has c.in-Ok-insert.ensures.updates,
-    one-passed (reads_numbers c.args.asked c.args.fields.now) c.args.count [] c.args.here.now c.loop-nth._nth before (c.in-Ok.number ∷ before) c.loop-nth.here c.next_number.new.here left c.loop-nth-test.true
-    (λ n. numbers-left c.args.asked c.args.fields.now n before c.loop-nth.here c.in-Ok.number c.next_number.new.here (c.in-Ok.ensures before has)))
+    let (before, has, left) = c.loop-nth.invariant in (
+      c.in-Ok.number ∷ before,
+      numbers-more c.loop-nth.numbers c.insert.new.self c.in-Ok.number before has c.in-Ok-insert.ensures.updates,
+      one-passed (reads_numbers c.args.asked c.args.fields.now) c.args.count [] c.args.here.now c.loop-nth._nth before (c.in-Ok.number ∷ before) c.loop-nth.here c.next_number.new.here left c.loop-nth-test.true
+          (λ n. numbers-left c.args.asked c.args.fields.now n before c.loop-nth.here c.in-Ok.number c.next_number.new.here (c.in-Ok.ensures before has)),
+    )
 
 pub returns : goal.returns
 returns c =

@@ -15,7 +15,8 @@ returns-in-None c =
     two_breaks vint num (λ far long. pair far long) (pair_conditions c.args.last) c.args.here.now c.vint.new.self c.num.new.self c.in-Ok.far c.in-Ok-num.long 113 c.in-Ok.ensures c.in-Ok-num.ensures.takes c.in-None.ensures
 
 pub returns-in-Some : goal.returns-in-Some
-returns-in-Some c =
-    (pair c.in-Ok.far c.in-Ok-num.long,
-    two_read vint num (λ far long. pair far long) (pair_conditions c.args.last) c.args.here.now c.vint.new.self c.num.new.self c.in-Ok.far c.in-Ok-num.long c.in-Ok.ensures c.in-Ok-num.ensures.takes c.in-Some.ensures.0,
-    c.in-Some.ensures.1)
+returns-in-Some c = (
+  pair c.in-Ok.far c.in-Ok-num.long,
+  two_read vint num (λ far long. pair far long) (pair_conditions c.args.last) c.args.here.now c.vint.new.self c.num.new.self c.in-Ok.far c.in-Ok-num.long c.in-Ok.ensures c.in-Ok-num.ensures.takes c.in-Some.ensures.0,
+  c.in-Some.ensures.1,
+)

@@ -13,6 +13,8 @@ returns-then-position-from c =
     position_broken c.args.last c.args.here.now c.vint.new.self c.in-Ok.delta c.in-Ok.ensures (omega (arith, c.from.ensures, c.from-in-Ok.ensures, c.from-in-Ok-2.ensures))
 
 pub returns-else-position-from : goal.returns-else-position-from
-returns-else-position-from c =
-    (position c.in-Ok.delta, position_given c.args.last c.args.here.now c.vint.new.self c.in-Ok.delta c.in-Ok.ensures (omega (arith, c.from.ensures, c.from-in-Ok.ensures, c.from-in-Ok-2.ensures)),
-    ap (λ (n : ℕ). n + c.from-in-Ok.result) c.from.ensures ∙ ap (λ (n : ℕ). c.args.last + n) c.from-in-Ok.ensures)
+returns-else-position-from c = (
+  position c.in-Ok.delta,
+  position_given c.args.last c.args.here.now c.vint.new.self c.in-Ok.delta c.in-Ok.ensures (omega (arith, c.from.ensures, c.from-in-Ok.ensures, c.from-in-Ok-2.ensures)),
+  ap (λ (n : ℕ). n + c.from-in-Ok.result) c.from.ensures ∙ ap (λ (n : ℕ). c.args.last + n) c.from-in-Ok.ensures,
+)

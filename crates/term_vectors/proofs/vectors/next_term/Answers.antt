@@ -13,7 +13,10 @@ returns-in-Ok-Some c =
 
 pub returns-in-Ok-None : goal.returns-in-Ok-None
 returns-in-Ok-None c =
-    let good = c.in-Ok-None.ensures.good c.in-Ok-None.field-0-is in
-    (term_record c.in-Ok.entry,
-    record_at-read term_shape (term_conditions (text_before c.args.last.now)) c.args.here.now (term_record c.in-Ok.entry) c.entry_at.new.cur c.in-Ok.ensures (sym c.in-Ok-None.ensures.rule ∙ c.in-Ok-None.field-0-is),
-    good.0, good.1, refl)
+    let good = c.in-Ok-None.ensures.good c.in-Ok-None.field-0-is in (
+      term_record c.in-Ok.entry,
+      record_at-read term_shape (term_conditions (text_before c.args.last.now)) c.args.here.now (term_record c.in-Ok.entry) c.entry_at.new.cur c.in-Ok.ensures (sym c.in-Ok-None.ensures.rule ∙ c.in-Ok-None.field-0-is),
+      good.0,
+      good.1,
+      refl,
+    )

@@ -47,8 +47,10 @@ returns-in-Ok c =
     let (positions, behind) = c.in_default.ensures in
     let (spans, last) = c.in-Ok.ensures in
     let count : c.kept_count.result ≡ kept_count bit_positions c.args.bits (freq_of r) = c.kept_count.ensures ∙ ap (kept_count bit_positions c.args.bits) freq in
-    let many : c.kept_count-2.result ≡ kept_count bit_offsets c.args.bits (freq_of r) = c.kept_count-2.ensures ∙ ap (kept_count bit_offsets c.args.bits) freq in
-    (term_of (text_before c.args.last.now) r positions spans,
-    term-read c.args.bits (text_before c.args.last.now) c.args.here.now r c.next_term.new.here c.pass_positions.new.here c.pass_pairs.new.here positions spans there
-    (ap (λ (n : ℕ). reads_positions n 0 c.next_term.new.here) (sym count) ∙ behind) (ap (λ (n : ℕ). reads_spans n 0 c.pass_positions.new.here) (sym many) ∙ last),
-    text, sound)
+    let many : c.kept_count-2.result ≡ kept_count bit_offsets c.args.bits (freq_of r) = c.kept_count-2.ensures ∙ ap (kept_count bit_offsets c.args.bits) freq in (
+      term_of (text_before c.args.last.now) r positions spans,
+      term-read c.args.bits (text_before c.args.last.now) c.args.here.now r c.next_term.new.here c.pass_positions.new.here c.pass_pairs.new.here positions spans there
+          (ap (λ (n : ℕ). reads_positions n 0 c.next_term.new.here) (sym count) ∙ behind) (ap (λ (n : ℕ). reads_spans n 0 c.pass_positions.new.here) (sym many) ∙ last),
+      text,
+      sound,
+    )

@@ -22,9 +22,10 @@ returns-in-Err c = λ field.
 
 pub loop-nth-init : goal.loop-nth-init
 loop-nth-init c =
-    let reads = reads_terms c.in-Ok.heading.bits in
-    (subst (λ (o : Option (List ℕ)). AreLeft reads c.in-Ok.heading.count None c.next_heading.new.here 0 o c.next_heading.new.here) (sym c.clear.ensures.before) (none-passed reads c.in-Ok.heading.count None c.next_heading.new.here),
-    c.clear.ensures.sound)
+    let reads = reads_terms c.in-Ok.heading.bits in (
+      subst (λ (o : Option (List ℕ)). AreLeft reads c.in-Ok.heading.count None c.next_heading.new.here 0 o c.next_heading.new.here) (sym c.clear.ensures.before) (none-passed reads c.in-Ok.heading.count None c.next_heading.new.here),
+      c.clear.ensures.sound,
+    )
 
 pub returns-in-Err-pass_term : goal.returns-in-Err-pass_term
 returns-in-Err-pass_term c = λ field.
@@ -38,10 +39,11 @@ pub loop-nth-preserved : goal.loop-nth-preserved
 loop-nth-preserved c =
     let h = c.in-Ok.heading in
     let before = text_before c.loop-nth.last in
-    let (t, there, text, sound) = c.in_default.ensures in
-    (one-passed (reads_terms h.bits) h.count None c.next_heading.new.here c.loop-nth._nth before (text_before c.pass_term.new.last) c.loop-nth.here c.pass_term.new.here c.loop-nth.invariant.0 c.loop-nth-test.true
-    (λ n. subst (λ (o : Option (List ℕ)). Continues (reads_terms h.bits (suc n) before c.loop-nth.here) (reads_terms h.bits n o c.pass_term.new.here)) (sym text) (terms-left h.bits n before c.loop-nth.here t c.pass_term.new.here there)),
-    sound)
+    let (t, there, text, sound) = c.in_default.ensures in (
+      one-passed (reads_terms h.bits) h.count None c.next_heading.new.here c.loop-nth._nth before (text_before c.pass_term.new.last) c.loop-nth.here c.pass_term.new.here c.loop-nth.invariant.0 c.loop-nth-test.true
+          (λ n. subst (λ (o : Option (List ℕ)). Continues (reads_terms h.bits (suc n) before c.loop-nth.here) (reads_terms h.bits n o c.pass_term.new.here)) (sym text) (terms-left h.bits n before c.loop-nth.here t c.pass_term.new.here there)),
+      sound,
+    )
 
 pub returns : goal.returns
 returns c = λ field.

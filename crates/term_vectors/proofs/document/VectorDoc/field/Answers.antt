@@ -61,4 +61,3 @@ returns-clause-bits c =
     let here = ap (λ (d : Cursor). record_at heading_shape (heading_conditions at.place d.place) d) (sym c.at-here.ensures) ∙ c.in-Ok.ensures in
     let was = vector_was at (place_in s.tvf.now at.place) (vector_here s.tvf.now at) there.0 (heading_record c.in-Ok.heading) c.next_heading.new.here there.1 here in
     sym (ap (λ (v : Vector). v.bits) (is ∙ was.2))
-

@@ -88,4 +88,3 @@ returns c =
     let settled = settled_left (reads_terms c.in-Ok.heading.bits c.in-Ok.heading.count None (place_in s.tvf.now c.place.result)) ([], place_in s.tvf.now c.place.result) was.0 there.0 reads in
     let terms : terms_left c.in-Ok.heading.bits c.in-Ok.heading.count None (place_in s.tvf.now c.place.result) ≡ (get_or c.args.self.now c.args.nth no_vector).terms = sym settled.1 ∙ sym (ap (λ (v : Vector). v.terms) (is ∙ was.2)) in
     subst (λ (ts : List VectorTerm). IfOk c.new.result (λ walk. walk ≡ walk_of ts)) terms c.new.ensures
-

@@ -1,23 +1,24 @@
--- The answer that is due is one, and what is answered where none failed.
-use Rattle.std.proofs.Common.{◌≡◌, ℕ, Bool, true, false, List, [], ◌∷◌, length, map, All, cond, Option, Some, None, refl, sym, subst, ap, ◌∙◌, inl, inr, ◌⊎◌, arith}
-use Rattle.std.specs.Prelude.{IfSome}
-use Rattle.std.specs.Option.{ForSome}
+-- The outcome that is due is one and proper, and it is answered where nothing failed.
+use Rattle.std.proofs.Common.{◌≡◌, ℕ, false, List, [], ◌∷◌, map, All, cond, Option, Some, None, refl, sym, subst, ap, ◌∙◌, inl, inr, ◌⊎◌, arith}
 use Rattle.std.proofs.lemmas.List.Elements.{All-head, All-tail}
 use Rattle.lu_dir.specs.Files.{Files, contents}
 use Rattle.lu_dir.specs.Loading.{IsLoadable, is_over}
 use Rattle.lu_types.specs.Names.{part_name}
 use Rattle.lu_types.specs.declared.kind.FileKind.{FileKind}
 use Rattle.lu_command.specs.declared.status.Status.{Status}
-use Rattle.lu_command.specs.declared.status.Status.TheVariants as statuses
-use Rattle.lu_command.specs.declared.status.Which.TheVariants as things
-use Rattle.lu_command.specs.declared.status.Refusal.TheVariants as refusals
+use Rattle.lu_command.specs.declared.outcome.Outcome.{Outcome}
 use Rattle.lu_command.specs.Commands.{Meaning, docs, fields}
-use Rattle.lu_command.specs.Texts.{too_large_text}
-use Rattle.lu_command.specs.Files.{file_limit, first_too_long, part_names, AreFound}
-use Rattle.lu_command.specs.Needs.{fields_kinds, docs_kinds}
-use Rattle.lu_command.specs.Answers.{FieldsSays, DocsSays, FilesDue, MeaningDue, Due, GaveUp, Completes, Prints}
+use Rattle.lu_command.specs.Files.{file_limit, first_too_long, part_names, AreFound, file_at}
+use Rattle.lu_command.specs.Needs.{fields_kinds, docs_kinds, table_files, document_files}
+use Rattle.lu_command.specs.Texts.{field_lines, doc_lines}
+use Rattle.lu_command.specs.Outcomes.{too_large_outcome}
+use Rattle.lu_command.specs.Due.{FieldsSay, DocsSay, FilesDue, MeaningDue, Due}
+use Rattle.lu_command.specs.Answers.{Scene, Answers}
+use Rattle.lu_command.specs.Asking.{GaveUp, IsAnswered, Completes}
+use Rattle.lu_command.proofs.AnswerLemmas.{IsAnswered-answers}
 use Rattle.lu_command.proofs.MeaningLemmas.{only_meaning}
-use Rattle.lu_command.proofs.SaysLemmas.{fields_one, docs_one}
+use Rattle.lu_command.proofs.FilesSayLemmas.{FieldsSay-one, DocsSay-one}
+use Rattle.lu_command.proofs.IdleLemmas.{IsIdle, idle-without_effect, FilesSay-idle}
 
 -- a file that may be loaded is not too long
 not_over : (found : Option (List ℕ)) → IsLoadable file_limit found → is_over file_limit found ≡ false
@@ -42,50 +43,53 @@ not_both told segment kinds found kind are first =
 same_kind : {j k : FileKind} → Some j ≡ Some k → j ≡ k
 same_kind e = cc
 
--- the answer that is due of files is one, where what is said of them is one
-files_one : (told : Files) (segment : List ℕ) (kinds : List FileKind) (SaysOf : List (Option (List ℕ)) → Status → List ℕ → Type 0) (s t : Status) (x y : List ℕ)
-    → ((found : List (Option (List ℕ))) → All (IsLoadable file_limit) found → SaysOf found s x → SaysOf found t y → (s ≡ t) × (x ≡ y))
-    → FilesDue segment kinds SaysOf (Some told) s x → FilesDue segment kinds SaysOf (Some told) t y → (s ≡ t) × (x ≡ y)
-files_one told segment kinds SaysOf s t x y one (inl a) (inl b) =
-    let kind = same_kind (sym (a.1 told refl) ∙ b.1 told refl) in
-    (a.2 ∙ ap (λ k. statuses.Refused (refusals.FileTooLarge k)) kind ∙ sym b.2, a.3 ∙ ap too_large_text kind ∙ sym b.3)
-files_one told segment kinds SaysOf s t x y one (inl a) (inr b) = absurd (not_both told segment kinds b.0 a.0 b.1 (a.1 told refl))
-files_one told segment kinds SaysOf s t x y one (inr a) (inl b) = absurd (not_both told segment kinds a.0 b.0 a.1 (b.1 told refl))
-files_one told segment kinds SaysOf s t x y one (inr a) (inr b) =
+-- the outcome of files that is due is one, where what the command comes to by them is one
+FilesDue-one : (told : Files) (segment : List ℕ) (kinds : List FileKind) (Say : List (Option (List ℕ)) → Outcome → Type 0) (one other : Outcome)
+    → ((found : List (Option (List ℕ))) → All (IsLoadable file_limit) found → Say found one → Say found other → one ≡ other)
+    → FilesDue segment kinds Say (Some told) one → FilesDue segment kinds Say (Some told) other → one ≡ other
+FilesDue-one told segment kinds Say one other alone (inl a) (inl b) = a.2 ∙ ap too_large_outcome (same_kind (sym (a.1 told refl) ∙ b.1 told refl)) ∙ sym b.2
+FilesDue-one told segment kinds Say one other alone (inl a) (inr b) = absurd (not_both told segment kinds b.0 a.0 b.1 (a.1 told refl))
+FilesDue-one told segment kinds Say one other alone (inr a) (inl b) = absurd (not_both told segment kinds a.0 b.0 a.1 (b.1 told refl))
+FilesDue-one told segment kinds Say one other alone (inr a) (inr b) =
     let same : b.0 ≡ a.0 = b.1.told told refl ∙ sym (a.1.told told refl) in
-    one a.0 a.1.each a.2 (subst (λ (found : List (Option (List ℕ))). SaysOf found t y) same b.2)
+    alone a.0 a.1.each a.2 (subst (λ (found : List (Option (List ℕ))). Say found other) same b.2)
 
 module _ (files : Files) where
-  -- the answer to a meaning that is due is one
-  meaning_one : (meaning other : Meaning) → meaning ≡ other → (s t : Status) (x y : List ℕ) → MeaningDue meaning (Some files) s x → MeaningDue other (Some files) t y → (s ≡ t) × (x ≡ y)
-  meaning_one (docs dir segment) other same s t x y one there =
-      files_one files segment docs_kinds (DocsSays segment) s t x y (λ found. docs_one segment found s t x y) one (subst (λ m. MeaningDue m (Some files) t y) (sym same) there)
-  meaning_one (fields dir segment) other same s t x y one there =
-      files_one files segment fields_kinds (FieldsSays segment) s t x y (λ found. fields_one segment found s t x y) one (subst (λ m. MeaningDue m (Some files) t y) (sym same) there)
+  -- the outcome of a meaning that is due is one
+  MeaningDue-one : (meaning another : Meaning) → meaning ≡ another → (one other : Outcome) → MeaningDue meaning (Some files) one → MeaningDue another (Some files) other → one ≡ other
+  MeaningDue-one (docs dir segment) another same one other first second =
+      FilesDue-one files segment docs_kinds (DocsSay segment) one other (λ found. DocsSay-one segment found one other) first (subst (λ m. MeaningDue m (Some files) other) (sym same) second)
+  MeaningDue-one (fields dir segment) another same one other first second =
+      FilesDue-one files segment fields_kinds (FieldsSay segment) one other (λ found. FieldsSay-one segment found one other) first (subst (λ m. MeaningDue m (Some files) other) (sym same) second)
 
-  -- the answer that is due is one, and so is its text
-  pub due_one : (words : List (List ℕ)) (s t : Status) (x y : List ℕ) → Due words (Some files) s x → Due words (Some files) t y → (s ≡ t) × (x ≡ y)
-  due_one words s t x y (inl a) (inl b) = (a.1 ∙ sym b.1, a.2 ∙ sym b.2)
-  due_one words s t x y (inl a) (inr b) = absurd (a.0 b.0 b.1)
-  due_one words s t x y (inr a) (inl b) = absurd (b.0 a.0 a.1)
-  due_one words s t x y (inr a) (inr b) = meaning_one a.0 b.0 (only_meaning words a.0 b.0 a.1 b.1) s t x y a.2 b.2
+  -- the outcome that is due is one
+  pub Due-one : (words : List (List ℕ)) (one other : Outcome) → Due words (Some files) one → Due words (Some files) other → one ≡ other
+  Due-one words one other (inl a) (inl b) = a.1 ∙ sym b.1
+  Due-one words one other (inl a) (inr b) = absurd (a.0 b.0 b.1)
+  Due-one words one other (inr a) (inl b) = absurd (b.0 a.0 a.1)
+  Due-one words one other (inr a) (inr b) = MeaningDue-one a.0 b.0 (only_meaning words a.0 b.0 a.1 b.1) one other a.2 b.2
 
--- an answer that is printed is due, or the call gave up
-printed_due : (IsDue : Status → List ℕ → Type 0) (before after : Option (List ℕ)) (result : Status) → Prints IsDue before after result → ((text : List ℕ) × IsDue result text) ⊎ GaveUp result
-printed_due IsDue before after (statuses.Device things.Dir) h = inr (inr (inl refl))
-printed_due IsDue before after (statuses.Device things.Source) h = absurd h
-printed_due IsDue before after (statuses.Device things.Sink) h = inr (inr (inr refl))
-printed_due IsDue before after statuses.NoMemory h = inr (inl refl)
-printed_due IsDue before after statuses.Ok h = inl (h.0, h.1)
-printed_due IsDue before after statuses.Usage h = inl (h.0, h.1)
-printed_due IsDue before after (statuses.NotStanding generation fault) h = inl (h.0, h.1)
-printed_due IsDue before after (statuses.Refused refusal) h = inl (h.0, h.1)
+-- what is due of files changes nothing
+FilesDue-idle : (segment : List ℕ) (kinds : List FileKind) (Say : List (Option (List ℕ)) → Outcome → Type 0) (files : Option Files) (outcome : Outcome) → ((found : List (Option (List ℕ))) → Say found outcome → IsIdle outcome)
+    → FilesDue segment kinds Say files outcome → IsIdle outcome
+FilesDue-idle segment kinds Say files outcome idle (inl a) = subst IsIdle (sym a.2) (idle-without_effect _ _ tt)
+FilesDue-idle segment kinds Say files outcome idle (inr a) = idle a.0 a.2
 
--- what is printed only where it is due is complete
-pub Completes-printed : (words : List (List ℕ)) (files : Option Files) (before after : Option (List ℕ)) (result : Status) → Prints (Due words files) before after result → Completes words files result
-Completes-printed words files before after result printed told tells status text due =
-    judge (printed_due (Due words files) before after result printed)
+-- nor does what is due of a meaning
+pub MeaningDue-idle : (meaning : Meaning) (files : Option Files) (outcome : Outcome) → MeaningDue meaning files outcome → IsIdle outcome
+MeaningDue-idle (fields dir segment) files outcome due = FilesDue-idle segment fields_kinds (FieldsSay segment) files outcome (λ found. FilesSay-idle segment (table_files (file_at found 0)) (field_lines 0) outcome) due
+MeaningDue-idle (docs dir segment) files outcome due = FilesDue-idle segment docs_kinds (DocsSay segment) files outcome (λ found. FilesSay-idle segment (document_files (file_at found 0) (file_at found 1) (file_at found 2)) (doc_lines 0) outcome) due
+
+-- nor does what is due of words
+pub Due-idle : (words : List (List ℕ)) (files : Option Files) (outcome : Outcome) → Due words files outcome → IsIdle outcome
+Due-idle words files outcome (inl a) = subst IsIdle (sym a.1) (idle-without_effect _ _ tt)
+Due-idle words files outcome (inr a) = MeaningDue-idle a.0 files outcome a.2
+
+-- a call that answers by what is due answers it, where it did not give up
+pub Completes-answers : (words : List (List ℕ)) (files : Option Files) (before after : Scene) (answer : Status) → Answers (Due words files) before after answer → Completes words files answer
+Completes-answers words files before after answer answers told tells outcome due =
+    judge (IsAnswered-answers (Due words files) before after answer answers)
   where
-    judge : ((other : List ℕ) × Due words files result other) ⊎ GaveUp result → (result ≡ status) ⊎ GaveUp result
-    judge (inl a) = inl (due_one told words result status a.0 text (subst (λ o. Due words o result a.0) tells a.1) due).0
+    judge : IsAnswered (Due words files) answer → (answer ≡ outcome.status) ⊎ GaveUp answer
+    judge (inl a) = inl (a.2 ∙ ap (λ (o : Outcome). o.status) (Due-one told words a.0 outcome (subst (λ o. Due words o a.0) tells a.1) due))
     judge (inr gave) = inr gave

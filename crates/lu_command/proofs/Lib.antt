@@ -2,6 +2,10 @@ pub mod MeaningLemmas
 pub mod WordLemmas
 pub mod TextLemmas
 pub mod AnswerLemmas
+pub mod PrintsLemmas
+pub mod SafetyLemmas
+pub mod IdleLemmas
 pub mod LoadLemmas
-pub mod SaysLemmas
+pub mod CauseLemmas
+pub mod FilesSayLemmas
 pub mod DueLemmas

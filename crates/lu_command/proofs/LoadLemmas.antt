@@ -1,12 +1,14 @@
 -- Files that were loaded, and one that is too long.
-use Rattle.std.proofs.Common.{◌≡◌, ℕ, suc, ◌+◌, Bool, true, false, cond, List, [], ◌∷◌, map, All, Option, Some, None, unwrap_or, refl, sym, ap, ◌∙◌, arith}
+use Rattle.std.proofs.Common.{◌≡◌, ℕ, suc, ◌+◌, Bool, true, false, cond, List, [], ◌∷◌, map, All, Option, Some, None, unwrap_or, refl, sym, ap, ◌∙◌, inl, inr, arith}
 use Rattle.std.specs.Prelude.{slice_get}
 use Rattle.lu_types.specs.declared.kind.FileKind.{FileKind}
 use Rattle.lu_types.specs.Names.{part_name}
 use Rattle.std.specs.Option.{ForSome, option_map}
-use Rattle.lu_dir.specs.Faults.{IsCaused}
 use Rattle.lu_dir.specs.Files.{Files, contents}
 use Rattle.lu_dir.specs.Loading.{IsLoadable, is_over, first_over}
+use Rattle.lu_command.specs.declared.outcome.Outcome.{Outcome}
+use Rattle.lu_command.specs.Outcomes.{too_large_outcome}
+use Rattle.lu_command.specs.Due.{FilesDue}
 use Rattle.lu_command.specs.Files.{file_limit, first_too_long, part_names, AreFound, file_at}
 
 -- files that were loaded by the names of a segment's files
@@ -35,14 +37,11 @@ first_kind told segment (k ∷ ks) place kind over stands =
         let next : place ≡ suc p = omega arith in
         later p is (rw next at stands)
 
--- a count that an answer says nothing of only stays or rises
-pub IsCaused-never : (before after : ℕ) {A B : Type 0} → IsCaused before after A → (B → ⊥) → IsCaused before after B
-IsCaused-never before after cause never = record { later = cause.later; rose = λ b. absurd (never b) }
+module _ (files : Option Files) (segment : List ℕ) (kinds : List FileKind) (names : List (List ℕ)) (spelled : names ≡ part_names segment kinds) (Say : List (Option (List ℕ)) → Outcome → Type 0) (outcome : Outcome) where
+  -- what a command comes to by the files that were loaded is due
+  pub FilesDue-loaded : (found : List (Option (List ℕ))) → ForSome files (λ told. found ≡ map (contents told) names) → All (IsLoadable file_limit) found → Say found outcome → FilesDue segment kinds Say files outcome
+  FilesDue-loaded found told each say = inr (found, AreFound-loaded files segment kinds names found spelled told each, say)
 
--- and where an answer comes only with a failure, it is caused as that is
-pub IsCaused-when : (before after : ℕ) {A B : Type 0} → IsCaused before after A → (B → A) → IsCaused before after B
-IsCaused-when before after cause only = record { later = cause.later; rose = λ b. cause.rose (only b) }
-
--- a count that stays is later than itself
-pub IsCaused-same : (count : ℕ) {B : Type 0} → (B → ⊥) → IsCaused count count B
-IsCaused-same count never = record { later = omega arith; rose = λ b. absurd (never b) }
+  -- the refusal of the first file that is too long is due
+  pub FilesDue-too_large : (place : ℕ) (kind : FileKind) → ForSome files (λ told. first_over told file_limit names ≡ Some place) → slice_get kinds place ≡ Some kind → outcome ≡ too_large_outcome kind → FilesDue segment kinds Say files outcome
+  FilesDue-too_large place kind over stands is = inl (kind, (λ told tells. first_kind told segment kinds place kind (sym (ap (first_over told file_limit) spelled) ∙ over told tells) stands), is)

@@ -1,80 +1,36 @@
--- Which answer is due, and what a call prints.
-use Rattle.std.specs.Prelude.{◌≡◌, ℕ, ◌<◌, ◌⊎◌, List, length, take, Option, Some}
-use Rattle.std.specs.Option.{ForSome}
+-- How a call answers, by the outcome that is due.
+use Rattle.std.specs.Prelude.{◌≡◌, ◌⊎◌, ℕ, ◌<◌, List, length, take, Option}
+use Rattle.std.specs.Option.{option_map}
 use Rattle.lu_dir.specs.Files.{Files}
-use Rattle.lu_dir.specs.Streams.{with_taken}
-use Rattle.lu_types.specs.FilePlans.{FilePlan, StandFor, IsFaultAmong}
-use Rattle.lu_types.specs.declared.kind.FileKind.{FileKind}
-use Rattle.lu_types.specs.declared.fault.Spot.{Spot}
 use Rattle.lu_command.specs.declared.status.Status.{Status}
-use Rattle.lu_command.specs.declared.status.Status.TheVariants as statuses
-use Rattle.lu_command.specs.declared.status.Which.TheVariants as things
-use Rattle.lu_command.specs.declared.status.Refusal.TheVariants as refusals
-use Rattle.lu_command.specs.Commands.{Meaning, fields, docs, Means}
-use Rattle.lu_command.specs.Files.{AreFound, file_at, first_too_long}
-use Rattle.lu_command.specs.Needs.{fields_kinds, docs_kinds, table_files, document_files}
-use Rattle.lu_command.specs.Texts.{usage_text, fault_text, too_large_text, field_lines, doc_lines}
+use Rattle.lu_command.specs.declared.status.Status.TheVariants.{Device, NoMemory}
+use Rattle.lu_command.specs.declared.status.Which.TheVariants.{Dir, Sink}
+use Rattle.lu_command.specs.declared.outcome.Outcome.{Outcome}
+use Rattle.lu_command.specs.Outcomes.{standing}
+use Rattle.lu_command.specs.Telling.{Took}
 
--- the answer of a command that needs no commit, where a file has this fault
-abbrev pub not_standing : Spot → Status
-not_standing spot = statuses.NotStanding 0 (record { segment = 0; spot = spot })
+-- the answer of a call that was given up: the folder failed, or memory ended
+abbrev pub IsGivenUp : Status → Type 0
+IsGivenUp answer = (answer ≡ Device Dir) ⊎ (answer ≡ NoMemory)
 
--- what a command says of the segment's files that it needs: the lines of what they stand for, or their first fault
-abbrev pub Says : {X : Type 0} → List ℕ → FilePlan X → (X → List ℕ) → Status → List ℕ → Type 0
-Says {X} segment files lines status text =
-    ((x : X) × StandFor files x × (status ≡ statuses.Ok) × (text ≡ lines x))
-    ⊎ ((spot : Spot) × IsFaultAmong files spot × (status ≡ not_standing spot) × (text ≡ fault_text segment spot))
+-- a folder and an output, as far as they tell what they hold
+pub record Scene : Type 0 where
+  pub files : Option Files
+  pub taken : Option (List ℕ)
 
--- what `fields` says of the files that were found
-abbrev pub FieldsSays : List ℕ → List (Option (List ℕ)) → Status → List ℕ → Type 0
-FieldsSays segment found = Says segment (table_files (file_at found 0)) (field_lines 0)
+-- the effect of the outcome is made: the folder is the one that is to stand
+abbrev pub IsDone : Outcome → Option Files → Option Files → Type 0
+IsDone outcome old new = new ≡ option_map (standing outcome.effect) old
 
--- what `docs` says of the files that were found
-abbrev pub DocsSays : List ℕ → List (Option (List ℕ)) → Status → List ℕ → Type 0
-DocsSays segment found = Says segment (document_files (file_at found 0) (file_at found 1) (file_at found 2)) (doc_lines 0)
-
--- the answer that is due of a command that reads the segment's files of these kinds, and its text: that one is too long, or what the command says of them
-abbrev pub FilesDue : List ℕ → List FileKind → (List (Option (List ℕ)) → Status → List ℕ → Type 0) → Option Files → Status → List ℕ → Type 0
-FilesDue segment kinds SaysOf files status text =
-    ((kind : FileKind) × ForSome files (λ told. first_too_long told segment kinds ≡ Some kind) × (status ≡ statuses.Refused (refusals.FileTooLarge kind)) × (text ≡ too_large_text kind))
-    ⊎ ((found : List (Option (List ℕ))) × AreFound files segment kinds found × SaysOf found status text)
-
--- the answer to a meaning that is due, and its text
-abbrev pub MeaningDue : Meaning → Option Files → Status → List ℕ → Type 0
-MeaningDue (fields dir segment) files status text = FilesDue segment fields_kinds (FieldsSays segment) files status text
-MeaningDue (docs dir segment) files status text = FilesDue segment docs_kinds (DocsSays segment) files status text
-
--- the answer to words that is due, and its text
-abbrev pub Due : List (List ℕ) → Option Files → Status → List ℕ → Type 0
-Due words files status text = (((meaning : Meaning) → ¬ Means words meaning) × (status ≡ statuses.Usage) × (text ≡ usage_text))
-    ⊎ ((meaning : Meaning) × Means words meaning × MeaningDue meaning files status text)
-
--- the answer says that memory ended, or that the folder or the output failed
-abbrev pub GaveUp : Status → Type 0
-GaveUp status = (status ≡ statuses.NoMemory) ⊎ ((status ≡ statuses.Device things.Dir) ⊎ (status ≡ statuses.Device things.Sink))
-
--- where the folder tells its files, the answer that is due is given, or the call gave up
-abbrev pub Completes : List (List ℕ) → Option Files → Status → Type 0
-Completes words files result = ForSome files (λ told. (status : Status) (text : List ℕ) → Due words (Some told) status text → (result ≡ status) ⊎ GaveUp result)
-
--- the output took a text whole
-abbrev pub Took : List ℕ → Option (List ℕ) → Option (List ℕ) → Type 0
-Took text before after = after ≡ with_taken text before
-
--- what was printed with an answer, where `IsDue` says which answer is due with which text: the whole text with an answer that
--- is due; nothing where the folder failed, a strict prefix of the text due where the output failed, a prefix where memory ended
-abbrev pub Prints : (Status → List ℕ → Type 0) → Option (List ℕ) → Option (List ℕ) → Status → Type 0
-Prints IsDue before after (statuses.Device things.Dir) = after ≡ before
-Prints IsDue before after (statuses.Device things.Source) = ⊥
-Prints IsDue before after (statuses.Device things.Sink) = (status : Status) × (text : List ℕ) × IsDue status text × (count : ℕ) × (count < length text) × Took (take count text) before after
-Prints IsDue before after statuses.NoMemory = (after ≡ before) ⊎ ((status : Status) × (text : List ℕ) × IsDue status text × (count : ℕ) × Took (take count text) before after)
-Prints IsDue before after statuses.Ok = (text : List ℕ) × IsDue statuses.Ok text × Took text before after
-Prints IsDue before after statuses.Usage = (text : List ℕ) × IsDue statuses.Usage text × Took text before after
-Prints IsDue before after (statuses.NotStanding generation fault) = (text : List ℕ) × IsDue (statuses.NotStanding generation fault) text × Took text before after
-Prints IsDue before after (statuses.Refused refusal) = (text : List ℕ) × IsDue (statuses.Refused refusal) text × Took text before after
-
--- the answer is one that the words and the files determine
-abbrev pub IsAnswer : Status → Type 0
-IsAnswer (statuses.Device which) = ⊥
-IsAnswer statuses.NoMemory = ⊥
-IsAnswer status = Unit {0}
+-- how a call answers, where `IsDue` says which outcome is due
+pub data Answers (IsDue : Outcome → Type 0) (before after : Scene) (answer : Status) : Type 0 where
+  -- an outcome that is due is done, its answer given, and its text printed whole
+  told : (outcome : Outcome) → IsDue outcome → IsDone outcome before.files after.files → answer ≡ outcome.status → Took outcome.text before.taken after.taken → Answers IsDue before after answer
+  -- it is done, and the output fails: it took a strict prefix of the text
+  output_failed : (outcome : Outcome) (count : ℕ) → IsDue outcome → IsDone outcome before.files after.files → answer ≡ Device Sink → count < length outcome.text
+      → Took (take count outcome.text) before.taken after.taken → Answers IsDue before after answer
+  -- it is done, and memory ends while its text is printed
+  printing_ended : (outcome : Outcome) (count : ℕ) → IsDue outcome → IsDone outcome before.files after.files → answer ≡ NoMemory
+      → Took (take count outcome.text) before.taken after.taken → Answers IsDue before after answer
+  -- nothing is done and nothing printed: the folder failed, or memory ended
+  nothing : IsGivenUp answer → after.files ≡ before.files → after.taken ≡ before.taken → Answers IsDue before after answer

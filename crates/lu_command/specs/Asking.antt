@@ -1,18 +1,22 @@
--- Which folder a call asks for.
-use Rattle.std.specs.Prelude.{◌≡◌, ◌≢◌, List, ℕ, Option, Some}
+-- Which folder a call asks for, and what it answers where nothing failed.
+use Rattle.std.specs.Prelude.{◌≡◌, ◌≢◌, ◌⊎◌, List, ℕ, Option, Some}
+use Rattle.std.specs.Option.{ForSome}
+use Rattle.lu_dir.specs.Files.{Files}
 use Rattle.lu_dir.specs.declared.fail.DirFail.{DirFail}
 use Rattle.lu_dir.specs.declared.fail.DirFail.TheVariants as fails
 use Rattle.lu_dir.specs.declared.loading.LoadFault.{LoadFault}
 use Rattle.lu_dir.specs.declared.loading.LoadFault.TheVariants as loads
 use Rattle.lu_command.specs.declared.status.Status.{Status}
-use Rattle.lu_command.specs.declared.status.Status.TheVariants as statuses
-use Rattle.lu_command.specs.declared.status.Which.TheVariants as things
+use Rattle.lu_command.specs.declared.status.Status.TheVariants.{Device, NoMemory}
+use Rattle.lu_command.specs.declared.status.Which.TheVariants.{Dir, Sink}
+use Rattle.lu_command.specs.declared.outcome.Outcome.{Outcome}
 use Rattle.lu_command.specs.Commands.{Meaning, fields, docs, Means}
+use Rattle.lu_command.specs.Due.{Due}
 
 -- the answer to a failure of the folder
 abbrev pub status_of : DirFail → Status
-status_of fails.Failed = statuses.Device things.Dir
-status_of fails.OutOfMemory = statuses.NoMemory
+status_of fails.Failed = Device Dir
+status_of fails.OutOfMemory = NoMemory
 
 -- a file was too long to be loaded
 abbrev pub IsTooLarge : LoadFault → Type 0
@@ -20,7 +24,7 @@ IsTooLarge fault = (place : ℕ) × (fault ≡ loads.TooLarge place)
 
 -- unless memory ended, the folder asked for is this one
 abbrev pub AsksFor : List ℕ → Option (List ℕ) → Status → Type 0
-AsksFor path asked status = status ≢ statuses.NoMemory → asked ≡ Some path
+AsksFor path asked status = status ≢ NoMemory → asked ≡ Some path
 
 -- the folder of a meaning
 abbrev pub folder_of : Meaning → List ℕ
@@ -31,3 +35,15 @@ folder_of (docs dir segment) = dir
 pub record Asks (words : List (List ℕ)) (before after : Option (List ℕ)) (status : Status) : Type 0 where
   pub meant : (meaning : Meaning) → Means words meaning → AsksFor (folder_of meaning) after status
   pub meaningless : ((meaning : Meaning) → ¬ Means words meaning) → after ≡ before
+
+-- the answer says that memory ended, or that the folder or the output failed
+abbrev pub GaveUp : Status → Type 0
+GaveUp answer = (answer ≡ NoMemory) ⊎ ((answer ≡ Device Dir) ⊎ (answer ≡ Device Sink))
+
+-- the answer is that of an outcome that is due, or the call gave up
+abbrev pub IsAnswered : (Outcome → Type 0) → Status → Type 0
+IsAnswered IsDue answer = ((outcome : Outcome) × IsDue outcome × (answer ≡ outcome.status)) ⊎ GaveUp answer
+
+-- where the folder tells its files, the answer that is due is given, or the call gave up
+abbrev pub Completes : List (List ℕ) → Option Files → Status → Type 0
+Completes words files answer = ForSome files (λ told. (outcome : Outcome) → Due words (Some told) outcome → (answer ≡ outcome.status) ⊎ GaveUp answer)

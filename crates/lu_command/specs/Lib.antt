@@ -2,8 +2,13 @@ pub mod Answers
 pub mod Asking
 pub mod Codes
 pub mod Commands
+pub mod Due
 pub mod Files
 pub mod Meanings
 pub mod Needs
+pub mod Outcomes
+pub mod Printing
+pub mod Safety
+pub mod Telling
 pub mod Texts
 pub mod Words

@@ -1,3 +1,4 @@
+//! What the words of a call ask for.
 ghost use Rattle.std.specs.Prelude.{◌≡◌, ℕ, List, MatchOption};
 ghost use Rattle.lu_dir.specs.Loading.{texts};
 ghost use Rattle.lu_command.specs.Commands.{Meaning, Means};
@@ -41,8 +42,3 @@ impl<'a> Command<'a> {
         }
     }
 }
-
-/// Words have one meaning at most.
-pub fn one_meaning()
-    ensures { (words : List (List ℕ)) (one other : Meaning) → Means words one → Means words other → one ≡ other }
-{}

@@ -1,18 +1,22 @@
 //! The commands: what the words of a call mean, and the call that answers them.
 #![tactic(auto)]
 
-mod answer;
 mod call;
 mod command;
 mod judging;
+pub mod laws;
 mod limits;
+mod outcome;
+mod reading;
 mod status;
+mod telling;
 mod texts;
 mod words;
 
-pub use call::{one_answer, run};
-pub use command::{Command, one_meaning};
+pub use call::run;
+pub use command::Command;
 pub use limits::FILE_LIMIT;
+pub use outcome::{Effect, Outcome};
 pub use status::{Refusal, Status, Which};
 
 #[cfg(test)]

@@ -1,3 +1,4 @@
+//! Options and arguments among the words of a call.
 ghost use Rattle.std.specs.Prelude.{◌≡◌, ◌≢◌, List, ℕ, [], ◌∷◌, ◌++◌, MatchOption, string_bytes, slice_get};
 ghost use Rattle.std.specs.Option.{option_copied};
 ghost use Rattle.std.specs.List.{before_first, after_first, list_any, position};

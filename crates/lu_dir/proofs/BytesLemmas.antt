@@ -1,5 +1,5 @@
 -- Files that are made of bytes stay so.
-use Rattle.std.proofs.Common.{◌≡◌, ℕ, ◌+◌, ◌-◌, List, [], ◌++◌, take, drop, length, Bool, true, false, cond, Option, Some, None, refl, sym, ap, subst, unwrap_or, IfSome, inl, inr, arith}
+use Rattle.std.proofs.Common.{ℕ, ◌+◌, ◌-◌, List, [], ◌++◌, take, drop, length, Bool, true, false, cond, Option, Some, None, refl, sym, subst, unwrap_or, IfSome, inl, inr, arith}
 use Rattle.std.specs.Str.{bytes_eq}
 use Rattle.std.specs.Ordering.{nat_cmp}
 use Rattle.std.specs.Cmp.Lexicographic.{slice_cmp}

@@ -1,11 +1,11 @@
 -- What a planned failure leaves is what a failure may leave.
-use Rattle.std.proofs.Common.{◌≡◌, ℕ, ◌+◌, ◌≤◌, List, [], length, Bool, true, false, cond, Option, Some, None, refl, sym, ap, subst, ◌∙◌, unwrap_or, IsSome, IsSomeAnd, Result, Ok, Err, IsErrOf, OnErr, is_ok, append-nil, add-zero}
+use Rattle.std.proofs.Common.{◌≡◌, ℕ, ◌+◌, ◌≤◌, List, [], length, cond, Option, Some, None, refl, sym, ap, subst, ◌∙◌, unwrap_or, IsSome, IsSomeAnd, Result, Ok, Err, IsErrOf, OnErr, is_ok, append-nil, add-zero}
 use Rattle.lu_dir.specs.declared.fail.DirFail.{DirFail}
 use Rattle.lu_dir.specs.declared.fail.DirFail.TheVariants.{Failed, OutOfMemory}
 use Rattle.std.specs.Option.{ForSome}
 use Rattle.std.proofs.lemmas.List.{take-append-drop}
 use Rattle.lu_dir.specs.Files.{Files, contents, with_file, with_patch, written_over, HasRange, CreateLeaves, PatchLeaves, RemoveLeaves, Leaves, before, absent, prefix}
-use Rattle.lu_dir.specs.Planned.{left_by_create, left_by_patch, left_by_remove}
+use Rattle.lu_dir.specs.Planned.{PlannedCreate, left_as_planned, no_room, left_by_patch, left_by_remove}
 use Rattle.lu_dir.specs.declared.plan.Left.{Left}
 use Rattle.lu_dir.specs.declared.plan.Left.TheVariants.{Before, Absent, Prefix}
 use Rattle.lu_dir.proofs.TwoChanges.{with_file-same}
@@ -27,11 +27,15 @@ pub CreateLeaves-made_or_not : {T : Type 0} (result : Result T DirFail) (name by
 CreateLeaves-made_or_not (Ok value) name bytes old new is = tt
 CreateLeaves-made_or_not (Err fail) name bytes old new is = Leaves-told (CreateLeaves name bytes) old new (before is)
 
-pub CreateLeaves-planned : (left : Option Left) (name bytes : List ℕ) (old new : Files) → IsSome left → ForSome left (λ left. new ≡ left_by_create left name bytes old) → CreateLeaves name bytes old new
+pub CreateLeaves-planned : (left : Option Left) (name bytes : List ℕ) (old new : Files) → IsSome left → ForSome left (λ left. PlannedCreate left name bytes old new) → CreateLeaves name bytes old new
 CreateLeaves-planned None name bytes old new some is = absurd (cc)
-CreateLeaves-planned (Some Before) name bytes old new some is = before (is Before refl)
-CreateLeaves-planned (Some Absent) name bytes old new some is = absent (is Absent refl)
-CreateLeaves-planned (Some (Prefix count)) name bytes old new some is = prefix count (is (Prefix count) refl)
+CreateLeaves-planned (Some left) name bytes old new some is = by_plan left (is left refl)
+  where
+    by_plan : (left : Left) → PlannedCreate left name bytes old new → CreateLeaves name bytes old new
+    by_plan Before (left_as_planned as_before) = before as_before
+    by_plan Absent (left_as_planned gone) = absent gone
+    by_plan (Prefix count) (left_as_planned made) = prefix count made
+    by_plan left (no_room keeps same) = before same
 
 pub RemoveLeaves-planned : (left : Option Left) (name : List ℕ) (old new : Files) → IsSome left → ForSome left (λ left. new ≡ left_by_remove left name old) → RemoveLeaves name old new
 RemoveLeaves-planned None name old new some is = absurd (cc)

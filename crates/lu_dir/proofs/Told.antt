@@ -1,5 +1,5 @@
 -- Files that are told over several calls: what changes make of them, and what failures leave.
-use Rattle.std.proofs.Common.{◌≡◌, ℕ, List, take, length, Option, Some, None, sym, ap, ◌∙◌, arith}
+use Rattle.std.proofs.Common.{◌≡◌, ℕ, List, length, Option, Some, None, sym, ap, ◌∙◌, arith}
 use Rattle.std.specs.Option.{option_map}
 use Rattle.std.proofs.lemmas.List.{take_all}
 use Rattle.lu_dir.specs.Files.{Files, with_file, CreateLeaves, Leaves, prefix}

@@ -1,3 +1,4 @@
+pub mod Asked
 pub mod CallPlan
 pub mod Faults
 pub mod FileMap

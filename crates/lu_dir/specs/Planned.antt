@@ -52,10 +52,15 @@ abbrev pub left_by_remove : Left → List ℕ → Files → Files
 left_by_remove Absent name files = without_file name files
 left_by_remove _ name files = files
 
--- a failed `create` that leaves this has to keep nothing
-abbrev pub TakesNoMemory : Left → Type 0
-TakesNoMemory (Prefix count) = ⊥
-TakesNoMemory _ = Unit {0}
+-- a failed `create` that leaves this has to keep bytes
+abbrev pub KeepsBytes : Left → Type 0
+KeepsBytes (Prefix count) = Unit {0}
+KeepsBytes _ = ⊥
+
+-- a failed `create` left what it was to leave; or it had no memory for the bytes that it was to keep, and left the files as before
+pub data PlannedCreate (left : Left) (name bytes : List ℕ) (old new : Files) : Type 0 where
+  left_as_planned : new ≡ left_by_create left name bytes old → PlannedCreate left name bytes old new
+  no_room : KeepsBytes left → new ≡ old → PlannedCreate left name bytes old new
 
 -- the count of failures after an answer
 abbrev pub faults_after : {T : Type 0} → Result T DirFail → ℕ → ℕ

@@ -1,25 +1,26 @@
 //! A folder in memory that fails on demand.
-ghost use Rattle.std.specs.Prelude.{◌≡◌, length, map, take, is_ok, if◌then◌else◌, option_map, string_bytes, Some, None, Ok, Err, IfOk, OnOk, OnErr, IsErrOf, IsSome};
+ghost use Rattle.std.specs.Prelude.{◌≡◌, ◌<◌, ◌≤◌, length, map, take, option_map, string_bytes, Some, None, Ok, Err, IfOk, OnOk, OnErr, IsErrOf, IsSome};
 ghost use Rattle.std.specs.Option.{ForSome};
 ghost use Rattle.std.specs.FinMap.{keys};
 ghost use Rattle.lu_dir.specs.Faults.{Rose, IsCaused};
 ghost use Rattle.lu_dir.specs.Files.{contents, with_file, without_file, with_patch, range_of, HasRange, AreMadeOfBytes, asked_after};
-ghost use Rattle.lu_dir.specs.Planned.{next_count, next_failure, left_by_create, left_by_patch, left_by_remove, with_files, planned_answer, IsPlanned, TakesNoMemory};
+ghost use Rattle.lu_dir.specs.Planned.{next_count, next_failure, left_by_create, left_by_patch, left_by_remove, with_files, planned_answer, IsPlanned, PlannedCreate};
 
+use crate::asked::KEPT_IN_PLACE;
 use crate::dir::Dir;
 use crate::fail::DirFail;
 use crate::fault_count::FaultCount;
 use crate::mem_dir::MemDir;
 use crate::plan::{Fail, Left, failure_of_call};
-use lu_prims::OutOfMemory;
 use std::alloc::Global;
 use std::marker::Model;
 
 /// A folder in memory whose calls fail where they are to, seen as the folder, the plan, and how many calls were made and
 /// how many failed. Each call of the folder counts, from 1 on; a call that `fails` names fails, and so does each from
 /// `stop` on. Where `fails` names a call more than once, the first entry says what it leaves; a call that it does not
-/// name leaves what was before. A call that is to fail answers `Failed`; only where it has to keep something, the path of
-/// `enter` or the prefix of `create`, can it answer `OutOfMemory` in place of that.
+/// name leaves what was before. A call that is to fail answers `Failed`, whatever memory there is: a `create` that has no
+/// memory for the prefix that it is to leave leaves the file as before. The one exception is an `enter` with a path of more
+/// than 4096 bytes, which has to be kept all the same: it may answer `OutOfMemory` in place of `Failed`.
 #[derive(Drop)]
 pub struct FaultDir {
     dir: MemDir,
@@ -70,20 +71,17 @@ impl FaultDir {
         failure_of_call(&self.fails, self.stop, self.calls)
     }
 
-    /// Leaves what a failed `create` is to leave.
-    fn leave_created(&mut self, left: Left, name: &str, bytes: &[u8]) -> Result<(), OutOfMemory>
-        ensures left { self.new ≡ (if is_ok result
-            then with_files (left_by_create left name.now bytes.now self.old.folder.files) self.old
-            else self.old) }
-        ensures room { OnErr result (¬ TakesNoMemory left) }
+    /// Leaves what a failed `create` is to leave, as far as there is memory for it.
+    fn leave_created(&mut self, left: Left, name: &str, bytes: &[u8])
+        ensures left { PlannedCreate left name.now bytes.now self.old.folder.files self.new.folder.files }
+        ensures others { self.new ≡ with_files self.new.folder.files self.old }
     {
         match left {
-            Left::Before => Ok(()),
-            Left::Absent => {
-                self.dir.discard(name);
-                Ok(())
+            Left::Before => {}
+            Left::Absent => self.dir.discard(name),
+            Left::Prefix(count) => {
+                let _ = self.dir.put(name, prefix(bytes, count));
             }
-            Left::Prefix(count) => self.dir.put(name, prefix(bytes, count)),
         }
     }
 
@@ -119,6 +117,8 @@ impl Dir for FaultDir {
         ensures files { self.new.folder.files ≡ self.old.folder.files }
         ensures bytes { AreMadeOfBytes self.new.folder.files }
         ensures asked { self.new.folder.asked ≡ asked_after result path.now self.old.folder.asked }
+        ensures due { IsSome (next_failure self.old) → length path.now ≤ KEPT_IN_PLACE → IsErrOf result DirFail.Failed }
+        ensures room { IsErrOf result DirFail.OutOfMemory → KEPT_IN_PLACE < length path.now }
         ensures planned { IsPlanned self.old self.new result }
         ensures cause { IsCaused self.old.faults self.new.faults (IsErrOf result DirFail.Failed) }
     {
@@ -174,10 +174,9 @@ impl Dir for FaultDir {
     fn create(&mut self, alloc: Global, name: &str, bytes: &[u8]) -> Result<(), DirFail>
         ensures made { OnOk result
             (self.new.folder.files ≡ with_file name.now bytes.now self.old.folder.files) }
-        ensures due { ForSome (next_failure self.old) (λ left.
-            TakesNoMemory left → IsErrOf result DirFail.Failed) }
-        ensures left { IsErrOf result DirFail.Failed → ForSome (next_failure self.old) (λ left.
-            self.new.folder.files ≡ left_by_create left name.now bytes.now self.old.folder.files) }
+        ensures due { IsSome (next_failure self.old) → IsErrOf result DirFail.Failed }
+        ensures left { ForSome (next_failure self.old) (λ left.
+            PlannedCreate left name.now bytes.now self.old.folder.files self.new.folder.files) }
         ensures memory { IsErrOf result DirFail.OutOfMemory
             → self.new.folder.files ≡ self.old.folder.files }
         ensures asked { self.new.folder.asked ≡ self.old.folder.asked }
@@ -186,7 +185,7 @@ impl Dir for FaultDir {
     {
         match self.next_call() {
             Some(left) => {
-                self.leave_created(left, name, bytes)?;
+                self.leave_created(left, name, bytes);
                 Err(self.fail())
             }
             None => self.dir.create(alloc, name, bytes),

@@ -2,6 +2,7 @@
 //! each failure leaves, in memory, with failures on demand, and over the real device.
 #![tactic(auto)]
 
+mod asked;
 mod call_plan;
 mod dir;
 mod fail;

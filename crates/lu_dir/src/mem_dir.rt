@@ -1,9 +1,10 @@
 //! A folder in memory.
-ghost use Rattle.std.specs.Prelude.{◌≡◌, ◌+◌, ◌≤◌, length, map, option_map, string_bytes, Some, None, Ok, IsOk, IfOk, IsOkUnless, is_ok, if◌then◌else◌};
+ghost use Rattle.std.specs.Prelude.{◌≡◌, ◌+◌, ◌<◌, ◌≤◌, length, map, option_map, string_bytes, Some, None, Ok, IsOk, IfOk, OnErr, IsOkUnless, is_ok, if◌then◌else◌};
 ghost use Rattle.std.specs.Option.{option_copied};
 ghost use Rattle.std.specs.FinMap.{empty, keys};
 ghost use Rattle.lu_dir.specs.Files.{contents, with_file, without_file, with_patch, range_of, HasRange, AreMadeOfBytes, asked_after};
 
+use crate::asked::{AskedPath, KEPT_IN_PLACE};
 use crate::dir::Dir;
 use crate::fail::DirFail;
 use crate::file_map::FileMap;
@@ -16,18 +17,17 @@ use std::marker::Model;
 #[derive(Drop)]
 pub struct MemDir {
     files: FileMap,
-    path: Option<String>,
+    path: AskedPath,
 }
 
 impl Model for MemDir {
-    ghost use Rattle.std.specs.Prelude.{option_map, string_bytes};
     ghost use Rattle.lu_dir.specs.Folder.{Folder, folder_code};
 
     ghost Value = { Folder };
 
     ghost coded = { folder_code };
 
-    ghost view = { λ a. record { files = a.files; asked = option_map string_bytes a.path } };
+    ghost view = { λ a. record { files = a.files; asked = a.path } };
 }
 
 impl MemDir {
@@ -38,7 +38,7 @@ impl MemDir {
     {
         MemDir {
             files: FileMap::new(alloc),
-            path: None,
+            path: AskedPath::new(),
         }
     }
 
@@ -83,16 +83,16 @@ impl Dir for MemDir {
 
     ghost faults = { λ _. 0 };
 
-    /// Fails for want of memory alone.
+    /// Fails for want of memory alone, and only for a path that is too long to be kept without.
     fn enter(&mut self, alloc: Global, path: &str) -> Result<(), DirFail>
         ensures answer { IsOkUnless result DirFail.OutOfMemory }
+        ensures room { OnErr result (KEPT_IN_PLACE < length path.now) }
         ensures files { self.new.files ≡ self.old.files }
         ensures bytes { AreMadeOfBytes self.new.files }
         ensures asked { self.new.asked ≡ asked_after result path.now self.old.asked }
     {
         self.files.hold_bytes();
-        self.path = Some(String::from_str(alloc, path)?);
-        Ok(())
+        Ok(self.path.keep(alloc, path)?)
     }
 
     /// Gives the names in the order of their bytes. Fails for want of memory alone.

@@ -97,6 +97,17 @@ fn stops_from_a_call_on(rt: HostRuntime) -> Result<(), test::Fail> {
     Ok(())
 }
 
+#[test]
+fn fails_from_the_first_call_on(rt: HostRuntime) -> Result<(), test::Fail> {
+    let alloc = rt.alloc();
+    let mut dir = FaultDir::new(folder(alloc)?, vec![in alloc]?, Some(1));
+    assert_eq!(rt; dir.enter(alloc, "d"), Err(DirFail::Failed));
+    assert_eq!(rt; dir.list(alloc).err(), Some(DirFail::Failed));
+    assert_eq!(rt; dir.remove(alloc, "f"), Err(DirFail::Failed));
+    assert_eq!(rt; dir.into_inner().get("f"), Some(b"abcdef".as_slice()));
+    Ok(())
+}
+
 /// What two calls of a source answer of which one fails.
 fn read_twice(alloc: Global, fails: u64) -> Result<[Result<usize, DirFail>; 2], test::Fail> {
     let source = MemSource::new(b"abc".to_vec(alloc)?, 2);

@@ -1,5 +1,5 @@
-use Rattle.std.proofs.Common.{◌≡◌, IsErrOf, rules, refl, sym, subst}
-use Rattle.lu_dir.specs.Files.{Files, CreateLeaves, PatchLeaves, RemoveLeaves, Leaves, before}
+use Rattle.std.proofs.Common.{◌≡◌, IsErrOf, rules, refl}
+use Rattle.lu_dir.specs.Files.{CreateLeaves, PatchLeaves, RemoveLeaves, before}
 use Rattle.lu_dir.specs.Planned.{next_failure}
 use Rattle.lu_dir.specs.declared.fail.DirFail.TheVariants.{OutOfMemory}
 use Rattle.lu_dir.proofs.Leavings.{left-told, CreateLeaves-planned, PatchLeaves-planned, PatchLeaves-same, RemoveLeaves-planned}
@@ -12,7 +12,7 @@ create-tells c =
     record {
       made = search rules;
       left = left-told (CreateLeaves c.args.name.now c.args.bytes.now) c.result old new
-          (λ failed. CreateLeaves-planned (next_failure c.args.self.now) c.args.name.now c.args.bytes.now old new (c.ensures.planned.failed failed) (c.ensures.left failed))
+          (λ failed. CreateLeaves-planned (next_failure c.args.self.now) c.args.name.now c.args.bytes.now old new (c.ensures.planned.failed failed) c.ensures.left)
           c.ensures.memory (before refl);
       memory = search rules;
       asked = search rules;

@@ -1,6 +1,6 @@
 use Rattle.std.proofs.Common.{◌≡◌, rules, sym, subst}
 use Rattle.std.specs.FinMap.{empty}
-use Rattle.lu_dir.specs.Files.{Files, AreMadeOfBytes}
+use Rattle.lu_dir.specs.Files.{AreMadeOfBytes}
 use Rattle.lu_dir.specs.FileMap.{files_of}
 use Rattle.lu_dir.proofs.BytesLemmas.{AreMadeOfBytes-none}
 use Rattle.lu_dir.proofs.file_map.FileMap.new.Goals as goal

@@ -1,6 +1,6 @@
-use Rattle.std.proofs.Common.{◌≡◌, ap, sym, subst, ◌∙◌, string_bytes}
+use Rattle.std.proofs.Common.{ap, sym, subst, ◌∙◌, string_bytes}
 use Rattle.lu_grammar.specs.Bytes.{IsBytes}
-use Rattle.lu_dir.specs.Files.{Files, AreMadeOfBytes, with_file}
+use Rattle.lu_dir.specs.Files.{AreMadeOfBytes, with_file}
 use Rattle.lu_dir.specs.FileMap.{files_of}
 use Rattle.lu_dir.proofs.HeldFiles.{files_of-put}
 use Rattle.lu_dir.proofs.BytesLemmas.{AreMadeOfBytes-with_file}

@@ -1,4 +1,4 @@
-use Rattle.std.proofs.Common.{◌≡◌, ◌<◌, Some, map, length, sym, subst, ap, arith, ◌∙◌, string_bytes}
+use Rattle.std.proofs.Common.{◌<◌, Some, map, length, sym, subst, ap, arith, ◌∙◌, string_bytes}
 use Rattle.std.specs.Prelude.{slice_get}
 use Rattle.std.proofs.lemmas.Option.{slice_get-get_or}
 use Rattle.std.proofs.lemmas.List.{length-map}

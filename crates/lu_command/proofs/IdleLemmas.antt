@@ -1,0 +1,21 @@
+-- Outcomes that leave the folder as it is.
+use Rattle.std.proofs.Common.{◌≡◌, List, ℕ, refl, sym, subst, inl, inr}
+use Rattle.lu_types.specs.FilePlans.{FilePlan}
+use Rattle.lu_command.specs.declared.status.Status.{Status}
+use Rattle.lu_command.specs.declared.outcome.Effect.TheVariants.{Nothing}
+use Rattle.lu_command.specs.declared.outcome.Outcome.{Outcome}
+use Rattle.lu_command.specs.Outcomes.{without_effect, not_standing, IsAnswer, IsProper}
+use Rattle.lu_command.specs.Due.{FilesSay}
+
+-- an outcome that a call may come to, and that changes nothing
+abbrev pub IsIdle : Outcome → Type 0
+IsIdle outcome = IsProper outcome × (outcome.effect ≡ Nothing)
+
+-- an outcome without an effect
+pub idle-without_effect : (status : Status) (text : List ℕ) → IsAnswer status → IsIdle (without_effect status text)
+idle-without_effect status text answer = (record { answer = answer; idle = λ other. refl }, refl)
+
+-- what a command that reads files of a segment comes to
+pub FilesSay-idle : {X : Type 0} (segment : List ℕ) (files : FilePlan X) (lines : X → List ℕ) (outcome : Outcome) → FilesSay segment files lines outcome → IsIdle outcome
+FilesSay-idle segment files lines outcome (inl a) = subst IsIdle (sym a.2) (idle-without_effect _ (lines a.0) tt)
+FilesSay-idle segment files lines outcome (inr a) = subst IsIdle (sym a.2) (idle-without_effect (not_standing a.0) _ tt)

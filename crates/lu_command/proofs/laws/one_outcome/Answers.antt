@@ -1,0 +1,5 @@
+use Rattle.lu_command.proofs.DueLemmas.{Due-one}
+use Rattle.lu_command.proofs.laws.one_outcome.Goals as goal
+
+pub returns : goal.returns
+returns c words files = Due-one files words

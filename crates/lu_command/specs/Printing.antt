@@ -1,0 +1,20 @@
+-- What is printed with each answer.
+use Rattle.std.specs.Prelude.{◌≡◌, ◌⊎◌, ℕ, ◌<◌, List, length, take, Option}
+use Rattle.lu_command.specs.declared.status.Status.{Status}
+use Rattle.lu_command.specs.declared.status.Status.TheVariants.{Device, NoMemory}
+use Rattle.lu_command.specs.declared.status.Which.TheVariants.{Dir, Source, Sink}
+use Rattle.lu_command.specs.declared.outcome.Outcome.{Outcome}
+use Rattle.lu_command.specs.Telling.{Took}
+
+-- what was printed with an answer, where `IsDue` says which outcome is due
+abbrev pub Prints : (Outcome → Type 0) → Status → Option (List ℕ) → Option (List ℕ) → Type 0
+-- nothing where the folder failed
+Prints IsDue (Device Dir) before after = after ≡ before
+-- that the input failed is never answered
+Prints IsDue (Device Source) before after = ⊥
+-- a strict prefix of the text that is due where the output failed
+Prints IsDue (Device Sink) before after = (outcome : Outcome) × IsDue outcome × (count : ℕ) × (count < length outcome.text) × Took (take count outcome.text) before after
+-- a prefix of it where memory ended, or nothing
+Prints IsDue NoMemory before after = (after ≡ before) ⊎ ((outcome : Outcome) × IsDue outcome × (count : ℕ) × Took (take count outcome.text) before after)
+-- the whole text with an answer that is due
+Prints IsDue answer before after = (outcome : Outcome) × IsDue outcome × (answer ≡ outcome.status) × Took outcome.text before after

@@ -7,3 +7,8 @@ pub mod Spelling
 pub mod Answers
 pub mod Taking
 pub mod Unsealed
+pub mod LuceneNames
+pub mod Referring
+pub mod Generations
+pub mod Parsing
+pub mod Keeping

@@ -6,11 +6,15 @@ mod commit;
 mod infos;
 mod judging;
 pub mod laws;
+mod listing;
 mod lists;
+mod name_set;
+mod naming;
 mod numbers;
 mod parts;
 mod reading;
 mod record;
+mod removing;
 mod segment;
 mod stop;
 mod taking;
@@ -18,9 +22,14 @@ mod writing;
 
 pub use commit::Commit;
 pub use infos::{MapPair, SegInfo};
+pub use listing::generations;
 pub use lists::{NormGens, Pairs, Segments};
+pub use naming::{LuceneName, name_text, name_value};
 pub use reading::read;
+pub use removing::{Kept, removable, removable_all};
 pub use writing::{write, write_pending};
 
+#[cfg(test)]
+mod name_tests;
 #[cfg(test)]
 mod tests;

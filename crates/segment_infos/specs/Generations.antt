@@ -1,0 +1,26 @@
+-- The generations of the commits among names (docs/FORMAT.md, "Names of files").
+use Rattle.std.specs.Prelude.{ℕ, ◌≤◌, List, Option, Some, None, filter_map, AllPairs, IsPermutation}
+use Rattle.segment_infos.specs.declared.naming.LuceneName.{LuceneName}
+use Rattle.segment_infos.specs.declared.naming.LuceneName.TheVariants.{Commit, Part, Del, Sep}
+use Rattle.segment_infos.specs.LuceneNames.{name_in}
+
+-- the generation, where the name is that of a commit
+abbrev pub generation_named : Option LuceneName → Option ℕ
+generation_named None = None
+generation_named (Some (Commit generation)) = Some generation
+generation_named (Some (Part segment kind)) = None
+generation_named (Some (Del segment generation)) = None
+generation_named (Some (Sep segment generation field)) = None
+
+-- the generation of the commit that a text names; none where it names none
+abbrev pub generation_in : List ℕ → Option ℕ
+generation_in text = generation_named (name_in text)
+
+-- the generations of all names of commits, as the names stand
+abbrev pub listed_generations : List (List ℕ) → List ℕ
+listed_generations names = filter_map generation_in names
+
+-- these are the generations of all names of commits, the greatest first
+pub record AreGenerations (names : List (List ℕ)) (found : List ℕ) : Type 0 where
+  pub all : IsPermutation (listed_generations names) found
+  pub fall : AllPairs (λ generation later. later ≤ generation) found

@@ -1,0 +1,211 @@
+//! Which names commits refer to, and which may be removed (format page, "Names of files").
+ghost use Rattle.std.specs.Prelude.{◌≡◌, ◌++◌, [], ◌∷◌, ◌<◌, ◌^◌, length, map, flat_map, IfOk, OnOk, string_bytes};
+ghost use Rattle.segment_infos.specs.Referring.{parts, own_parts, store_parts, del_names, sep_names_from, norm_names, line_names, names_kept_by, kept_names as names_kept, is_removable, removable as removable_names};
+ghost use Rattle.segment_infos.specs.Keeping.{kept_value};
+
+use crate::commit::Commit;
+use crate::infos::SegInfo;
+use crate::lists::NormGens;
+use crate::name_set::NameSet;
+use crate::naming::{LuceneName, name_value};
+use lu_prims::OutOfMemory;
+use lu_types::{FileKind, SharedStore};
+use std::alloc::Global;
+
+/// The files that hold documents: stored values, and vectors.
+const DOCUMENT_KINDS: [FileKind; 5] = [
+    FileKind::Fdx,
+    FileKind::Fdt,
+    FileKind::Tvx,
+    FileKind::Tvd,
+    FileKind::Tvf,
+];
+
+/// The other parts, but for the two that hold parts.
+const INDEX_KINDS: [FileKind; 6] = [
+    FileKind::Fnm,
+    FileKind::Tis,
+    FileKind::Tii,
+    FileKind::Frq,
+    FileKind::Prx,
+    FileKind::Nrm,
+];
+
+/// A commit that is kept, with the generation that it is kept under.
+#[derive(Clone, Copy)]
+pub struct Kept<'a> {
+    pub generation: u64,
+    pub commit: &'a Commit,
+}
+
+/// Adds the parts of a segment of these kinds.
+fn push_parts(
+    names: &mut Vec<LuceneName>,
+    number: u32,
+    kinds: &[FileKind],
+) -> Result<(), OutOfMemory>
+    ensures { OnOk result (names.new.items ≡ names.old.items ++ parts number kinds.now) }
+{
+    for kind in kinds {
+        names.push(LuceneName::Part(number, *kind))?;
+    }
+    Ok(())
+}
+
+/// Adds the parts of a segment's own number that its line refers to.
+fn push_own_parts(names: &mut Vec<LuceneName>, line: &SegInfo) -> Result<(), OutOfMemory>
+    ensures { OnOk result (names.new.items ≡ names.old.items ++ own_parts line.now) }
+{
+    if line.compound {
+        return push_parts(names, line.number, &[FileKind::Cfs]);
+    }
+    push_parts(names, line.number, &INDEX_KINDS)?;
+    if line.store.is_none() {
+        push_parts(names, line.number, &DOCUMENT_KINDS)?;
+    }
+    Ok(())
+}
+
+/// Adds the files of a shared store.
+fn push_store_parts(
+    names: &mut Vec<LuceneName>,
+    store: &Option<SharedStore>,
+) -> Result<(), OutOfMemory>
+    ensures { OnOk result (names.new.items ≡ names.old.items ++ store_parts store.now) }
+{
+    match store {
+        None => Ok(()),
+        Some(store) => {
+            if store.compound {
+                push_parts(names, store.number, &[FileKind::Cfx])
+            } else {
+                push_parts(names, store.number, &DOCUMENT_KINDS)
+            }
+        }
+    }
+}
+
+/// Adds the file of deleted documents, where there is one.
+fn push_del(
+    names: &mut Vec<LuceneName>,
+    number: u32,
+    generation: Option<u64>,
+) -> Result<(), OutOfMemory>
+    ensures { OnOk result (names.new.items ≡ names.old.items ++ del_names number generation) }
+{
+    if let Some(generation) = generation {
+        names.push(LuceneName::Del(number, generation))?;
+    }
+    Ok(())
+}
+
+/// Adds the files of the norms that stand in files of their own.
+fn push_norms(
+    names: &mut Vec<LuceneName>,
+    number: u32,
+    generations: &[i64],
+) -> Result<(), OutOfMemory>
+    requires { length generations.now < 2 ^ 31 }
+    ensures { OnOk result (names.new.items ≡ names.old.items ++ sep_names_from number 0 generations.now) }
+{
+    for (field, generation) in generations.iter().enumerate() {
+        if *generation >= 0 {
+            names.push(LuceneName::Sep(number, *generation as u64, field as u32))?;
+        }
+    }
+    Ok(())
+}
+
+/// The same, where they are counted.
+fn push_counted_norms(
+    names: &mut Vec<LuceneName>,
+    number: u32,
+    generations: &Option<NormGens>,
+) -> Result<(), OutOfMemory>
+    ensures { OnOk result (names.new.items ≡ names.old.items ++ norm_names number generations.now) }
+{
+    match generations {
+        None => Ok(()),
+        Some(generations) => push_norms(names, number, generations.as_slice()),
+    }
+}
+
+/// Adds the names that the line of a segment refers to.
+fn push_line(names: &mut Vec<LuceneName>, line: &SegInfo) -> Result<(), OutOfMemory>
+    ensures { OnOk result (names.new.items ≡ names.old.items ++ line_names line.now) }
+{
+    push_own_parts(names, line)?;
+    push_store_parts(names, &line.store)?;
+    push_del(names, line.number, line.del_gen)?;
+    push_counted_norms(names, line.number, &line.norm_gens)
+}
+
+/// Adds the names that the lines refer to.
+fn push_lines(names: &mut Vec<LuceneName>, lines: &[SegInfo]) -> Result<(), OutOfMemory>
+    ensures { OnOk result (names.new.items ≡ names.old.items ++ flat_map line_names lines.now) }
+{
+    for line in lines {
+        push_line(names, line)?;
+    }
+    Ok(())
+}
+
+/// Adds the name of a commit that is kept, and those that it refers to.
+fn push_kept(names: &mut Vec<LuceneName>, kept: &Kept<'_>) -> Result<(), OutOfMemory>
+    ensures { OnOk result (names.new.items ≡ names.old.items ++ names_kept_by (kept_value kept.now)) }
+{
+    names.push(LuceneName::Commit(kept.generation))?;
+    push_lines(names, kept.commit.segments.as_slice())
+}
+
+/// The names that some commits keep.
+fn kept_names(alloc: Global, kept: &[Kept<'_>]) -> Result<Vec<LuceneName>, OutOfMemory>
+    ensures { IfOk result (λ names. names.items ≡ names_kept (map kept_value kept.now)) }
+{
+    let mut names = Vec::new(alloc);
+    for commit in kept {
+        push_kept(&mut names, commit)?;
+    }
+    Ok(names)
+}
+
+/// Whether the text is a Lucene name that is none of the set.
+fn is_free(kept: &NameSet, text: &str) -> bool {
+    match name_value(text) {
+        None => false,
+        Some(name) => !kept.has(&name),
+    }
+}
+
+/// The names, in order, that may be removed where these commits are kept: the Lucene names that are no commit's own and that none
+/// refers to (format page, "Names of files"). Takes time by the names, and by what the commits say, each times a logarithm of
+/// what the commits refer to. An `Err` is want of memory.
+pub fn removable_all(
+    alloc: Global,
+    names: &[String],
+    kept: &[Kept<'_>],
+) -> Result<Vec<String>, OutOfMemory>
+    ensures { IfOk result (λ found. map string_bytes found.items ≡ removable_names (map kept_value kept.now) (map string_bytes names.now)) }
+{
+    let kept = NameSet::of(alloc, kept_names(alloc, kept)?)?;
+    let mut found = Vec::new(alloc);
+    for name in names {
+        if is_free(&kept, name.as_str()) {
+            found.push(String::from_str(alloc, name.as_str())?)?;
+        }
+    }
+    Ok(found)
+}
+
+/// The same where one commit is kept.
+pub fn removable(
+    alloc: Global,
+    names: &[String],
+    commit: &Commit,
+    generation: u64,
+) -> Result<Vec<String>, OutOfMemory>
+    ensures { IfOk result (λ found. map string_bytes found.items
+        ≡ removable_names (record { generation = generation; commit = commit.now } ∷ []) (map string_bytes names.now)) }
+{
+    removable_all(alloc, names, &[Kept { generation, commit }])
+}

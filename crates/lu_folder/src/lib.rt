@@ -1,0 +1,15 @@
+//! Commits in a folder: which one is current, what is read of it, which numbers a new one draws, and the calls that make it.
+//! Whatever fails while a commit is made, the folder reads as before or as the new commit.
+#![tactic(auto)]
+
+mod change;
+mod new_file;
+mod putting;
+mod sealing;
+mod sweeping;
+
+pub use change::{Change, commit};
+pub use new_file::NewFile;
+pub use putting::{put_file, put_files};
+pub use sealing::seal;
+pub use sweeping::sweep;

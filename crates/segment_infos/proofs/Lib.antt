@@ -15,3 +15,8 @@ pub mod LineParts
 pub mod LineBack
 pub mod WrittenCommits
 pub mod PutLemmas
+pub mod Cuts
+pub mod NameSpelled
+pub mod NameParts
+pub mod Decimals
+pub mod ListedNames

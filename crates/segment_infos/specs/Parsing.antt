@@ -5,6 +5,10 @@ use Rattle.segment_infos.specs.declared.naming.LuceneName.{LuceneName}
 use Rattle.segment_infos.specs.declared.naming.LuceneName.TheVariants.{Commit, Part, Del, Sep}
 use Rattle.segment_infos.specs.LuceneNames.{Spells, IsLuceneName}
 
+-- the text has no `.`
+abbrev pub HasNoDot : List ℕ → Type 0
+HasNoDot text = (i : ℕ) → i < length text → slice_index text i ≢ 46
+
 -- the text has no `.` and no `_`
 abbrev pub HasNeither : List ℕ → Type 0
 HasNeither text = (i : ℕ) → i < length text → (slice_index text i ≢ 46) × (slice_index text i ≢ 95)
@@ -18,8 +22,8 @@ abbrev pub generation_text : List ℕ → List ℕ → List ℕ → List ℕ
 generation_text segment generation extension = 95 ∷ (segment ++ (95 ∷ (generation ++ (46 ∷ extension))))
 
 -- the name that the text spells; or none, where it spells none
-abbrev pub Names : List ℕ → Option LuceneName → Type 0
-Names text found = MatchOption found (¬ IsLuceneName text) (Spells text)
+abbrev pub TellsName : List ℕ → Option LuceneName → Type 0
+TellsName text found = MatchOption found (¬ IsLuceneName text) (Spells text)
 
 -- the name is that of a file of a segment
 abbrev pub IsFile : LuceneName → Type 0

@@ -1,5 +1,5 @@
 -- The names that commits refer to, and those that may be removed (docs/FORMAT.md, "Names of files").
-use Rattle.std.specs.Prelude.{ℕ, ◌+◌, Bool, not, ◌&&◌, List, [], ◌∷◌, ◌++◌, map, filter, flat_map, Option, Some, None, ℤ, pos, negsuc, is_some, if◌then◌else◌, bytes_eq}
+use Rattle.std.specs.Prelude.{ℕ, zero, suc, ◌+◌, Bool, not, ◌&&◌, List, [], ◌∷◌, ◌++◌, map, filter, flat_map, Option, Some, None, ℤ, pos, negsuc, is_some, if◌then◌else◌, bytes_eq}
 use Rattle.std.specs.List.{list_any}
 use Rattle.lu_types.specs.declared.kind.FileKind.{FileKind}
 use Rattle.lu_types.specs.declared.kind.FileKind.TheVariants as kinds
@@ -36,9 +36,10 @@ abbrev pub del_names : ℕ → Option ℕ → List LuceneName
 del_names number None = []
 del_names number (Some generation) = Del number generation ∷ []
 
--- the file of a field's norms, where they stand in a file of their own
+-- the file of a field's norms, where they stand in a file of their own: their generation is at least 1
 abbrev pub sep_names : ℕ → ℕ → ℤ → List LuceneName
-sep_names number field (pos generation) = Sep number generation field ∷ []
+sep_names number field (pos zero) = []
+sep_names number field (pos (suc n)) = Sep number (suc n) field ∷ []
 sep_names number field (negsuc n) = []
 
 -- the same of the fields from this one on

@@ -3,9 +3,9 @@ ghost use Rattle.std.specs.Prelude.{◌≡◌, ℕ, ◌<◌, ◌≤◌, ◌^◌,
 ghost use Rattle.lu_prims.specs.Base36.{base36};
 ghost use Rattle.lu_types.specs.declared.kind.FileKind.TheVariants.{Sep as sep_kind};
 ghost use Rattle.lu_types.specs.Kinds.{extension as extension_of};
-ghost use Rattle.lu_types.specs.Names.{greatest_segment, part_name as name_of_part};
-ghost use Rattle.segment_infos.specs.LuceneNames.{IsGenerationNumber, IsName, Spells, IsLuceneName, name_spelling, with_generation, kind_of};
-ghost use Rattle.segment_infos.specs.Parsing.{HasNeither, file_text, generation_text, Names, IsDecimal, IsFile};
+ghost use Rattle.lu_types.specs.Names.{IsPart, greatest_segment, part_name as name_of_part};
+ghost use Rattle.segment_infos.specs.LuceneNames.{IsGenerationNumber, IsName, Spells, IsLuceneName, name_spelling, with_generation};
+ghost use Rattle.segment_infos.specs.Parsing.{HasNoDot, HasNeither, file_text, generation_text, TellsName, IsDecimal, IsFile};
 
 use lu_prims::{OutOfMemory, base36_text, base36_value};
 use lu_types::{FileKind, GREATEST_SEGMENT, part_name, segment_name};
@@ -107,7 +107,9 @@ fn segment_digits(digits: &str) -> Option<u32>
 
 /// The kind of a part that has the extension; `None` where no part has it.
 fn part_kind(text: &str) -> Option<FileKind>
-    ensures { result ≡ kind_of text.now }
+    ensures { MatchOption result
+        ((kind : FileKind) → IsPart kind → text.now ≡ extension_of kind → ⊥)
+        (λ kind. IsPart kind × (text.now ≡ extension_of kind)) }
 {
     match text {
         "cfs" => Some(FileKind::Cfs),
@@ -159,7 +161,7 @@ fn is_decimal(text: &str) -> bool
 /// The part of a segment that has these digits and this extension; `None` where there is none.
 fn part_value(digits: &str, extension: &str) -> Option<LuceneName>
     requires { HasNeither digits.now }
-    ensures { Names (file_text digits.now extension.now) result }
+    ensures { TellsName (file_text digits.now extension.now) result }
 {
     let segment = segment_digits(digits)?;
     let kind = part_kind(extension)?;
@@ -168,8 +170,9 @@ fn part_value(digits: &str, extension: &str) -> Option<LuceneName>
 
 /// The file of a segment and a generation that have these digits and this extension; `None` where there is none.
 fn generation_value(segment: &str, generation: &str, extension: &str) -> Option<LuceneName>
-    requires { HasNeither segment.now }
-    ensures { Names (generation_text segment.now generation.now extension.now) result }
+    requires segment { HasNeither segment.now }
+    requires generation { HasNoDot generation.now }
+    ensures { TellsName (generation_text segment.now generation.now extension.now) result }
 {
     let segment = segment_digits(segment)?;
     let generation = generation_number(generation)?;

@@ -1,7 +1,9 @@
 //! Which names commits refer to, and which may be removed (format page, "Names of files").
-ghost use Rattle.std.specs.Prelude.{◌≡◌, ◌++◌, [], ◌∷◌, ◌<◌, ◌^◌, length, map, flat_map, IfOk, OnOk, string_bytes};
-ghost use Rattle.segment_infos.specs.Referring.{parts, own_parts, store_parts, del_names, sep_names_from, norm_names, line_names, names_kept_by, kept_names as names_kept, is_removable, removable as removable_names};
-ghost use Rattle.segment_infos.specs.Keeping.{kept_value};
+ghost use Rattle.std.specs.Prelude.{◌≡◌, ◌++◌, [], ◌∷◌, ◌<◌, ◌^◌, List, length, map, filter, flat_map, All, IfOk, OnOk, string_bytes};
+ghost use Rattle.segment_infos.specs.declared.naming.LuceneName.{LuceneName};
+ghost use Rattle.segment_infos.specs.Values.{IsLine, AreNormGens};
+ghost use Rattle.segment_infos.specs.Referring.{parts, own_parts, store_parts, del_names, sep_names_from, norm_names, line_names, referred_names, names_kept_by, kept_names as names_kept, removable as removable_names};
+ghost use Rattle.segment_infos.specs.Keeping.{kept_value, HasOwnSpelling, HasNames, is_free as is_free_of};
 
 use crate::commit::Commit;
 use crate::infos::SegInfo;
@@ -109,7 +111,7 @@ fn push_norms(
     ensures { OnOk result (names.new.items ≡ names.old.items ++ sep_names_from number 0 generations.now) }
 {
     for (field, generation) in generations.iter().enumerate() {
-        if *generation >= 0 {
+        if *generation > 0 {
             names.push(LuceneName::Sep(number, *generation as u64, field as u32))?;
         }
     }
@@ -122,6 +124,7 @@ fn push_counted_norms(
     number: u32,
     generations: &Option<NormGens>,
 ) -> Result<(), OutOfMemory>
+    requires { AreNormGens generations.now }
     ensures { OnOk result (names.new.items ≡ names.old.items ++ norm_names number generations.now) }
 {
     match generations {
@@ -132,6 +135,7 @@ fn push_counted_norms(
 
 /// Adds the names that the line of a segment refers to.
 fn push_line(names: &mut Vec<LuceneName>, line: &SegInfo) -> Result<(), OutOfMemory>
+    requires { IsLine line.now }
     ensures { OnOk result (names.new.items ≡ names.old.items ++ line_names line.now) }
 {
     push_own_parts(names, line)?;
@@ -142,6 +146,7 @@ fn push_line(names: &mut Vec<LuceneName>, line: &SegInfo) -> Result<(), OutOfMem
 
 /// Adds the names that the lines refer to.
 fn push_lines(names: &mut Vec<LuceneName>, lines: &[SegInfo]) -> Result<(), OutOfMemory>
+    requires { All IsLine lines.now }
     ensures { OnOk result (names.new.items ≡ names.old.items ++ flat_map line_names lines.now) }
 {
     for line in lines {
@@ -150,17 +155,27 @@ fn push_lines(names: &mut Vec<LuceneName>, lines: &[SegInfo]) -> Result<(), OutO
     Ok(())
 }
 
+/// Adds the names that a commit refers to.
+fn push_commit(names: &mut Vec<LuceneName>, commit: &Commit) -> Result<(), OutOfMemory>
+    ensures names { OnOk result (names.new.items ≡ names.old.items ++ referred_names commit.now) }
+    ensures own { OnOk result (All HasOwnSpelling (referred_names commit.now)) }
+{
+    push_lines(names, commit.segments.as_slice())
+}
+
 /// Adds the name of a commit that is kept, and those that it refers to.
 fn push_kept(names: &mut Vec<LuceneName>, kept: &Kept<'_>) -> Result<(), OutOfMemory>
-    ensures { OnOk result (names.new.items ≡ names.old.items ++ names_kept_by (kept_value kept.now)) }
+    ensures names { OnOk result (names.new.items ≡ names.old.items ++ names_kept_by (kept_value kept.now)) }
+    ensures own { OnOk result (All HasOwnSpelling (names_kept_by (kept_value kept.now))) }
 {
     names.push(LuceneName::Commit(kept.generation))?;
-    push_lines(names, kept.commit.segments.as_slice())
+    push_commit(names, kept.commit)
 }
 
 /// The names that some commits keep.
 fn kept_names(alloc: Global, kept: &[Kept<'_>]) -> Result<Vec<LuceneName>, OutOfMemory>
-    ensures { IfOk result (λ names. names.items ≡ names_kept (map kept_value kept.now)) }
+    ensures names { IfOk result (λ names. names.items ≡ names_kept (map kept_value kept.now)) }
+    ensures own { IfOk result (λ names. All HasOwnSpelling names.items) }
 {
     let mut names = Vec::new(alloc);
     for commit in kept {
@@ -177,6 +192,20 @@ fn is_free(kept: &NameSet, text: &str) -> bool {
     }
 }
 
+/// The names, in order, that are Lucene names and none of the set.
+fn free_names(alloc: Global, names: &[String], kept: &NameSet) -> Result<Vec<String>, OutOfMemory>
+    ensures { IfOk result (λ found. (all : List LuceneName) → All HasOwnSpelling all → HasNames kept.now all
+        → map string_bytes found.items ≡ filter (is_free_of all) (map string_bytes names.now)) }
+{
+    let mut found = Vec::new(alloc);
+    for name in names {
+        if is_free(kept, name.as_str()) {
+            found.push(String::from_str(alloc, name.as_str())?)?;
+        }
+    }
+    Ok(found)
+}
+
 /// The names, in order, that may be removed where these commits are kept: the Lucene names that are no commit's own and that none
 /// refers to (format page, "Names of files"). Takes time by the names, and by what the commits say, each times a logarithm of
 /// what the commits refer to. An `Err` is want of memory.
@@ -187,14 +216,9 @@ pub fn removable_all(
 ) -> Result<Vec<String>, OutOfMemory>
     ensures { IfOk result (λ found. map string_bytes found.items ≡ removable_names (map kept_value kept.now) (map string_bytes names.now)) }
 {
-    let kept = NameSet::of(alloc, kept_names(alloc, kept)?)?;
-    let mut found = Vec::new(alloc);
-    for name in names {
-        if is_free(&kept, name.as_str()) {
-            found.push(String::from_str(alloc, name.as_str())?)?;
-        }
-    }
-    Ok(found)
+    let kept = kept_names(alloc, kept)?;
+    let kept = NameSet::of(alloc, kept.as_slice())?;
+    free_names(alloc, names, &kept)
 }
 
 /// The same where one commit is kept.

@@ -1,0 +1,20 @@
+-- The generations among names, one name after another, and from the greatest down.
+use Rattle.std.proofs.Common.{◌≡◌, ℕ, ◌+◌, ◌-◌, ◌<◌, ◌≤◌, Bool, true, false, cond, List, [], ◌∷◌, ◌++◌, length, take, get_or, map, reverse, Option, Some, None, refl, sym, ap, subst, ◌∙◌, arith}
+use Rattle.std.specs.Prelude.{filter_map, filter, string_bytes, IsPermutation, AllPairs}
+use Rattle.std.specs.declared.string.String.{String}
+use Rattle.std.specs.declared.alloc.Global.{Global}
+use Rattle.std.specs.List.Sorted.{IsNonDecreasing, IsSorted}
+use Rattle.std.specs.Ordering.{nat_cmp}
+use Rattle.std.proofs.lemmas.List.{take_more, length-reverse, get_or-reverse}
+use Rattle.std.proofs.lemmas.List.Elements.{filter_map-append, filter-append}
+use Rattle.std.proofs.lemmas.List.Sorted.{IsNonDecreasingBy-from_sort, IsPermutation-reverse, IsPermutation-trans}
+use Rattle.segment_infos.specs.Generations.{generation_in, listed_generations, AreGenerations}
+
+map-append_lem : {A B : Type 0} (f : A → B) (xs ys : List A) → map f (xs ++ ys) ≡ map f xs ++ map f ys
+map-append_lem f [] ys = refl
+map-append_lem f (x ∷ xs) ys = ap (λ (rest : List _). f x ∷ rest) (map-append_lem f xs ys)
+
+-- the texts of some names, and of one more
+pub texts-more : (names : List (String Global)) (i : ℕ) (name : String Global) → i < length names → name ≡ get_or names i name → map string_bytes (take (i + 1) names) ≡ map string_bytes (take i names) ++ string_bytes name ∷ []
+texts-more names i name within is =
+    ap (map string_bytes) (take_more names i name within) ∙ map-append_lem string_bytes (take i names) (get_or names i name ∷ []) ∙ ap (λ (last : String Global). map string_bytes (take i names) ++ string_bytes last ∷ []) (sym is)

@@ -20,3 +20,4 @@ pub mod NameSpelled
 pub mod NameParts
 pub mod Decimals
 pub mod ListedNames
+pub mod NameSets

@@ -18,3 +18,25 @@ map-append_lem f (x ∷ xs) ys = ap (λ (rest : List _). f x ∷ rest) (map-appe
 pub texts-more : (names : List (String Global)) (i : ℕ) (name : String Global) → i < length names → name ≡ get_or names i name → map string_bytes (take (i + 1) names) ≡ map string_bytes (take i names) ++ string_bytes name ∷ []
 texts-more names i name within is =
     ap (map string_bytes) (take_more names i name within) ∙ map-append_lem string_bytes (take i names) (get_or names i name ∷ []) ∙ ap (λ (last : String Global). map string_bytes (take i names) ++ string_bytes last ∷ []) (sym is)
+
+-- one name more
+pub listed_generations-more : (names : List (String Global)) (i : ℕ) (name : String Global) → i < length names → name ≡ get_or names i name
+    → listed_generations (map string_bytes (take (i + 1) names)) ≡ listed_generations (map string_bytes (take i names)) ++ filter_map generation_in (string_bytes name ∷ [])
+listed_generations-more names i name within is =
+    ap listed_generations (texts-more names i name within is) ∙ filter_map-append generation_in (map string_bytes (take i names)) (string_bytes name ∷ [])
+
+-- numbers that rise fall where they are turned round
+pub reversed-fall : (xs : List ℕ) → IsSorted nat_cmp xs → AllPairs (λ generation later. later ≤ generation) (reverse xs)
+reversed-fall xs sorted i j d before within =
+    let rise : IsNonDecreasing xs = IsNonDecreasingBy-from_sort (λ x. x) xs sorted in
+    let many : length (reverse xs) ≡ length xs = length-reverse xs in
+    let low : i < length xs = omega arith in
+    let high : j < length xs = omega arith in
+    let below : get_or xs (length xs - 1 - j) d ≤ get_or xs (length xs - 1 - i) d = rise (length xs - 1 - j) (length xs - 1 - i) d (omega arith) (omega arith) in
+    rw (get_or-reverse xs i d low, get_or-reverse xs j d high) below
+
+pub sorted-AreGenerations : (names : List (List ℕ)) (found sorted : List ℕ) → found ≡ listed_generations names → IsPermutation found sorted → IsSorted nat_cmp sorted → AreGenerations names (reverse sorted)
+sorted-AreGenerations names found sorted is same rises = record {
+  all = IsPermutation-trans (listed_generations names) sorted (reverse sorted) (subst (λ (list : List ℕ). IsPermutation list sorted) is same) (IsPermutation-reverse sorted);
+  fall = reversed-fall sorted rises;
+}

@@ -4,13 +4,17 @@ use Rattle.segment_infos.specs.declared.naming.LuceneName.{LuceneName}
 use Rattle.segment_infos.specs.declared.naming.LuceneName.TheVariants.{Commit, Part, Del, Sep}
 use Rattle.segment_infos.specs.LuceneNames.{name_in}
 
--- the generation, where the name is that of a commit
+-- the generation of the commit; none where the name is that of none
+abbrev pub generation_of : LuceneName → Option ℕ
+generation_of (Commit generation) = Some generation
+generation_of (Part segment kind) = None
+generation_of (Del segment generation) = None
+generation_of (Sep segment generation field) = None
+
+-- the same of a name, if there is one
 abbrev pub generation_named : Option LuceneName → Option ℕ
 generation_named None = None
-generation_named (Some (Commit generation)) = Some generation
-generation_named (Some (Part segment kind)) = None
-generation_named (Some (Del segment generation)) = None
-generation_named (Some (Sep segment generation field)) = None
+generation_named (Some name) = generation_of name
 
 -- the generation of the commit that a text names; none where it names none
 abbrev pub generation_in : List ℕ → Option ℕ

@@ -1,19 +1,27 @@
 //! The commits among the names of a folder.
 ghost use Rattle.std.specs.Prelude.{◌≡◌, ◌++◌, map, IfOk, OnOk, string_bytes};
-ghost use Rattle.segment_infos.specs.Generations.{generation_in as generation_in_name, listed_generations as generations_listed, AreGenerations};
+ghost use Rattle.segment_infos.specs.Generations.{generation_of as generation_of_name, generation_in as generation_in_text, listed_generations as generations_listed, AreGenerations};
 
 use crate::naming::{LuceneName, name_value};
 use lu_prims::OutOfMemory;
 use std::alloc::Global;
 
-/// The generation of the commit whose name the text is; `None` where it is that of none.
-fn generation_in(name: &str) -> Option<u64>
-    ensures { result ≡ generation_in_name name.now }
+/// The generation of the commit; `None` where the name is that of none.
+fn generation_of(name: LuceneName) -> Option<u64>
+    ensures { result ≡ generation_of_name name }
 {
-    match name_value(name) {
-        Some(LuceneName::Commit(generation)) => Some(generation),
-        _ => None,
+    match name {
+        LuceneName::Commit(generation) => Some(generation),
+        LuceneName::Part(_, _) | LuceneName::Del(_, _) | LuceneName::Sep(_, _, _) => None,
     }
+}
+
+/// The generation of the commit whose name the text is; `None` where it is that of none.
+fn generation_in(text: &str) -> Option<u64>
+    ensures { result ≡ generation_in_text text.now }
+{
+    let name = name_value(text)?;
+    generation_of(name)
 }
 
 /// The generations of all names of commits, as the names stand.

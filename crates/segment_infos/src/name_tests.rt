@@ -1,6 +1,10 @@
 //! Names of files, read and spelled, and those that may be removed.
-use crate::{Kept, LuceneName, generations, name_text, name_value, read, removable, removable_all};
+use crate::{
+    Commit, Kept, LuceneName, generations, name_text, name_value, read, removable, removable_all,
+};
+use lu_prims::{OutOfMemory, crc32};
 use lu_types::FileKind;
+use std::alloc::Global;
 use std::test::Fail;
 
 #[test]
@@ -119,5 +123,165 @@ fn generations_stand_from_the_greatest_down(rt: HostRuntime) -> Result<(), Fail>
     );
     let none = generations(rt.alloc(), &[])?;
     assert!(rt; none.is_empty());
+    Ok(())
+}
+
+/// The names, owned.
+fn owned(alloc: Global, names: &[&str]) -> Result<Vec<String>, OutOfMemory> {
+    let mut owned = Vec::new(alloc);
+    for name in names {
+        owned.push(String::from_str(alloc, *name)?)?;
+    }
+    Ok(owned)
+}
+
+/// A commit of these lines, of which there are so many, that ends with its checksum.
+fn commit(alloc: Global, count: u8, lines: &[u8]) -> Result<Commit, Fail> {
+    let mut bytes = Vec::new(alloc);
+    bytes.extend_from_slice(
+        b"\xff\xff\xff\xf7\x00\x00\x00\x00\x00\x00\x00\x01\x00\x00\x00\x09\x00\x00\x00",
+    )?;
+    bytes.push(count)?;
+    bytes.extend_from_slice(lines)?;
+    bytes.extend_from_slice(b"\x00\x00\x00\x00")?;
+    let sum = crc32(bytes.as_slice());
+    bytes.extend_from_slice(b"\x00\x00\x00\x00")?;
+    bytes.extend_from_slice(&sum.to_be_bytes())?;
+    Ok(read(alloc, bytes.as_slice())?)
+}
+
+/// Every file that segment 3, or a shared store of that number, can have, and four of generations.
+const OF_THREE: [&str; 17] = [
+    "_3.cfs", "_3.cfx", "_3.fnm", "_3.fdx", "_3.fdt", "_3.tis", "_3.tii", "_3.frq", "_3.prx",
+    "_3.nrm", "_3.tvx", "_3.tvd", "_3.tvf", "_3_1.del", "_3_2.del", "_3_1.s0", "_3_2.s1",
+];
+
+/// The line of segment `_3`, and which of its files may be removed.
+#[test]
+fn a_line_keeps_the_files_that_it_refers_to(rt: HostRuntime) -> Result<(), Fail> {
+    let lines: [(&[u8], &[&str]); 6] = [
+        (
+            b"\x02_3\x00\x00\x00\x01\xff\xff\xff\xff\xff\xff\xff\xff\xff\xff\xff\xff\x01\xff\xff\xff\xff\xff\x00\x00\x00\x00\x00\x00\x00\x00\x00",
+            &[
+                "_3.cfs", "_3.cfx", "_3_1.del", "_3_2.del", "_3_1.s0", "_3_2.s1",
+            ],
+        ),
+        (
+            b"\x02_3\x00\x00\x00\x01\x00\x00\x00\x00\x00\x00\x00\x02\xff\xff\xff\xff\x01\x00\x00\x00\x02\xff\xff\xff\xff\xff\xff\xff\xff\x00\x00\x00\x00\x00\x00\x00\x02\x01\x00\x00\x00\x00\x01\x00\x00\x00\x00",
+            &[
+                "_3.cfx", "_3.fnm", "_3.fdx", "_3.fdt", "_3.tis", "_3.tii", "_3.frq", "_3.prx",
+                "_3.nrm", "_3.tvx", "_3.tvd", "_3.tvf", "_3_1.del", "_3_1.s0",
+            ],
+        ),
+        (
+            b"\x02_3\x00\x00\x00\x01\x00\x00\x00\x00\x00\x00\x00\x01\x00\x00\x00\x00\x02_2\x00\x01\x00\x00\x00\x01\x00\x00\x00\x00\x00\x00\x00\x01\xff\x00\x00\x00\x00\x01\x00\x00\x00\x00",
+            &[
+                "_3.cfs", "_3.cfx", "_3.fdx", "_3.fdt", "_3.tvx", "_3.tvd", "_3.tvf", "_3_2.del",
+                "_3_2.s1",
+            ],
+        ),
+        (
+            b"\x02_3\x00\x00\x00\x01\xff\xff\xff\xff\xff\xff\xff\xff\x00\x00\x00\x00\x02_3\x01\x01\xff\xff\xff\xff\x01\x00\x00\x00\x00\x01\x00\x00\x00\x00",
+            &[
+                "_3.fnm", "_3.fdx", "_3.fdt", "_3.tis", "_3.tii", "_3.frq", "_3.prx", "_3.nrm",
+                "_3.tvx", "_3.tvd", "_3.tvf", "_3_1.del", "_3_2.del", "_3_1.s0", "_3_2.s1",
+            ],
+        ),
+        (
+            b"\x02_4\x00\x00\x00\x01\xff\xff\xff\xff\xff\xff\xff\xff\x00\x00\x00\x00\x02_3\x00\x01\xff\xff\xff\xff\x01\x00\x00\x00\x00\x01\x00\x00\x00\x00",
+            &[
+                "_3.cfs", "_3.cfx", "_3.fnm", "_3.tis", "_3.tii", "_3.frq", "_3.prx", "_3.nrm",
+                "_3_1.del", "_3_2.del", "_3_1.s0", "_3_2.s1",
+            ],
+        ),
+        (
+            b"\x02_4\x00\x00\x00\x01\x00\x00\x00\x00\x00\x00\x00\x02\x00\x00\x00\x00\x02_3\x01\x01\xff\xff\xff\xff\x01\x00\x00\x00\x00\x01\x00\x00\x00\x00",
+            &[
+                "_3.cfs", "_3.fnm", "_3.fdx", "_3.fdt", "_3.tis", "_3.tii", "_3.frq", "_3.prx",
+                "_3.nrm", "_3.tvx", "_3.tvd", "_3.tvf", "_3_1.del", "_3_2.del", "_3_1.s0",
+                "_3_2.s1",
+            ],
+        ),
+    ];
+    for (line, free) in lines {
+        let names = owned(rt.alloc(), &OF_THREE)?;
+        let commit = commit(rt.alloc(), 1, line)?;
+        let found = removable(rt.alloc(), &names, &commit, 1)?;
+        let free = owned(rt.alloc(), free)?;
+        assert_eq!(rt; found.as_slice(), free.as_slice(), "at {line:?}");
+    }
+    Ok(())
+}
+
+#[test]
+fn commits_that_are_kept_keep_their_files_together(rt: HostRuntime) -> Result<(), Fail> {
+    let own =
+        b"\x02_3\x00\x00\x00\x01\xff\xff\xff\xff\xff\xff\xff\xff\xff\xff\xff\xff\x01\xff\xff\xff\xff\x01\x00\x00\x00\x00\x00\x00\x00\x00\x00";
+    let deleted =
+        b"\x02_3\x00\x00\x00\x01\x00\x00\x00\x00\x00\x00\x00\x02\xff\xff\xff\xff\x01\xff\xff\xff\xff\x01\x00\x00\x00\x00\x00\x00\x00\x00\x00";
+    let older = commit(rt.alloc(), 1, own.as_slice())?;
+    let newer = commit(rt.alloc(), 1, deleted.as_slice())?;
+    let none = commit(rt.alloc(), 0, b"")?;
+    let names = owned(
+        rt.alloc(),
+        &[
+            "segments_4",
+            "_3_2.del",
+            "segments.gen",
+            "_3_1.del",
+            "segments_1",
+            "write.lock",
+            "_3.cfs",
+            "_3.fnm",
+            "segments_2",
+            "_3",
+            "_3_2.del",
+        ],
+    )?;
+    let both = removable_all(
+        rt.alloc(),
+        &names,
+        &[
+            Kept {
+                generation: 4,
+                commit: &newer,
+            },
+            Kept {
+                generation: 2,
+                commit: &older,
+            },
+        ],
+    )?;
+    let free = owned(rt.alloc(), &["_3_1.del", "segments_1", "_3.fnm"])?;
+    assert_eq!(rt; both.as_slice(), free.as_slice());
+    let one = removable(rt.alloc(), &names, &older, 2)?;
+    let free = owned(
+        rt.alloc(),
+        &[
+            "segments_4",
+            "_3_2.del",
+            "_3_1.del",
+            "segments_1",
+            "_3.fnm",
+            "_3_2.del",
+        ],
+    )?;
+    assert_eq!(rt; one.as_slice(), free.as_slice());
+    let empty = removable(rt.alloc(), &names, &none, 1)?;
+    let free = owned(
+        rt.alloc(),
+        &[
+            "segments_4",
+            "_3_2.del",
+            "_3_1.del",
+            "_3.cfs",
+            "_3.fnm",
+            "segments_2",
+            "_3_2.del",
+        ],
+    )?;
+    assert_eq!(rt; empty.as_slice(), free.as_slice());
+    let all = removable_all(rt.alloc(), &names, &[])?;
+    assert_eq!(rt; all.len(), 8);
     Ok(())
 }

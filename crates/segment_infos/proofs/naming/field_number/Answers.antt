@@ -21,10 +21,11 @@ returns-in_default c field small same =
     field-unread c.args.text.now c.in_ok-digits.digits.now c.in_default.field-0 field (split c.args.text.now c.in_ok-digits.digits c.in_ok-digits.ensures.cases) (subst (ParsesUnsigned 32 10 c.in_ok-digits.digits.now) c.in_default.is c.parse.ensures.value.0) small same
 
 pub returns-then-field-lt-FIELD_LIMIT : goal.returns-then-field-lt-FIELD_LIMIT
-returns-then-field-lt-FIELD_LIMIT c =
-    (c.if-field-lt-FIELD_LIMIT.true,
-    field-read c.args.text.now c.in_ok-digits.digits.now c.in-Ok.field (split c.args.text.now c.in_ok-digits.digits c.in_ok-digits.ensures.cases) (c.is_decimal.ensures.0 c.if-not-is_decimal.false)
-    (subst (ParsesUnsigned 32 10 c.in_ok-digits.digits.now) c.in-Ok.is c.parse.ensures.value.0))
+returns-then-field-lt-FIELD_LIMIT c = (
+  c.if-field-lt-FIELD_LIMIT.true,
+  field-read c.args.text.now c.in_ok-digits.digits.now c.in-Ok.field (split c.args.text.now c.in_ok-digits.digits c.in_ok-digits.ensures.cases) (c.is_decimal.ensures.0 c.if-not-is_decimal.false)
+      (subst (ParsesUnsigned 32 10 c.in_ok-digits.digits.now) c.in-Ok.is c.parse.ensures.value.0),
+)
 
 pub returns-else-field-lt-FIELD_LIMIT : goal.returns-else-field-lt-FIELD_LIMIT
 returns-else-field-lt-FIELD_LIMIT c field small same =

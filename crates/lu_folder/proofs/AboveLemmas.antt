@@ -29,5 +29,5 @@ pub below-is : (limit number n : ℕ) → if_below limit number ≡ Some n → I
 below-is limit number n is = by_test (nat_lt number limit) refl is
   where
     by_test : (t : Bool) → nat_lt number limit ≡ t → cond t (Some number) None ≡ Some n → IsBelow limit number n
-    by_test true yes some = record { same = cc; less = grind (arith, nat_tests) }
-    by_test false not none = absurd (cc)
+    by_test true less some = record { same = cc; less = grind (arith, nat_tests) }
+    by_test false more none = absurd (cc)

@@ -1,16 +1,17 @@
 -- What a call that makes a commit keeps, whatever it answers, and what its calls leave one after another.
-use Rattle.std.proofs.Common.{◌≡◌, ◌⊎◌, ℕ, ◌+◌, ◌≤◌, List, [], ◌∷◌, ◌++◌, length, Option, Some, None, Result, Ok, Err, OnOk, OnErr, refl, sym, subst, ap, ◌∙◌, inl, inr, arith, length-append}
+use Rattle.std.proofs.Common.{◌≡◌, ◌⊎◌, ℕ, ◌+◌, ◌≤◌, List, [], ◌∷◌, ◌++◌, length, Option, Some, None, pos, Result, Ok, Err, OnOk, OnErr, refl, sym, subst, ap, ◌∙◌, inl, inr, arith, length-append}
 use Rattle.std.specs.Option.{ForSome, option_map}
-use Rattle.lu_grammar.specs.Meaning.{Reads}
+use Rattle.lu_grammar.specs.Parts.{int64, spelling}
+use Rattle.lu_prims.specs.Checksum.{checksum}
 use Rattle.lu_dir.specs.Files.{Files, contents, with_file, Leaves}
 use Rattle.lu_dir.specs.declared.fail.DirFail.{DirFail}
 use Rattle.lu_dir.proofs.Contents.{contents-with_file-same}
 use Rattle.lu_dir.proofs.Told.{changed-changed}
 use Rattle.lu_dir.proofs.TwoChanges.{with_file-with_file}
-use Rattle.segment_infos.specs.Format.{commit_plan}
 use Rattle.segment_infos.specs.LuceneNames.{IsGenerationNumber}
 use Rattle.segment_infos.specs.Spelling.{commit_bytes, pending, unsealed_bytes}
-use Rattle.segment_infos.specs.Values.{CommitValue}
+use Rattle.segment_infos.specs.Values.{CommitValue, IsCommit}
+use Rattle.segment_infos.proofs.WrittenCommits.{commit-reads}
 use Rattle.lu_folder.specs.ChangeValues.{ChangeValue, commit_name}
 use Rattle.lu_folder.specs.Writing.{with_files, WritesOnly}
 use Rattle.lu_folder.specs.Sealing.{SealLeaves}
@@ -23,22 +24,22 @@ use Rattle.lu_folder.proofs.MadeLemmas.{sealed-kept, sealed-adds, made-adds, mad
 
 -- a commit has its checksum of eight bytes
 pub length-commit_bytes : (commit : CommitValue) → 8 ≤ length (commit_bytes commit)
-length-commit_bytes commit = omega (arith, length-append (unsealed_bytes commit) _)
+length-commit_bytes commit = omega (arith, length-append (unsealed_bytes commit) (spelling int64 (pos (checksum (unsealed_bytes commit)))))
 
-module _ (change : ChangeValue) (old : Files) (valid : IsGenerationNumber change.generation) (good : Reads (commit_plan (commit_bytes change.commit)) (commit_bytes change.commit) change.commit) (fresh : IsFresh change old) where
+module _ (change : ChangeValue) (old : Files) (valid : IsGenerationNumber change.generation) (good : IsCommit change.commit) (fresh : IsFresh change old) where
   -- a commit that was made
   pub made-keeps : (new : Files) → IsMade change old new → AddsOnly change old new × IsNew change old new
-  made-keeps new made = (made-adds change old valid fresh new made, made-new change old valid fresh new made good)
+  made-keeps new made = (made-adds change old valid fresh new made, made-new change old valid fresh new made (commit-reads change.commit good))
 
   -- a commit that was stopped
   pub stopped-keeps : (new : Files) → IsStopped change old new → AddsOnly change old new × AreKept old new × (IsOld old new ⊎ IsNew change old new)
-  stopped-keeps new (inl unmade) = (unmade-adds change old valid fresh new unmade, unmade-kept change old valid fresh new unmade, inl (unmade-old change old valid fresh new unmade good))
+  stopped-keeps new (inl unmade) = (unmade-adds change old valid fresh new unmade, unmade-kept change old valid fresh new unmade, inl (unmade-old change old valid fresh new unmade (commit-reads change.commit good)))
   stopped-keeps new (inr is) =
       subst (λ (files : Files). AddsOnly change old files × AreKept old files × (IsOld old files ⊎ IsNew change old files)) (sym is)
-      (sealed-adds change old valid fresh, sealed-kept change old valid fresh, inr (made-new change old valid fresh (sealed change old) (RemovesOnly-none change.removable (sealed change old)) good))
+      (sealed-adds change old valid fresh, sealed-kept change old valid fresh, inr (made-new change old valid fresh (sealed change old) (RemovesOnly-none change.removable (sealed change old)) (commit-reads change.commit good)))
 
 -- whatever is answered
-pub Keeps-answer : (change : ChangeValue) (answer : Result (Option DirFail) DirFail) (old new : Option Files) → IsGenerationNumber change.generation → Reads (commit_plan (commit_bytes change.commit)) (commit_bytes change.commit) change.commit → ForSome old (λ told. IsFresh change told)
+pub Keeps-answer : (change : ChangeValue) (answer : Result (Option DirFail) DirFail) (old new : Option Files) → IsGenerationNumber change.generation → IsCommit change.commit → ForSome old (λ told. IsFresh change told)
     → OnOk answer (Leaves (IsMade change) old new) → OnErr answer (Leaves (IsStopped change) old new) → Leaves (λ before after. Keeps change answer before after) old new
 Keeps-answer change (Ok behind) old new valid good fresh made stopped told is =
     let then : (now : Files) × (new ≡ Some now) × IsMade change told now = made told is in

@@ -5,3 +5,7 @@ pub mod SweepingLemmas
 pub mod UnmadeLemmas
 pub mod MadeLemmas
 pub mod KeepsLemmas
+pub mod DrawLemmas
+pub mod AboveLemmas
+pub mod DelLemmas
+pub mod ReferredLemmas

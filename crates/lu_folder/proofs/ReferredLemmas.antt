@@ -47,7 +47,8 @@ AreOf-seps numbers number field [] among = AreOf-none numbers
 AreOf-seps numbers number field (generation ∷ generations) among = AreOf-append numbers (sep_names number field generation) (sep_names_from number (field + 1) generations) (one generation) (AreOf-seps numbers number (field + 1) generations among)
   where
     one : (generation : ℤ) → AreOf numbers (sep_names number field generation)
-    one (pos n) = AreOf-one numbers (Sep number n field) number refl among
+    one (pos zero) = AreOf-none numbers
+    one (pos (suc n)) = AreOf-one numbers (Sep number (suc n) field) number refl among
     one (negsuc n) = AreOf-none numbers
 
 AreOf-norms : (numbers : List ℕ) (number : ℕ) (counted : Option (List ℤ)) → Contains numbers number → AreOf numbers (norm_names number counted)

@@ -9,6 +9,10 @@ use Rattle.lu_folder.specs.declared.new_file.NewFile.{NewFile}
 use Rattle.lu_folder.specs.Writing.{with_files, IsBegun, WritesOnly}
 use Rattle.lu_folder.proofs.SameName.{same_name, Contains-only}
 
+-- a file is its name and its bytes
+pub file-same : (file : NewFile) (name bytes : List ℕ) → file.name ≡ name → file.bytes ≡ bytes → file ≡ record { name = name; bytes = bytes }
+file-same file name bytes named holds = ap (λ (n : List ℕ). record { name = n; bytes = file.bytes }) named ∙ ap (λ (b : List ℕ). record { name = name; bytes = b }) holds
+
 pub WritesOnly-none : (written : List NewFile) (files : Files) → WritesOnly written files files
 WritesOnly-none written files name = inl refl
 

@@ -5,3 +5,6 @@ pub mod ChangeValues
 pub mod Changes
 pub mod Commits
 pub mod Keeping
+pub mod Numbers
+pub mod Counting
+pub mod Drawing

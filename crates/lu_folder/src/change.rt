@@ -6,6 +6,7 @@ ghost use Rattle.lu_dir.specs.Files.{Leaves};
 ghost use Rattle.lu_dir.specs.Loading.{texts};
 ghost use Rattle.segment_infos.specs.LuceneNames.{IsGenerationNumber};
 ghost use Rattle.segment_infos.specs.Spelling.{commit_bytes};
+ghost use Rattle.segment_infos.specs.Values.{IsCommit};
 ghost use Rattle.lu_folder.specs.Writing.{with_files};
 ghost use Rattle.lu_folder.specs.Sealing.{HasFailed};
 ghost use Rattle.lu_folder.specs.Changes.{pending_file, written, committed, IsUnmade, IsMade, IsStopped};
@@ -36,11 +37,10 @@ pub struct Change {
 
 impl Model for Change {
     ghost use Rattle.std.specs.Prelude.{◌≡◌};
-    ghost use Rattle.lu_grammar.specs.Meaning.{Reads};
     ghost use Rattle.lu_dir.specs.Loading.{texts};
-    ghost use Rattle.segment_infos.specs.Format.{commit_plan};
     ghost use Rattle.segment_infos.specs.Spelling.{commit_bytes, pending as pending_form};
     ghost use Rattle.segment_infos.specs.LuceneNames.{IsGenerationNumber};
+    ghost use Rattle.segment_infos.specs.Values.{IsCommit};
     ghost use Rattle.lu_folder.specs.ChangeValues.{ChangeValue, commit_name};
 
     ghost Value = { ChangeValue };
@@ -48,7 +48,7 @@ impl Model for Change {
     ghost view = { λ c. record { files = c.files.items; generation = c.generation; commit = c.commit; removable = texts c.removable.items } };
 
     ghost invariant = { λ c. (c.pending.name ≡ commit_name c.generation) × (c.pending.bytes ≡ pending_form (commit_bytes c.commit)) × (c.bytes ≡ commit_bytes c.commit)
-        × IsGenerationNumber c.generation };
+        × IsGenerationNumber c.generation × IsCommit c.commit };
 }
 
 impl Change {
@@ -89,10 +89,17 @@ impl Change {
 
     /// The commit's own file in its pending form.
     fn pending(&self) -> &NewFile
-        ensures own { result.now ≡ pending_file self.now }
-        ensures generation { IsGenerationNumber self.now.generation }
+        ensures { result.now ≡ pending_file self.now }
     {
         &self.pending
+    }
+
+    /// The commit is one, and so is its generation.
+    fn hold_commit(&self)
+        ensures generation { IsGenerationNumber self.now.generation }
+        ensures commit { IsCommit self.now.commit }
+    {
+        let _ = &self.commit;
     }
 
     /// The final bytes of the commit's own file.
@@ -170,5 +177,6 @@ pub fn commit<D: Dir>(
     ensures asked { D.asked dir.new ≡ D.asked dir.old }
     ensures cause { IsCaused (D.faults dir.old) (D.faults dir.new) (HasFailed result) }
 {
+    change.hold_commit();
     make(alloc, dir, change)
 }

@@ -4,12 +4,14 @@
 
 mod change;
 mod new_file;
+mod numbering;
 mod putting;
 mod sealing;
 mod sweeping;
 
 pub use change::{Change, commit};
 pub use new_file::NewFile;
+pub use numbering::{next_del, next_generation, next_segment};
 pub use putting::{put_file, put_files};
 pub use sealing::seal;
 pub use sweeping::sweep;

@@ -3,7 +3,8 @@ ghost use Rattle.std.specs.Prelude.{◌≡◌, ◌≤◌, ◌<◌, ◌^◌, IfSo
 ghost use Rattle.std.specs.List.{flat_map};
 ghost use Rattle.lu_dir.specs.Loading.{texts};
 ghost use Rattle.segment_infos.specs.LuceneNames.{IsName};
-ghost use Rattle.lu_folder.specs.Drawing.{above, line_numbers, next_generation as next_generation_of, next_segment as next_segment_of, next_del as next_del_of};
+ghost use Rattle.lu_folder.specs.Numbers.{above};
+ghost use Rattle.lu_folder.specs.Drawing.{line_numbers, next_generation as next_generation_of, next_segment as next_segment_of, next_del as next_del_of};
 ghost use Rattle.lu_folder.specs.Counting.{number_of as number_counted, number_in as number_counted_in, drawn as number_drawn};
 
 use lu_types::GREATEST_SEGMENT;

@@ -17,13 +17,13 @@ returns-in-Err-clause-stopped g c = Leaves-wider (IsUnmade c.args.change.now) (I
 pub seal-requires-clause-pending : goal.seal-requires-clause-pending
 seal-requires-clause-pending g c =
     pending-there c.args.change.now c.as_str.result.now c.bytes.result.now (g.D.Dir.files c.args.dir.now) (g.D.Dir.files c.write_all.new.dir)
-    (c.as_str.ensures ∙ ap (λ (file : NewFile). file.name) c.pending.ensures.own) c.bytes.ensures c.in-Ok.ensures.written
+    (c.as_str.ensures.same ∙ ap (λ (file : NewFile). file.name) c.pending.ensures) c.bytes.ensures c.in-Ok.ensures.written
 
 pub returns-in-Ok-Some-clause-behind : goal.returns-in-Ok-Some-clause-behind
 returns-in-Ok-Some-clause-behind g c =
     Leaves-changed (sealed c.args.change.now) (IsMade c.args.change.now) (g.D.Dir.files c.args.dir.now) (g.D.Dir.files c.seal.new.dir)
     (sealed-all c.args.change.now c.as_str.result.now c.bytes.result.now (g.D.Dir.files c.args.dir.now) (g.D.Dir.files c.write_all.new.dir) (g.D.Dir.files c.seal.new.dir)
-    (c.as_str.ensures ∙ ap (λ (file : NewFile). file.name) c.pending.ensures.own) c.bytes.ensures c.in-Ok.ensures.written c.in-Ok-Some.ensures.sealed)
+    (c.as_str.ensures.same ∙ ap (λ (file : NewFile). file.name) c.pending.ensures) c.bytes.ensures c.in-Ok.ensures.written c.in-Ok-Some.ensures.sealed)
     (λ files. RemovesOnly-none c.args.change.now.removable (sealed c.args.change.now files))
 
 pub returns-in-Err-seal-clause-stopped : goal.returns-in-Err-seal-clause-stopped
@@ -31,7 +31,7 @@ returns-in-Err-seal-clause-stopped g c =
     Leaves-after (with_files (written c.args.change.now)) (SealLeaves c.as_str.result.now c.bytes.result.now) (IsStopped c.args.change.now) (g.D.Dir.files c.args.dir.now) (g.D.Dir.files c.write_all.new.dir) (g.D.Dir.files c.seal.new.dir)
     c.in-Ok.ensures.written
     (λ old new left. SealLeaves-stopped c.args.change.now old new
-    (subst (λ (name : List ℕ). SealLeaves name (commit_bytes c.args.change.now.commit) (with_files (written c.args.change.now) old) new) (c.as_str.ensures ∙ ap (λ (file : NewFile). file.name) c.pending.ensures.own)
+    (subst (λ (name : List ℕ). SealLeaves name (commit_bytes c.args.change.now.commit) (with_files (written c.args.change.now) old) new) (c.as_str.ensures.same ∙ ap (λ (file : NewFile). file.name) c.pending.ensures)
     (subst (λ (bytes : List ℕ). SealLeaves c.as_str.result.now bytes (with_files (written c.args.change.now) old) new) c.bytes.ensures left)))
     c.in-Err-seal.ensures.left
 
@@ -39,7 +39,7 @@ pub returns-in-Ok-sweep-clause-made : goal.returns-in-Ok-sweep-clause-made
 returns-in-Ok-sweep-clause-made g c ok =
     changed-changed (sealed c.args.change.now) (without_files (texts c.removable.result.now)) (committed c.args.change.now) (g.D.Dir.files c.args.dir.now) (g.D.Dir.files c.seal.new.dir) (g.D.Dir.files c.sweep.new.dir)
     (sealed-all c.args.change.now c.as_str.result.now c.bytes.result.now (g.D.Dir.files c.args.dir.now) (g.D.Dir.files c.write_all.new.dir) (g.D.Dir.files c.seal.new.dir)
-    (c.as_str.ensures ∙ ap (λ (file : NewFile). file.name) c.pending.ensures.own) c.bytes.ensures c.in-Ok.ensures.written c.in-Ok-None.ensures.sealed)
+    (c.as_str.ensures.same ∙ ap (λ (file : NewFile). file.name) c.pending.ensures) c.bytes.ensures c.in-Ok.ensures.written c.in-Ok-None.ensures.sealed)
     c.in-Ok-sweep.ensures.removed
     (λ files. ap (λ (names : List (List ℕ)). without_files names (sealed c.args.change.now files)) c.removable.ensures)
 
@@ -47,7 +47,7 @@ pub returns-in-Ok-sweep-clause-behind : goal.returns-in-Ok-sweep-clause-behind
 returns-in-Ok-sweep-clause-behind g c =
     Leaves-after (sealed c.args.change.now) (RemovesOnly (texts c.removable.result.now)) (IsMade c.args.change.now) (g.D.Dir.files c.args.dir.now) (g.D.Dir.files c.seal.new.dir) (g.D.Dir.files c.sweep.new.dir)
     (sealed-all c.args.change.now c.as_str.result.now c.bytes.result.now (g.D.Dir.files c.args.dir.now) (g.D.Dir.files c.write_all.new.dir) (g.D.Dir.files c.seal.new.dir)
-    (c.as_str.ensures ∙ ap (λ (file : NewFile). file.name) c.pending.ensures.own) c.bytes.ensures c.in-Ok.ensures.written c.in-Ok-None.ensures.sealed)
+    (c.as_str.ensures.same ∙ ap (λ (file : NewFile). file.name) c.pending.ensures) c.bytes.ensures c.in-Ok.ensures.written c.in-Ok-None.ensures.sealed)
     (λ old new left. subst (λ (names : List (List ℕ)). RemovesOnly names (sealed c.args.change.now old) new) c.removable.ensures left)
     c.sweep.ensures.left
 
@@ -55,7 +55,7 @@ pub returns-in-Err-sweep-clause-behind : goal.returns-in-Err-sweep-clause-behind
 returns-in-Err-sweep-clause-behind g c =
     Leaves-after (sealed c.args.change.now) (RemovesOnly (texts c.removable.result.now)) (IsMade c.args.change.now) (g.D.Dir.files c.args.dir.now) (g.D.Dir.files c.seal.new.dir) (g.D.Dir.files c.sweep.new.dir)
     (sealed-all c.args.change.now c.as_str.result.now c.bytes.result.now (g.D.Dir.files c.args.dir.now) (g.D.Dir.files c.write_all.new.dir) (g.D.Dir.files c.seal.new.dir)
-    (c.as_str.ensures ∙ ap (λ (file : NewFile). file.name) c.pending.ensures.own) c.bytes.ensures c.in-Ok.ensures.written c.in-Ok-None.ensures.sealed)
+    (c.as_str.ensures.same ∙ ap (λ (file : NewFile). file.name) c.pending.ensures) c.bytes.ensures c.in-Ok.ensures.written c.in-Ok-None.ensures.sealed)
     (λ old new left. subst (λ (names : List (List ℕ)). RemovesOnly names (sealed c.args.change.now old) new) c.removable.ensures left)
     c.sweep.ensures.left
 

@@ -18,7 +18,7 @@ returns-in-Ok-put_file-clause-written g c =
     changed-changed (with_files c.files.result.now) (with_file c.pending.result.now.name c.pending.result.now.bytes) (with_files (written c.args.change.now)) (g.D.Dir.files c.args.dir.now) (g.D.Dir.files c.put_files.new.dir) (g.D.Dir.files c.put_file.new.dir)
     c.in-Ok.ensures.made c.in-Ok-put_file.ensures.made
     (λ files.
-    ap (λ (file : NewFile). with_file file.name file.bytes (with_files c.files.result.now files)) c.pending.ensures.own
+    ap (λ (file : NewFile). with_file file.name file.bytes (with_files c.files.result.now files)) c.pending.ensures
     ∙ ap (λ (all : List NewFile). with_file (pending_file c.args.change.now).name (pending_file c.args.change.now).bytes (with_files all files)) c.files.ensures
     ∙ sym (with_files-append c.args.change.now.files (pending_file c.args.change.now ∷ []) files))
 
@@ -30,6 +30,6 @@ returns-in-Err-put_file-clause-left g c =
     WritesOnly-more c.args.change.now.files (pending_file c.args.change.now ∷ []) old (with_files c.args.change.now.files old) new
     (WritesOnly-made c.args.change.now.files old)
     (WritesOnly-create (pending_file c.args.change.now) (with_files c.args.change.now.files old) new
-    (subst (λ (file : NewFile). CreateLeaves file.name file.bytes (with_files c.args.change.now.files old) new) c.pending.ensures.own
+    (subst (λ (file : NewFile). CreateLeaves file.name file.bytes (with_files c.args.change.now.files old) new) c.pending.ensures
     (subst (λ (files : List NewFile). CreateLeaves c.pending.result.now.name c.pending.result.now.bytes (with_files files old) new) c.files.ensures left))))
     c.in-Err-put_file.ensures.left

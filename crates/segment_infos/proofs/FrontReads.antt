@@ -1,5 +1,5 @@
 -- A commit is read record by record.
-use Rattle.std.proofs.Common.{◌≡◌, ℕ, ◌+◌, ◌<◌, ◌≤◌, List, [], ◌∷◌, ◌++◌, length, take, ℤ, Result, Ok, Err, refl, sym, ap, ◌∙◌, arith}
+use Rattle.std.proofs.Common.{◌≡◌, ℕ, ◌<◌, ◌≤◌, List, [], length, take, ℤ, Result, Ok, Err, refl, sym, ap, ◌∙◌, arith}
 use Rattle.std.proofs.lemmas.List.{length-append}
 use Rattle.lu_grammar.specs.RuleNumbers.{trailing}
 use Rattle.lu_grammar.specs.Bytes.{IsBytes, Cursor, start_of}
@@ -22,7 +22,7 @@ use Rattle.segment_infos.specs.declared.record.Line.{Line}
 use Rattle.segment_infos.specs.declared.reading.Unsealed.{Unsealed}
 use Rattle.segment_infos.specs.Numbers.{count_of}
 use Rattle.segment_infos.specs.Values.{CommitValue}
-use Rattle.segment_infos.specs.Records.{CommitRecord, heading, line, user, seal, heading_record, line_record, user_record, seal_record}
+use Rattle.segment_infos.specs.Records.{heading, line, user, seal, heading_record, line_record, user_record, seal_record}
 use Rattle.segment_infos.specs.Format.{of_heading, of_line, of_user, of_seal, lines_kind, commit_of, user_plan, after_heading, front_plan, seal_plan, commit_plan}
 use Rattle.lu_types.specs.Judging.{GivesIn, Checks}
 use Rattle.segment_infos.specs.Answers.{GivesOr}

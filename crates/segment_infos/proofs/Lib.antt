@@ -21,3 +21,4 @@ pub mod NameParts
 pub mod Decimals
 pub mod ListedNames
 pub mod NameSets
+pub mod KeptNames

@@ -1,20 +1,17 @@
 -- The parts that a segment is written as are good, and say the segment.
-use Rattle.std.proofs.Common.{◌≡◌, ℕ, ◌+◌, ◌<◌, ◌≤◌, ℤ, pos, negsuc, Bool, true, false, not, eqb, ltb, cond, List, [], ◌∷◌, ◌++◌, length, All, Option, Some, None, refl, sym, ap, ◌∙◌, arith}
+use Rattle.std.proofs.Common.{◌≡◌, ℕ, ◌+◌, ◌≤◌, ℤ, pos, negsuc, Bool, true, false, not, eqb, ltb, cond, List, [], ◌∷◌, ◌++◌, Option, Some, None, refl, ap, ◌∙◌, arith}
 use Rattle.std.specs.Prelude.{is_none, unwrap_or}
 use Rattle.std.specs.Option.{option_or}
-use Rattle.std.specs.List.{list_any}
 use Rattle.std.proofs.lemmas.Bool.{le-ltb, eq-eqb, ne_eqb}
 use Rattle.std.proofs.lemmas.List.Folds.{list_any_none}
 use Rattle.lu_grammar.specs.Records.{Condition, first_broken}
 use Rattle.lu_types.specs.RuleNumbers as rules
 use Rattle.lu_types.specs.declared.stored.SharedStore.{SharedStore}
-use Rattle.lu_types.specs.Names.{greatest_segment, segment_name}
-use Rattle.segment_infos.specs.declared.infos.MapPair.{MapPair}
 use Rattle.segment_infos.specs.declared.infos.SegInfo.{SegInfo}
 use Rattle.segment_infos.specs.declared.record.TheConstants.{MOST_DOCUMENTS, PACKED, NOT_PACKED}
-use Rattle.segment_infos.specs.Numbers.{is_negative, is_below_none, is_no_generation, count_of, given, number_or_none, number_in}
+use Rattle.segment_infos.specs.Numbers.{is_below_none, is_no_generation, given, number_or_none}
 use Rattle.segment_infos.specs.Values.{IsGeneration, IsStore, IsNormGen, AreNormGens, AreDeleted, IsLine, total_size}
-use Rattle.segment_infos.specs.Conditions.{rule, has_number, is_twice, is_no_size, has_other_store, has_other_flag, name_conditions, size_conditions, store_conditions, norm_conditions, is_no_flag, is_no_deletion, flag_conditions, map_conditions, line_conditions}
+use Rattle.segment_infos.specs.Conditions.{rule, has_number, is_twice, has_other_store, has_other_flag, name_conditions, size_conditions, store_conditions, norm_conditions, is_no_flag, is_no_deletion, flag_conditions, map_conditions, line_conditions}
 use Rattle.segment_infos.specs.Format.{store_of, norm_gens_of, segment_of}
 use Rattle.segment_infos.proofs.NumberIn.{number_in-segment_name}
 use Rattle.segment_infos.proofs.Judged.{first_broken-append}

@@ -1,8 +1,5 @@
 -- The parts that a segment is written as.
-use Rattle.std.proofs.Common.{rules, get_or, ◌≡◌, ℕ, zero, suc, ◌+◌, ◌<◌, ◌≤◌, ◌^◌, ℤ, pos, negsuc, Bool, true, false, not, eqb, ltb, cond, List, [], ◌∷◌, ◌++◌, length, flat_map, All, Option, Some, None, refl, sym, ap, subst, ◌∙◌, arith, FitsSigned, w32, w64, inl, inr}
-use Rattle.std.specs.Prelude.{is_none, unwrap_or}
-use Rattle.std.specs.Option.{option_or}
-use Rattle.std.specs.List.{list_any}
+use Rattle.std.proofs.Common.{rules, get_or, ℕ, zero, suc, ◌<◌, ◌≤◌, ℤ, pos, negsuc, Bool, true, false, not, eqb, cond, List, [], ◌∷◌, ◌++◌, length, flat_map, Option, Some, None, refl, sym, arith, FitsSigned, w32, w64, inl, inr}
 use Rattle.std.specs.Prelude.{slice_index}
 use Rattle.std.specs.Char.{digit_char}
 use Rattle.std.specs.Int.Digits.{digits_of}
@@ -11,13 +8,11 @@ use Rattle.std.proofs.lemmas.Str.{IsUtf8-from_ascii}
 use Rattle.std.proofs.lemmas.Int.Digits.{length-digits_of-le}
 use Rattle.lu_prims.specs.Base36.{base36, IsPlainByte}
 use Rattle.lu_prims.proofs.Base36Lemmas.{spelled_plain}
-use Rattle.std.proofs.lemmas.Bool.{cases_Bool, le-ltb, ne_eqb}
+use Rattle.std.proofs.lemmas.Bool.{cases_Bool}
 use Rattle.std.proofs.lemmas.List.{append-nil, length-map}
-use Rattle.std.proofs.lemmas.List.Folds.{list_any_none}
 use Rattle.lu_grammar.specs.Parts.{byte, int32, int64, text, IsValue, spelling}
 use Rattle.lu_grammar.specs.Records.{Shape, whole, part, followed, Condition, Spells, first_broken}
 use Rattle.lu_grammar.proofs.Records.{Spells-followed}
-use Rattle.lu_types.specs.RuleNumbers as rules
 use Rattle.lu_types.specs.declared.stored.SharedStore.{SharedStore}
 use Rattle.lu_types.specs.Names.{greatest_segment, segment_name}
 use Rattle.segment_infos.specs.declared.infos.MapPair.{MapPair}
@@ -29,15 +24,11 @@ use Rattle.segment_infos.specs.declared.record.NormPart.{NormPart}
 use Rattle.segment_infos.specs.declared.record.FlagPart.{FlagPart}
 use Rattle.segment_infos.specs.declared.record.MapPart.{MapPart}
 use Rattle.segment_infos.specs.declared.record.Line.{Line}
-use Rattle.segment_infos.specs.Numbers.{is_negative, is_below_none, is_none_number, is_no_generation, count_of, given, number_or_none, number_in}
-use Rattle.segment_infos.specs.Values.{IsPair, IsMap, IsGeneration, IsStore, IsNormGen, AreNormGens, AreDeleted, IsLine, total_size}
-use Rattle.segment_infos.specs.Records.{many, store_shape, store_if, front_shape, gen_shape, norm_shape, flag_shape, pair_shape, map_shape, line_shape}
-use Rattle.segment_infos.specs.Conditions.{rule, has_number, is_twice, is_no_size, has_other_store, has_other_flag, name_conditions, size_conditions, store_conditions, norm_conditions, is_no_flag, is_no_deletion, flag_conditions, map_conditions, line_conditions}
-use Rattle.segment_infos.specs.Format.{store_of, norm_gens_of, segment_of}
+use Rattle.segment_infos.specs.Numbers.{is_none_number, number_or_none}
+use Rattle.segment_infos.specs.Values.{IsPair, IsMap, IsGeneration, IsStore, IsNormGen, AreNormGens, AreDeleted, IsLine}
+use Rattle.segment_infos.specs.Records.{many, store_if, front_shape, gen_shape, norm_shape, flag_shape, pair_shape, map_shape, line_shape}
 use Rattle.segment_infos.specs.Spelling.{pair_bytes, map_bytes, store_bytes, gens_bytes, front_bytes, flag_bytes, line_bytes}
-use Rattle.segment_infos.proofs.NumberIn.{number_in-segment_name}
-use Rattle.segment_infos.proofs.Judged.{first_broken-append}
-use Rattle.segment_infos.proofs.LineReads.{with_gens, with_pairs, after_front, after_norms, after_flags, with_map}
+use Rattle.segment_infos.proofs.LineReads.{after_front, after_norms, after_flags}
 use Rattle.segment_infos.proofs.WrittenPlans.{wrapped-spells, many-spells}
 
 -- ---- the parts

@@ -1,5 +1,5 @@
 -- A segment is read piece by piece.
-use Rattle.std.proofs.Common.{◌≡◌, ℕ, ℤ, List, Result, Ok, Err, refl, sym, ap, subst, ◌∙◌}
+use Rattle.std.proofs.Common.{◌≡◌, ℕ, ℤ, List, Ok, Err, subst, ◌∙◌}
 use Rattle.lu_grammar.specs.declared.bad.Bad.{Bad}
 use Rattle.lu_grammar.specs.Bytes.{Cursor}
 use Rattle.lu_grammar.specs.Parts.{byte, int32}

@@ -1,17 +1,17 @@
 -- The parts that the name of a file of a segment is read from.
-use Rattle.std.proofs.Common.{◌≡◌, ◌≢◌, ◌⊎◌, ℕ, zero, suc, ◌^◌, ◌<◌, ◌≤◌, List, [], ◌∷◌, ◌++◌, get_or, length, Option, Some, None, codes, refl, sym, ap, subst, ◌∙◌, arith, append_assoc, inl, inr}
-use Rattle.std.specs.Prelude.{decimal, MatchOption}
+use Rattle.std.proofs.Common.{◌≡◌, ◌≢◌, ℕ, ◌^◌, ◌<◌, ◌≤◌, List, ◌∷◌, ◌++◌, get_or, Option, Some, None, codes, refl, sym, ap, subst, ◌∙◌, arith, append_assoc}
+use Rattle.std.specs.Prelude.{MatchOption}
 use Rattle.lu_prims.specs.Base36.{base36}
 use Rattle.lu_types.specs.declared.kind.FileKind.{FileKind}
 use Rattle.lu_types.specs.declared.kind.FileKind.TheVariants as kinds
 use Rattle.lu_types.specs.Kinds.{extension}
-use Rattle.lu_types.specs.Names.{greatest_segment, segment_name, part_name, IsPart}
+use Rattle.lu_types.specs.Names.{greatest_segment, segment_name, IsPart}
 use Rattle.segment_infos.specs.declared.naming.LuceneName.{LuceneName}
 use Rattle.segment_infos.specs.declared.naming.LuceneName.TheVariants.{Commit, Part, Del, Sep}
 use Rattle.segment_infos.specs.LuceneNames.{IsGenerationNumber, IsName, with_generation, name_spelling, Spells, IsLuceneName}
 use Rattle.segment_infos.specs.Parsing.{HasNeither, file_text, generation_text, TellsName, IsFile}
 use Rattle.segment_infos.proofs.Cuts.{IsNoneOf, IsNoneOf-left, IsNoneOf-right, IsNoneOf-rest, IsNoneOf-append, cut-front, cut-rest, no-cut}
-use Rattle.segment_infos.proofs.NameSpelled.{underscored, base36-no_dot, base36-no_line, part_name-cut, segment_stem-no_dot, generation_stem-no_dot}
+use Rattle.segment_infos.proofs.NameSpelled.{underscored, base36-no_line, part_name-cut, segment_stem-no_dot, generation_stem-no_dot}
 
 -- a stem after its `_` and an extension are those of the name
 abbrev pub AreOf : List ℕ → List ℕ → LuceneName → Type 0

@@ -1,10 +1,8 @@
 -- The name that a text spells: each spelling is that of one name.
-use Rattle.std.proofs.Common.{◌≡◌, ◌≢◌, ◌⊎◌, ℕ, ◌^◌, ◌<◌, ◌≤◌, Bool, true, false, eqb, ltb, leb, ◌&&◌, List, [], ◌∷◌, ◌++◌, drop, get_or, length, Option, Some, None, codes, refl, sym, ap, subst, ◌∙◌, arith, append_assoc, inl, inr, bytes_eq, zero, suc}
+use Rattle.std.proofs.Common.{◌≡◌, ◌≢◌, ◌⊎◌, ℕ, ◌^◌, Bool, true, false, eqb, ltb, leb, ◌&&◌, List, [], ◌∷◌, ◌++◌, get_or, Option, Some, None, codes, refl, sym, ap, subst, ◌∙◌, arith, append_assoc, inl, inr, bytes_eq}
 use borrow.Author.Tests.{lt-ltb, ltb-true}
 use Rattle.std.specs.List.{after_first}
-use Rattle.std.specs.Prelude.{is_some, decimal, slice_index}
-use Rattle.std.specs.Int.{IsInRange}
-use Rattle.std.specs.Fmt.{digits}
+use Rattle.std.specs.Prelude.{is_some, decimal}
 use Rattle.std.specs.Str.Parse.{digits_value}
 use Rattle.std.specs.Cmp.Lexicographic.{bytes_decides}
 use Rattle.std.proofs.lemmas.Bool.{cases_Bool, le-leb, leb-true}
@@ -17,7 +15,7 @@ use Rattle.lu_types.specs.Kinds.{extension}
 use Rattle.lu_types.specs.Names.{greatest_segment, segment_name, part_name, IsPart}
 use Rattle.segment_infos.specs.declared.naming.LuceneName.{LuceneName}
 use Rattle.segment_infos.specs.declared.naming.LuceneName.TheVariants.{Commit, Part, Del, Sep}
-use Rattle.segment_infos.specs.LuceneNames.{IsGenerationNumber, IsName, with_generation, name_spelling, Spells, part_kinds, kind_of, is_generation_number, is_name, segment_digits, generation_digits, file_candidate, generation_candidate, candidate, if_spelled_by, name_in}
+use Rattle.segment_infos.specs.LuceneNames.{IsGenerationNumber, IsName, with_generation, name_spelling, Spells, kind_of, is_generation_number, is_name, segment_digits, generation_digits, file_candidate, candidate, if_spelled_by, name_in}
 use Rattle.segment_infos.specs.Parsing.{TellsName}
 use Rattle.segment_infos.specs.Keeping.{HasOwnSpelling}
 use Rattle.segment_infos.proofs.Cuts.{IsNoneOf, IsNoneOf-cons, IsNoneOf-append, before-cut, after-cut}

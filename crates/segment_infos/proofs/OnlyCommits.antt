@@ -1,6 +1,5 @@
 -- Bytes that read as a commit are its spelling, and it is one.
-use Rattle.std.proofs.Common.{◌≡◌, ◌≢◌, ℕ, zero, suc, ◌+◌, ◌<◌, ◌≤◌, ◌^◌, ℤ, pos, negsuc, Bool, true, false, not, eqb, List, [], ◌∷◌, ◌++◌, length, flat_map, get_or, take, All, Option, None, refl, sym, ap, subst, ◌∙◌, append_assoc, arith, FitsSigned, w32, w64}
-use Rattle.std.specs.Prelude.{unwrap_or}
+use Rattle.std.proofs.Common.{◌≡◌, ◌≢◌, ℕ, zero, suc, ◌+◌, ◌<◌, ◌≤◌, ◌^◌, ℤ, pos, negsuc, Bool, true, false, not, eqb, List, [], ◌∷◌, ◌++◌, length, flat_map, get_or, None, refl, sym, ap, subst, ◌∙◌, append_assoc, arith, FitsSigned, w32, w64}
 use Rattle.std.specs.Ordering.{int_eq}
 use mathlib.Core.Bool.{true≢false}
 use Rattle.std.proofs.lemmas.Bool.{eqb-false}
@@ -11,21 +10,19 @@ use Rattle.std.proofs.lemmas.List.Quantifiers.{all_pairs_push}
 use Rattle.std.proofs.lemmas.List.Sums.{sum_by_push}
 use Rattle.lu_grammar.specs.Parts.{byte, int32, int64, spelling}
 use Rattle.lu_grammar.specs.Records.{whole, Spells, first_broken}
-use Rattle.lu_grammar.specs.Plans.{Plan, done, due, and_then, each, times}
-use Rattle.lu_grammar.specs.Meaning.{Spelled, bytes_of, AreGood, due_after, Reads}
-use Rattle.lu_prims.specs.Checksum.{checksum}
+use Rattle.lu_grammar.specs.Plans.{Plan, done, due, each, times}
+use Rattle.lu_grammar.specs.Meaning.{Spelled, bytes_of, AreGood, due_after}
 use Rattle.lu_types.specs.RuleNumbers as rules
 use Rattle.segment_infos.specs.declared.infos.SegInfo.{SegInfo}
 use Rattle.segment_infos.specs.declared.record.TheConstants.{FORMAT_NUMBER, MOST_DOCUMENTS}
 use Rattle.segment_infos.specs.declared.record.Heading.{Heading}
-use Rattle.segment_infos.specs.declared.record.MapPart.{MapPart}
 use Rattle.segment_infos.specs.declared.record.Line.{Line}
-use Rattle.segment_infos.specs.Numbers.{is_negative, count_of, number_in}
-use Rattle.segment_infos.specs.Values.{CommitValue, IsMap, IsLine, AreLines, IsCommit, total_size}
-use Rattle.segment_infos.specs.Records.{CommitRecord, heading, line, user, seal, heading_shape, front_shape, norm_shape, flag_shape, map_shape, line_shape, heading_record, line_record, user_record, seal_record}
-use Rattle.segment_infos.specs.Conditions.{rule, has_number, heading_conditions, line_conditions, map_conditions, seal_conditions}
-use Rattle.segment_infos.specs.Format.{segment_of, of_heading, of_line, of_user, of_seal, with_line, lines_kind, commit_of, user_plan, after_heading, front_plan, seal_plan, commit_plan}
-use Rattle.segment_infos.specs.Spelling.{front_bytes, gens_bytes, flag_bytes, line_bytes, map_bytes, heading_bytes, unsealed_bytes, commit_bytes}
+use Rattle.segment_infos.specs.Numbers.{is_negative, count_of}
+use Rattle.segment_infos.specs.Values.{IsLine, AreLines, total_size}
+use Rattle.segment_infos.specs.Records.{CommitRecord, line, heading_shape, front_shape, norm_shape, flag_shape, map_shape, line_shape, line_record}
+use Rattle.segment_infos.specs.Conditions.{rule, has_number, heading_conditions, line_conditions}
+use Rattle.segment_infos.specs.Format.{segment_of, of_line, with_line, lines_kind}
+use Rattle.segment_infos.specs.Spelling.{front_bytes, gens_bytes, flag_bytes, line_bytes, map_bytes}
 use Rattle.segment_infos.proofs.SpelledPieces.{followed-spelled}
 use Rattle.segment_infos.proofs.LineReads.{after_front, after_norms, after_flags, with_map}
 use Rattle.segment_infos.proofs.GoodLines.{not_first, line-unbroken, segment_of-new, segment_of-room}

@@ -1,5 +1,5 @@
 -- The records of a commit, one after another.
-use Rattle.std.proofs.Common.{◌≡◌, ℕ, zero, suc, ◌+◌, ◌<◌, ◌^◌, ℤ, pos, Bool, true, false, not, List, [], ◌∷◌, ◌++◌, length, flat_map, take, All, None, refl, sym, ap, subst, ◌∙◌, append_assoc, arith}
+use Rattle.std.proofs.Common.{◌≡◌, ℕ, ◌+◌, ◌<◌, ◌^◌, pos, not, List, [], ◌∷◌, ◌++◌, length, flat_map, take, None, refl, sym, ap, subst, ◌∙◌, append_assoc, arith}
 use Rattle.std.specs.Ordering.{int_eq}
 use mathlib.Core.Bool.{true≢false}
 use Rattle.std.proofs.lemmas.List.{append-nil, length-append, take_at}
@@ -14,8 +14,8 @@ use Rattle.segment_infos.specs.declared.record.TheConstants.{FORMAT_NUMBER}
 use Rattle.segment_infos.specs.declared.record.Heading.{Heading}
 use Rattle.segment_infos.specs.Numbers.{is_negative, count_of}
 use Rattle.segment_infos.specs.Values.{CommitValue, IsMap, AreLines, IsCommit}
-use Rattle.segment_infos.specs.Records.{CommitRecord, heading, user, seal, heading_shape, map_shape, heading_record, user_record, seal_record}
-use Rattle.segment_infos.specs.Conditions.{rule, heading_conditions, map_conditions}
+use Rattle.segment_infos.specs.Records.{CommitRecord, heading, user, seal, heading_shape, map_shape, seal_record}
+use Rattle.segment_infos.specs.Conditions.{heading_conditions, map_conditions}
 use Rattle.segment_infos.specs.Format.{of_heading, of_user, of_seal, lines_kind, commit_of, user_plan, after_heading, front_plan, seal_plan, commit_plan}
 use Rattle.segment_infos.specs.Spelling.{line_bytes, map_bytes, heading_bytes, unsealed_bytes, commit_bytes}
 use Rattle.segment_infos.proofs.SpelledPieces.{followed-spelled}

@@ -1,12 +1,11 @@
 -- The first parts of a good segment are those of what it says.
-use Rattle.std.proofs.Common.{◌≡◌, ℕ, zero, suc, ◌+◌, ◌<◌, ◌≤◌, ◌^◌, ℤ, pos, negsuc, Bool, true, false, not, eqb, ltb, cond, List, [], ◌∷◌, ◌++◌, Option, Some, None, refl, sym, ap, subst, ◌∙◌, arith, inl, inr, FitsSigned, w32, w64}
-use Rattle.std.specs.Prelude.{is_none, unwrap_or, ◌||◌}
+use Rattle.std.proofs.Common.{◌≡◌, ℕ, ◌+◌, ◌≤◌, ℤ, pos, negsuc, Bool, true, false, not, eqb, ltb, cond, List, [], ◌∷◌, ◌++◌, Option, Some, None, refl, sym, ap, subst, ◌∙◌, arith, inl, inr, FitsSigned, w32, w64}
+use Rattle.std.specs.Prelude.{is_none, unwrap_or}
 use Rattle.std.proofs.lemmas.Bool.{cases_Bool, eqb-true, eqb-false, ltb-false}
 use Rattle.std.proofs.lemmas.List.{append-nil}
-use Rattle.lu_grammar.specs.Parts.{byte, int32, int64, text, IsValue, spelling}
+use Rattle.lu_grammar.specs.Parts.{byte, int32, int64, text, spelling}
 use Rattle.lu_grammar.specs.Records.{whole, Spells, first_broken}
 use Rattle.lu_types.specs.RuleNumbers as rules
-use Rattle.lu_types.specs.declared.stored.SharedStore.{SharedStore}
 use Rattle.lu_types.specs.Names.{greatest_segment, segment_name}
 use Rattle.segment_infos.specs.declared.infos.SegInfo.{SegInfo}
 use Rattle.segment_infos.specs.declared.record.TheConstants.{MOST_DOCUMENTS, PACKED}
@@ -14,7 +13,7 @@ use Rattle.segment_infos.specs.declared.record.StorePart.{StorePart}
 use Rattle.segment_infos.specs.declared.record.FrontPart.{FrontPart}
 use Rattle.segment_infos.specs.Numbers.{is_negative, is_below_none, is_none_number, is_no_generation, count_of, given, number_or_none, number_in}
 use Rattle.segment_infos.specs.Values.{IsGeneration, IsStore, total_size}
-use Rattle.segment_infos.specs.Records.{store_shape, store_if, front_shape}
+use Rattle.segment_infos.specs.Records.{store_if, front_shape}
 use Rattle.segment_infos.specs.Conditions.{rule, is_no_size, has_other_store, has_other_flag, name_conditions, size_conditions, store_conditions}
 use Rattle.segment_infos.specs.Format.{store_of}
 use Rattle.segment_infos.specs.Spelling.{store_bytes}

@@ -1,30 +1,26 @@
 -- The parts of a good segment are those of what it says.
-use Rattle.std.proofs.Common.{◌≡◌, ◌≢◌, ℕ, zero, suc, ◌+◌, ◌<◌, ◌≤◌, ◌^◌, ℤ, pos, negsuc, Bool, true, false, not, eqb, ltb, leb, cond, List, [], ◌∷◌, ◌++◌, length, map, flat_map, get_or, All, Option, Some, None, refl, sym, ap, subst, ◌∙◌, append_assoc, arith, inl, inr, FitsSigned, w32, w64}
-use Rattle.std.specs.Prelude.{is_none, unwrap_or, ◌||◌, ◌&&◌}
+use Rattle.std.proofs.Common.{◌≡◌, ◌≢◌, ℕ, ◌≤◌, ℤ, pos, negsuc, Bool, true, false, not, eqb, ltb, cond, List, [], ◌∷◌, ◌++◌, length, flat_map, get_or, All, None, refl, sym, ap, subst, ◌∙◌, arith, inl, inr, FitsSigned, w32, w64}
+use Rattle.std.specs.Prelude.{◌||◌, ◌&&◌}
 use Rattle.std.specs.List.{list_any}
 use Rattle.std.proofs.lemmas.Bool.{cases_Bool, eqb-true, eqb-false, ltb-false}
 use Rattle.std.proofs.lemmas.List.{append-nil}
-use Rattle.lu_grammar.specs.Parts.{byte, int32, int64, text, IsValue, spelling}
-use Rattle.lu_grammar.specs.Records.{whole, optional, Spells, first_broken}
+use Rattle.lu_grammar.specs.Parts.{byte, int32, int64, text, spelling}
+use Rattle.lu_grammar.specs.Records.{whole, Spells, first_broken}
 use Rattle.lu_types.specs.RuleNumbers as rules
-use Rattle.lu_types.specs.declared.stored.SharedStore.{SharedStore}
-use Rattle.lu_types.specs.Names.{greatest_segment, segment_name}
 use Rattle.segment_infos.specs.declared.infos.MapPair.{MapPair}
-use Rattle.segment_infos.specs.declared.record.TheConstants.{MOST_DOCUMENTS, PACKED, NOT_PACKED}
-use Rattle.segment_infos.specs.declared.record.StorePart.{StorePart}
+use Rattle.segment_infos.specs.declared.record.TheConstants.{PACKED, NOT_PACKED}
 use Rattle.segment_infos.specs.declared.record.FrontPart.{FrontPart}
 use Rattle.segment_infos.specs.declared.record.NormPart.{NormPart}
 use Rattle.segment_infos.specs.declared.record.FlagPart.{FlagPart}
 use Rattle.segment_infos.specs.declared.record.MapPart.{MapPart}
-use Rattle.segment_infos.specs.Numbers.{is_negative, is_below_none, is_none_number, is_no_generation, count_of, given, number_or_none, number_in}
-use Rattle.segment_infos.specs.Values.{IsPair, IsMap, IsGeneration, IsStore, IsNormGen, AreNormGens, AreDeleted}
-use Rattle.segment_infos.specs.Records.{many, store_shape, store_if, front_shape, gen_shape, norm_shape, flag_shape, pair_shape, map_shape}
-use Rattle.segment_infos.specs.Conditions.{rule, is_no_flag, is_no_deletion, has_other_store, has_other_flag, store_conditions, norm_conditions, flag_conditions, map_conditions}
-use Rattle.segment_infos.specs.Format.{store_of, norm_gens_of}
-use Rattle.segment_infos.specs.Spelling.{pair_bytes, map_bytes, store_bytes, gens_bytes}
-use Rattle.segment_infos.proofs.SpelledPieces.{All-cons, followed-spelled, many-are, AreMany}
+use Rattle.segment_infos.specs.Numbers.{is_negative, is_no_generation, count_of, given}
+use Rattle.segment_infos.specs.Values.{IsPair, IsMap, IsNormGen, AreNormGens, AreDeleted}
+use Rattle.segment_infos.specs.Records.{many, gen_shape, norm_shape, flag_shape, pair_shape, map_shape}
+use Rattle.segment_infos.specs.Conditions.{rule, is_no_flag, is_no_deletion, norm_conditions, flag_conditions}
+use Rattle.segment_infos.specs.Format.{norm_gens_of}
+use Rattle.segment_infos.specs.Spelling.{pair_bytes, map_bytes, gens_bytes}
+use Rattle.segment_infos.proofs.SpelledPieces.{All-cons, followed-spelled, many-are}
 use Rattle.segment_infos.proofs.GoodLines.{not_first}
-use Rattle.segment_infos.proofs.NumberIn.{Names-number_in}
 
 -- ---- a Map
 

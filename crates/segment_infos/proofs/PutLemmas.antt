@@ -1,6 +1,6 @@
 -- Lists that are written item by item.
 use Rattle.std.proofs.Common.{◌≡◌, ℕ, zero, suc, ◌+◌, ◌<◌, ◌≤◌, Result, Ok, Err, IfOk, arith, List, [], ◌∷◌, ◌++◌, length, take, get_or, flat_map, refl, sym, ap, ◌∙◌, append_assoc}
-use Rattle.std.proofs.lemmas.List.{take_more, take_all, flat_map_more, append-nil}
+use Rattle.std.proofs.lemmas.List.{take_more, take_all, flat_map_more}
 
 -- one item more behind what was there, a head and the items so far
 pub put-more : {X : Type 0} (spell : X → List ℕ) (old head : List ℕ) (xs : List X) (i : ℕ) (x : X) (now next : List ℕ) → i < length xs → get_or xs i x ≡ x → now ≡ old ++ (head ++ flat_map spell (take i xs)) → next ≡ now ++ spell x

@@ -1,5 +1,5 @@
 -- Worked rows on the definitions.
-use Rattle.std.proofs.Common.{◌≡◌, ℕ, ◌+◌, ◌-◌, Bool, true, false, List, [], ◌∷◌, ◌++◌, Option, Some, None, Result, Ok, Err, refl, take, length, take}
+use Rattle.std.proofs.Common.{◌≡◌, ℕ, true, false, List, [], ◌∷◌, ◌++◌, Some, None, Result, Ok, Err, refl, take, take}
 use Rattle.std.specs.Prelude.{codes, set}
 use Rattle.std.specs.Str.{is_utf8, chars}
 use Rattle.lu_grammar.specs.Parts.{groups}

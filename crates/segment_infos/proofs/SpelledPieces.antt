@@ -1,7 +1,7 @@
 -- What the bytes of a spelled record are.
-use Rattle.std.proofs.Common.{◌≡◌, ℕ, zero, suc, ◌+◌, ◌<◌, List, [], ◌∷◌, ◌++◌, length, map, flat_map, get_or, All, refl, sym, ap, subst, ◌∙◌, append_assoc, arith}
+use Rattle.std.proofs.Common.{◌≡◌, ℕ, zero, suc, List, [], ◌∷◌, ◌++◌, length, map, flat_map, All, refl, sym, ap, subst, ◌∙◌, append_assoc, arith}
 use Rattle.std.proofs.lemmas.List.{append-nil, length-map}
-use Rattle.lu_grammar.specs.Parts.{Part, IsValue, spelling}
+use Rattle.lu_grammar.specs.Parts.{spelling}
 use Rattle.lu_grammar.specs.Records.{Shape, whole, part, followed, repeated, Spells}
 use Rattle.lu_grammar.specs.Meaning.{Spelled, bytes_of}
 use Rattle.lu_grammar.proofs.Records.{AreSpelled}

@@ -1,15 +1,14 @@
 -- What is written is read as exactly this commit; a beginning of it, and its pending form, are not good.
-use Rattle.std.proofs.Common.{◌≡◌, ◌≢◌, ℕ, zero, suc, ◌+◌, ◌-◌, ◌<◌, ◌≤◌, ◌^◌, ℤ, pos, negsuc, Bool, true, false, not, eqb, List, [], ◌∷◌, ◌++◌, length, flat_map, take, drop, get_or, All, AllPairs, None, Ok, refl, sym, ap, subst, ◌∙◌, append_assoc, arith, FitsSigned, w32, w64}
+use Rattle.std.proofs.Common.{◌≡◌, ℕ, zero, suc, ◌+◌, ◌-◌, ◌<◌, ◌≤◌, ◌^◌, ℤ, pos, true, false, eqb, List, [], ◌∷◌, ◌++◌, length, flat_map, take, drop, get_or, None, refl, sym, ap, subst, ◌∙◌, append_assoc, arith, FitsSigned, w32}
 use Rattle.std.specs.Ordering.{int_eq}
-use Rattle.std.specs.List.{list_any}
 use Rattle.std.proofs.lemmas.Bool.{ne_eqb}
 use Rattle.std.proofs.lemmas.Bool.Decides.{Decides-int_eq}
 use Rattle.std.proofs.lemmas.List.{append-nil, length-append, take_at, append_cancel_left, nil_from_length, take-append-drop, length-drop}
 use Rattle.std.proofs.lemmas.List.Folds.{list_any_none}
 use Rattle.std.proofs.lemmas.List.Sums.{sum_by-append}
 use Rattle.lu_grammar.specs.Parts.{int32, int64, spelling}
-use Rattle.lu_grammar.specs.Records.{whole, Spells, first_broken}
-use Rattle.lu_grammar.specs.Plans.{done, due, each, times, read_plan}
+use Rattle.lu_grammar.specs.Records.{Spells, first_broken}
+use Rattle.lu_grammar.specs.Plans.{done, each, times, read_plan}
 use Rattle.lu_grammar.specs.Meaning.{Reads}
 use Rattle.lu_grammar.proofs.Records.{at, same_pair}
 use Rattle.lu_prims.specs.Checksum.{checksum, message}
@@ -18,13 +17,10 @@ use Rattle.lu_prims.proofs.Remainders.{checksum_is}
 use Rattle.segment_infos.specs.declared.infos.SegInfo.{SegInfo}
 use Rattle.segment_infos.specs.declared.record.TheConstants.{FORMAT_NUMBER, MOST_DOCUMENTS}
 use Rattle.segment_infos.specs.declared.record.Heading.{Heading}
-use Rattle.segment_infos.specs.declared.record.Line.{Line}
-use Rattle.segment_infos.specs.declared.record.MapPart.{MapPart}
-use Rattle.segment_infos.specs.Numbers.{count_of}
 use Rattle.segment_infos.specs.Values.{CommitValue, IsLine, AreLines, IsCommit, total_size}
-use Rattle.segment_infos.specs.Records.{CommitRecord, heading, line, user, seal, heading_shape, map_shape, line_shape, heading_record, user_record, seal_record, line_record}
-use Rattle.segment_infos.specs.Conditions.{has_number, heading_conditions, line_conditions}
-use Rattle.segment_infos.specs.Format.{segment_of, of_heading, of_line, of_user, of_seal, with_line, lines_kind, commit_of, user_plan, after_heading, front_plan, seal_plan, commit_plan}
+use Rattle.segment_infos.specs.Records.{heading, line, user, seal, heading_shape, map_shape, line_shape, heading_record, user_record, seal_record, line_record}
+use Rattle.segment_infos.specs.Conditions.{has_number}
+use Rattle.segment_infos.specs.Format.{of_heading, of_line, of_user, of_seal, with_line, lines_kind, commit_of, user_plan, after_heading, front_plan, seal_plan, commit_plan}
 use Rattle.segment_infos.specs.Spelling.{line_bytes, map_bytes, heading_bytes, unsealed_bytes, commit_bytes, pending}
 use Rattle.segment_infos.proofs.LineParts.{map_of, line_of, map-spells, line-spells}
 use Rattle.segment_infos.proofs.LineBack.{line_of-good, segment_of-line_of}

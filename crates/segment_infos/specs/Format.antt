@@ -1,5 +1,5 @@
 -- The file `segments_N`: which record is due, and what they stand for (docs/FORMAT.md, "segments_N").
-use Rattle.std.specs.Prelude.{ℕ, ◌==◌, List, [], ◌∷◌, ◌++◌, take, Option, Some, None, ℤ, is_none, if◌then◌else◌, unwrap_or}
+use Rattle.std.specs.Prelude.{ℕ, ◌==◌, List, [], ◌∷◌, ◌++◌, take, Option, Some, None, ℤ, if◌then◌else◌, unwrap_or}
 use Rattle.lu_types.specs.declared.stored.SharedStore.{SharedStore}
 use Rattle.lu_grammar.specs.Records.{Condition}
 use Rattle.lu_grammar.specs.Plans.{Plan, done, due, and_then, Kind, times}
@@ -8,7 +8,6 @@ use Rattle.segment_infos.specs.declared.record.TheConstants.{PACKED}
 use Rattle.segment_infos.specs.declared.record.Heading.{Heading}
 use Rattle.segment_infos.specs.declared.record.StorePart.{StorePart}
 use Rattle.segment_infos.specs.declared.record.NormPart.{NormPart}
-use Rattle.segment_infos.specs.declared.record.MapPart.{MapPart}
 use Rattle.segment_infos.specs.declared.record.Line.{Line}
 use Rattle.segment_infos.specs.Numbers.{is_negative, count_of, given, number_in}
 use Rattle.segment_infos.specs.Values.{CommitValue}

@@ -1,5 +1,5 @@
 -- Commits that are kept, and the names that they keep, as the code has them.
-use Rattle.std.specs.Prelude.{◌≡◌, ℕ, ◌^◌, ◌<◌, ◌↔◌, Bool, not, ◌&&◌, List, Contains, is_some}
+use Rattle.std.specs.Prelude.{ℕ, ◌^◌, ◌<◌, ◌↔◌, Bool, not, ◌&&◌, List, Contains, is_some}
 use Rattle.lu_types.specs.Names.{IsPart}
 use Rattle.segment_infos.specs.declared.removing.Kept.{Kept}
 use Rattle.segment_infos.specs.declared.naming.LuceneName.{LuceneName}

@@ -185,7 +185,9 @@ fn kept_names(alloc: Global, kept: &[Kept<'_>]) -> Result<Vec<LuceneName>, OutOf
 }
 
 /// Whether the text is a Lucene name that is none of the set.
-fn is_free(kept: &NameSet, text: &str) -> bool {
+fn is_free(kept: &NameSet, text: &str) -> bool
+    ensures { (all : List LuceneName) → All HasOwnSpelling all → HasNames kept.now all → result ≡ is_free_of all text.now }
+{
     match name_value(text) {
         None => false,
         Some(name) => !kept.has(&name),

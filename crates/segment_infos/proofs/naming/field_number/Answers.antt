@@ -1,4 +1,4 @@
-use Rattle.std.proofs.Common.{◌≡◌, ℕ, ◌+◌, List, ◌∷◌, drop, length, Some, None, Bor, MatchOption, subst, sym, ◌∙◌, rules, arith, lit<}
+use Rattle.std.proofs.Common.{◌≡◌, ℕ, ◌+◌, List, ◌∷◌, drop, length, Some, None, Bor, MatchOption, subst, sym, ◌∙◌, lit<}
 use mathlib.Core.Bool.{true≢false}
 use Rattle.std.specs.Str.Parse.{ParsesUnsigned}
 use Rattle.std.specs.Str.Pattern.{FindsCharPrefix}

@@ -1,6 +1,5 @@
-use Rattle.std.proofs.Common.{◌≡◌, ◌≢◌, ℕ, ◌<◌, List, ◌∷◌, ◌++◌, length, get_or, Some, None, lit<, rules}
+use Rattle.std.proofs.Common.{◌≡◌, ◌∷◌, Some, None, lit<}
 use Rattle.std.proofs.lemmas.Str.Pattern.{strip_prefix_char, split_parts}
-use Rattle.segment_infos.proofs.Cuts.{IsNoneOf}
 use Rattle.segment_infos.proofs.NameParts.{file-no_dot, file-no_line, digits-no_dot, neither-of, first-neither, second-no_dot, generation_text-is, file-tells}
 use Rattle.segment_infos.proofs.naming.file_value.Goals as goal
 

@@ -1,5 +1,4 @@
-use Rattle.std.proofs.Common.{◌≡◌, ℕ, sym, ◌∙◌, arith}
-use Rattle.lu_prims.specs.Base36.{base36}
+use Rattle.std.proofs.Common.{◌≡◌, sym, ◌∙◌, arith}
 use Rattle.lu_prims.proofs.Base36Lemmas.{base36_same}
 use Rattle.segment_infos.proofs.naming.generation_number.Goals as goal
 

@@ -1,4 +1,4 @@
-use Rattle.std.proofs.Common.{◌≡◌, true, false, codes, sym, ◌∙◌, rules}
+use Rattle.std.proofs.Common.{◌≡◌, codes, sym, ◌∙◌}
 use mathlib.Core.Bool.{true≢false}
 use Rattle.std.specs.Cmp.Lexicographic.{bytes_decides}
 use Rattle.segment_infos.proofs.NameParts.{generation-no_segment, generation-no_generation, generation-no_field, generation-del}

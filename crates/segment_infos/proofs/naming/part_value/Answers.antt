@@ -1,4 +1,3 @@
-use Rattle.std.proofs.Common.{◌≡◌, rules}
 use Rattle.segment_infos.proofs.NameParts.{part-no_segment, part-no_kind}
 use Rattle.segment_infos.proofs.naming.part_value.Goals as goal
 

@@ -1,4 +1,4 @@
-use Rattle.std.proofs.Common.{◌≡◌, ℕ, sym, ◌∙◌, arith}
+use Rattle.std.proofs.Common.{◌≡◌, sym, ◌∙◌, arith}
 use Rattle.lu_prims.proofs.Base36Lemmas.{base36_same}
 use Rattle.segment_infos.proofs.naming.segment_digits.Goals as goal
 

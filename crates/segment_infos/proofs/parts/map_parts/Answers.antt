@@ -1,4 +1,4 @@
-use Rattle.std.proofs.Common.{rules, ◌≡◌, ℤ, FitsSigned, to_z, of_z, w32, refl, ap, ◌∙◌}
+use Rattle.std.proofs.Common.{rules, ◌≡◌, FitsSigned, to_z, of_z, w32, ap, ◌∙◌}
 use Rattle.std.proofs.lemmas.Int.{to_z-of_z}
 use Rattle.segment_infos.specs.Numbers.{count_of}
 use Rattle.segment_infos.proofs.LineReads.{map-stopped, map-read}

@@ -1,4 +1,4 @@
-use Rattle.std.proofs.Common.{◌≡◌, ◌-◌, ◌≤◌}
+use Rattle.std.proofs.Common.{◌≡◌, ◌-◌}
 use Rattle.lu_grammar.specs.Records.{read_shape}
 use Rattle.segment_infos.specs.Records.{many, pair_shape}
 use Rattle.segment_infos.proofs.Pieces.{more}

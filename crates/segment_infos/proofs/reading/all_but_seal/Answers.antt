@@ -1,4 +1,4 @@
-use Rattle.std.proofs.Common.{rules, ◌≡◌, ℕ, ℤ, [], Err, Ok, refl, ap, subst, sym, ◌∙◌, FitsSigned, to_z, of_z, w32, w64}
+use Rattle.std.proofs.Common.{rules, ◌≡◌, ℕ, Err, refl, ap, subst, sym, ◌∙◌, FitsSigned, w32, w64}
 use Rattle.std.proofs.lemmas.Int.{to_z-of_z}
 use Rattle.lu_grammar.specs.Plans.{read_plan}
 use Rattle.lu_types.specs.declared.fault.CodecFault.{CodecFault}

@@ -1,4 +1,4 @@
-use Rattle.std.proofs.Common.{◌≡◌, ℤ, FitsSigned, to_z, of_z, w64, rules, false, refl, ap, sym, ◌∙◌, Some, None, true}
+use Rattle.std.proofs.Common.{◌≡◌, ℤ, FitsSigned, w64, rules, false, refl, ap, sym, ◌∙◌, Some, None, true}
 use Rattle.lu_types.specs.RuleNumbers as rules
 use Rattle.std.specs.Prelude.{not, pos}
 use Rattle.std.specs.Ordering.{int_eq}

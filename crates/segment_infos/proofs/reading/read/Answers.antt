@@ -1,13 +1,12 @@
-use Rattle.std.proofs.Common.{◌≡◌, ◌≤◌, ◌<◌, ℕ, List, length, take, Ok, Err, refl, ap, subst, sym, ◌∙◌, arith}
-use Rattle.lu_grammar.specs.Bytes.{IsBytes, Cursor, start_of}
+use Rattle.std.proofs.Common.{◌≡◌, ◌≤◌, ℕ, List, length, take, Ok, Err, refl, ap, subst, ◌∙◌, arith}
+use Rattle.lu_grammar.specs.Bytes.{Cursor}
 use Rattle.lu_grammar.specs.Records.{record_at}
 use Rattle.lu_grammar.specs.Plans.{read_plan}
-use Rattle.lu_grammar.specs.Meaning.{Reads}
 use Rattle.lu_types.specs.declared.kind.FileKind.TheVariants.{Commit}
 use Rattle.segment_infos.specs.declared.reading.Unsealed.{Unsealed}
 use Rattle.lu_types.specs.Judging.{GivesIn}
-use Rattle.segment_infos.specs.Records.{seal, seal_record}
-use Rattle.segment_infos.specs.Format.{of_seal, front_plan, commit_plan}
+use Rattle.segment_infos.specs.Records.{seal_record}
+use Rattle.segment_infos.specs.Format.{of_seal, front_plan}
 use Rattle.segment_infos.specs.Unsealed.{unsealed_value, Seals}
 use Rattle.segment_infos.proofs.FrontReads.{within, commit-fails, commit-unsealed, commit-left, commit-read}
 use Rattle.segment_infos.proofs.OnlyFiles.{Reads-IsCommit}

@@ -1,4 +1,4 @@
-use Rattle.std.proofs.Common.{rules, ◌≡◌, ◌++◌, ℤ, pos, get_or, length, FitsSigned, w64, ap, ◌∙◌}
+use Rattle.std.proofs.Common.{rules, ◌++◌, ℤ, pos, get_or, length, FitsSigned, w64, ap, ◌∙◌}
 use Rattle.std.proofs.lemmas.Int.{to_z-of_z}
 use Rattle.lu_grammar.specs.Parts.{int32, int64, spelling}
 use Rattle.segment_infos.proofs.PutLemmas.{put-more, get_or-any}

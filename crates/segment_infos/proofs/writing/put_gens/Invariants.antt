@@ -1,4 +1,4 @@
-use Rattle.std.proofs.Common.{◌≡◌, ◌++◌, [], length, take, flat_map, pos}
+use Rattle.std.proofs.Common.{◌≡◌, ◌++◌, length, take, flat_map, pos}
 use Rattle.lu_grammar.specs.Parts.{int32, int64, spelling}
 use Rattle.segment_infos.proofs.writing.put_gens.Given as goal
 

@@ -1,4 +1,4 @@
-use Rattle.std.proofs.Common.{◌≡◌, ◌++◌, [], length, take, flat_map, pos}
+use Rattle.std.proofs.Common.{◌≡◌, ◌++◌, [], take, flat_map}
 use Rattle.segment_infos.specs.Spelling.{line_bytes}
 use Rattle.segment_infos.proofs.writing.put_lines.Given as goal
 

@@ -1,4 +1,4 @@
-use Rattle.std.proofs.Common.{◌≡◌, ◌++◌, [], length, take, flat_map, pos}
+use Rattle.std.proofs.Common.{◌≡◌, ◌++◌, length, take, flat_map, pos}
 use Rattle.lu_grammar.specs.Parts.{int32, spelling}
 use Rattle.segment_infos.specs.Spelling.{pair_bytes}
 use Rattle.segment_infos.proofs.writing.put_map.Given as goal

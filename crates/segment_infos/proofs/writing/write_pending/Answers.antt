@@ -1,4 +1,4 @@
-use Rattle.std.proofs.Common.{◌≡◌, ℕ, List, [], length, arith, ap, sym, ◌∙◌}
+use Rattle.std.proofs.Common.{◌≡◌, [], arith, ap, sym, ◌∙◌}
 use Rattle.std.proofs.lemmas.List.{nil_from_length, append-nil}
 use Rattle.segment_infos.specs.Spelling.{pending}
 use Rattle.segment_infos.proofs.WrittenCommits.{pending-last}

@@ -9,3 +9,9 @@ pub mod DrawLemmas
 pub mod AboveLemmas
 pub mod DelLemmas
 pub mod ReferredLemmas
+pub mod ListedLemmas
+pub mod LookLemmas
+pub mod ChooseLemmas
+pub mod ReadLemmas
+pub mod FreshLemmas
+pub mod StandingLemmas

@@ -42,3 +42,7 @@ pub record IsNew (change : ChangeValue) (old new : Files) : Type 0 where
 abbrev pub Keeps : ChangeValue → Result (Option DirFail) DirFail → Files → Files → Type 0
 Keeps change (Err fail) old new = AddsOnly change old new × AreKept old new × (IsOld old new ⊎ IsNew change old new)
 Keeps change (Ok behind) old new = AddsOnly change old new × IsNew change old new
+
+-- the file is a new one, whole; or it is as before, there or not
+abbrev pub IsWholeOrSame : ChangeValue → Files → Files → List ℕ → Type 0
+IsWholeOrSame change old new name = ((file : NewFile) × Contains change.files file × (file.name ≡ name) × (contents new file.name ≡ Some file.bytes)) ⊎ (contents new name ≡ contents old name)

@@ -53,7 +53,7 @@ first_too_large-at files names spelled place name same over at =
 
 -- as many spellings as names
 pub spelled-count : (spelled : List (String Global)) (names : List LuceneName) → texts spelled ≡ map name_spelling names → length spelled ≡ length names
-spelled-count spelled names same = sym (length-map string_bytes spelled) ∙ ap length same ∙ length-map name_spelling names
+spelled-count spelled names same = sym (length-map spelled string_bytes) ∙ ap length same ∙ length-map names name_spelling
 
 -- an element at a place
 pub at-place : (names : List LuceneName) (place : ℕ) (name : LuceneName) → place < length names → name ≡ get_or names place name → slice_get names place ≡ Some name

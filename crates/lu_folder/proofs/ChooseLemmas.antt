@@ -152,7 +152,7 @@ IsNoIndex-first answer found many one is =
 pub found-valid : (names : List (List ℕ)) (found : List ℕ) → AreGenerations names found → All IsGenerationNumber found
 found-valid names found are k d within =
     let (text, here, is) : (text : List ℕ) × Contains names text × (generation_in text ≡ Some (get_or found k d)) =
-        Contains-filter_map generation_in names (get_or found k d) (Contains-permutation found (listed_generations names) (get_or found k d) (IsPermutation-sym (listed_generations names) found are.all) (there found k d within)) in
+    Contains-filter_map generation_in names (get_or found k d) (Contains-permutation found (listed_generations names) (get_or found k d) (IsPermutation-sym (listed_generations names) found are.all) (there found k d within)) in
     (generation_in-commit text (get_or found k d) is).0
   where
     same : (xs : List ℕ) (k d : ℕ) → k < length xs → get_or xs k (get_or xs k d) ≡ get_or xs k d

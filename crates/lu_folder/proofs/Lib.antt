@@ -12,6 +12,7 @@ pub mod ReferredLemmas
 pub mod ListedLemmas
 pub mod LookLemmas
 pub mod ChooseLemmas
+pub mod OneAnswer
 pub mod ReadLemmas
 pub mod FreshLemmas
 pub mod StandingLemmas

@@ -207,5 +207,9 @@ read_names-count line is =
     let norms : length (norm_names line.number line.norm_gens) < 2 ^ 31 = norms-count line.number line.norm_gens is.norm_gens in
     let del : length (del_names line.number line.del_gen) ≤ 1 = del-count line.number line.del_gen in
     let back : length (parts_read line vector_kinds) ≤ 3 = parts-count line vector_kinds in
-    omega (arith, length-append (parts_read line front_kinds) (norm_names line.number line.norm_gens ++ (del_names line.number line.del_gen ++ parts_read line vector_kinds)),
-    length-append (norm_names line.number line.norm_gens) (del_names line.number line.del_gen ++ parts_read line vector_kinds), length-append (del_names line.number line.del_gen) (parts_read line vector_kinds))
+    omega (
+      arith,
+      length-append (parts_read line front_kinds) (norm_names line.number line.norm_gens ++ (del_names line.number line.del_gen ++ parts_read line vector_kinds)),
+      length-append (norm_names line.number line.norm_gens) (del_names line.number line.del_gen ++ parts_read line vector_kinds),
+      length-append (del_names line.number line.del_gen) (parts_read line vector_kinds),
+    )

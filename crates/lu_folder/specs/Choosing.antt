@@ -35,20 +35,28 @@ pub record IsPassed (files : Files) (generation : ℕ) : Type 0 where
 
 -- what is answered where the current commit is looked for
 abbrev pub AnswersCurrent : Files → Result Chosen FolderFault → Type 0
-AnswersCurrent files (Ok chosen) = IsCurrent files chosen.generation chosen.commit × ((later : ℕ) → chosen.generation ≤ later → IsThere files later → is_too_large files later ≡ false)
+AnswersCurrent files (Ok chosen) =
+    IsCurrent files chosen.generation chosen.commit
+    × ((later : ℕ) → chosen.generation ≤ later → IsThere files later → is_too_large files later ≡ false)
 AnswersCurrent files (Err NoIndex) = (generation : ℕ) → ¬ IsThere files generation
-AnswersCurrent files (Err (FileTooLarge kind)) = (kind ≡ kinds.Commit)
-    × ((generation : ℕ) × IsThere files generation × (is_too_large files generation ≡ true) × ((later : ℕ) → generation < later → IsThere files later → IsPassed files later))
-AnswersCurrent files (Err (NotStanding generation fault)) = IsNewest files generation × HasFault files generation fault × ((other : ℕ) → IsThere files other → IsPassed files other)
+AnswersCurrent files (Err (FileTooLarge kind)) =
+    (kind ≡ kinds.Commit)
+    × ((generation : ℕ) × IsThere files generation × (is_too_large files generation ≡ true)
+    × ((later : ℕ) → generation < later → IsThere files later → IsPassed files later))
+AnswersCurrent files (Err (NotStanding generation fault)) =
+    IsNewest files generation × HasFault files generation fault × ((other : ℕ) → IsThere files other → IsPassed files other)
 AnswersCurrent files (Err Failed) = Unit {0}
 AnswersCurrent files (Err OutOfMemory) = Unit {0}
 
 -- what is answered where the newest commit is looked for
 abbrev pub AnswersNewest : Files → Result Chosen FolderFault → Type 0
-AnswersNewest files (Ok chosen) = IsNewest files chosen.generation × IsGood files chosen.generation chosen.commit × (is_too_large files chosen.generation ≡ false)
+AnswersNewest files (Ok chosen) =
+    IsNewest files chosen.generation × IsGood files chosen.generation chosen.commit × (is_too_large files chosen.generation ≡ false)
 AnswersNewest files (Err NoIndex) = (generation : ℕ) → ¬ IsThere files generation
-AnswersNewest files (Err (FileTooLarge kind)) = (kind ≡ kinds.Commit) × ((generation : ℕ) × IsNewest files generation × (is_too_large files generation ≡ true))
-AnswersNewest files (Err (NotStanding generation fault)) = IsNewest files generation × HasFault files generation fault × IsPassed files generation
+AnswersNewest files (Err (FileTooLarge kind)) =
+    (kind ≡ kinds.Commit) × ((generation : ℕ) × IsNewest files generation × (is_too_large files generation ≡ true))
+AnswersNewest files (Err (NotStanding generation fault)) =
+    IsNewest files generation × HasFault files generation fault × IsPassed files generation
 AnswersNewest files (Err Failed) = Unit {0}
 AnswersNewest files (Err OutOfMemory) = Unit {0}
 
@@ -60,3 +68,12 @@ IsNoIndex (Err (FileTooLarge kind)) generations = ¬ (generations ≡ [])
 IsNoIndex (Err (NotStanding generation fault)) generations = ¬ (generations ≡ [])
 IsNoIndex (Err Failed) generations = ¬ (generations ≡ [])
 IsNoIndex (Err OutOfMemory) generations = Unit {0}
+
+-- the answer is one that the files decide: neither a failure of the device nor want of memory
+abbrev pub IsTold : Result Chosen FolderFault → Type 0
+IsTold (Err Failed) = ⊥
+IsTold (Err OutOfMemory) = ⊥
+IsTold (Err NoIndex) = Unit {0}
+IsTold (Err (FileTooLarge kind)) = Unit {0}
+IsTold (Err (NotStanding generation fault)) = Unit {0}
+IsTold (Ok chosen) = Unit {0}

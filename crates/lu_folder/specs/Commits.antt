@@ -1,4 +1,4 @@
--- The good commits of a folder, the current one and the newest.
+-- The good commits of a folder, the current one and the newest (docs/FORMAT.md, "Commits in a folder").
 use Rattle.std.specs.Prelude.{◌≡◌, ◌≢◌, ℕ, ◌<◌, ◌^◌, List, Option, Some, None}
 use Rattle.lu_grammar.specs.Meaning.{Reads}
 use Rattle.lu_dir.specs.Files.{Files, contents}

@@ -1,4 +1,4 @@
--- The numbers that a new commit and its new files draw (docs/FORMAT.md, "Names of files").
+-- The numbers that a new commit and its new files draw (docs/FORMAT.md, "Commits in a folder").
 use Rattle.std.specs.Prelude.{ℕ, ◌+◌, ◌^◌, List, [], ◌∷◌, Option, Some, None, option_and_then, option_to_list}
 use Rattle.std.specs.List.{filter_map, flat_map}
 use Rattle.lu_types.specs.declared.stored.SharedStore.{SharedStore}
@@ -30,9 +30,11 @@ line_numbers line = line.number ∷ store_numbers line.store
 -- the number of the first new segment: at least the name counter of the commit, and above the number of every segment and store of
 -- the commit and of every listed file of a segment; none where no segment may have it
 abbrev pub next_segment : List (List ℕ) → CommitValue → Option ℕ
-next_segment names commit = if_below (greatest_segment + 1) (above (above commit.counter (flat_map line_numbers commit.segments)) (numbers_in segment_of names))
+next_segment names commit =
+    if_below (greatest_segment + 1) (above (above commit.counter (flat_map line_numbers commit.segments)) (numbers_in segment_of names))
 
 -- the generation of a new file of deleted documents of the segment: above that of its line and all listed ones of the segment, and
 -- at least 1; none where that is no generation
 abbrev pub next_del : List (List ℕ) → SegInfo → Option ℕ
-next_del names line = if_below (2 ^ 63) (above (above 1 (option_to_list line.del_gen)) (numbers_in (del_generation_of line.number) names))
+next_del names line =
+    if_below (2 ^ 63) (above (above 1 (option_to_list line.del_gen)) (numbers_in (del_generation_of line.number) names))

@@ -14,7 +14,8 @@ pub record IsFresh (change : ChangeValue) (files : Files) : Type 0 where
   pub absent : (file : NewFile) → Contains change.files file → contents files file.name ≡ None
   pub greatest : (generation : ℕ) → change.generation ≤ generation → generation < 2 ^ 63 → commit_file files generation ≡ None
   pub no_commit : (file : NewFile) → Contains change.files file → (generation : ℕ) → file.name ≢ commit_name generation
-  pub one : (file other : NewFile) → Contains change.files file → Contains change.files other → file.name ≡ other.name → file ≡ other
+  pub one : (file other : NewFile) → Contains change.files file → Contains change.files other
+      → file.name ≡ other.name → file ≡ other
   pub kept : (file : NewFile) → Contains (written change) file → ¬ Contains change.removable file.name
 
 -- every file of the folder is as before
@@ -23,7 +24,8 @@ AreKept old new = (name : List ℕ) → contents old name ≢ None → contents 
 
 -- each file that the folder lacked has a new name
 abbrev pub AddsOnly : ChangeValue → Files → Files → Type 0
-AddsOnly change old new = (name : List ℕ) → contents old name ≡ None → (contents new name ≡ None) ⊎ ((file : NewFile) × Contains (written change) file × (file.name ≡ name))
+AddsOnly change old new = (name : List ℕ) → contents old name ≡ None
+    → (contents new name ≡ None) ⊎ ((file : NewFile) × Contains (written change) file × (file.name ≡ name))
 
 -- the folder reads as before: every file is as before, and so is the current commit, or that there is none
 pub record IsOld (old new : Files) : Type 0 where
@@ -35,7 +37,8 @@ pub record IsNew (change : ChangeValue) (old new : Files) : Type 0 where
   pub current : IsCurrent new change.generation change.commit
   pub newest : IsNewest new change.generation
   pub whole : (file : NewFile) → Contains change.files file → contents new file.name ≡ Some file.bytes
-  pub kept : (name : List ℕ) → contents old name ≢ None → ¬ Contains change.removable name → contents new name ≡ contents old name
+  pub kept : (name : List ℕ) → contents old name ≢ None → ¬ Contains change.removable name
+      → contents new name ≡ contents old name
 
 -- what a call that makes the commit keeps: after an error every file is as before, and the folder reads as before or as the new
 -- commit; else it reads as the new commit
@@ -45,4 +48,6 @@ Keeps change (Ok behind) old new = AddsOnly change old new × IsNew change old n
 
 -- the file is a new one, whole; or it is as before, there or not
 abbrev pub IsWholeOrSame : ChangeValue → Files → Files → List ℕ → Type 0
-IsWholeOrSame change old new name = ((file : NewFile) × Contains change.files file × (file.name ≡ name) × (contents new file.name ≡ Some file.bytes)) ⊎ (contents new name ≡ contents old name)
+IsWholeOrSame change old new name =
+    ((file : NewFile) × Contains change.files file × (file.name ≡ name) × (contents new file.name ≡ Some file.bytes))
+    ⊎ (contents new name ≡ contents old name)

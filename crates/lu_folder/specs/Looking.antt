@@ -28,7 +28,8 @@ Tells found (Faulty spot) = IsFaulty found spot
 
 -- what a look at the commit of this generation answers
 abbrev pub Looks : Files → ℕ → Result Look FolderFault → Type 0
-Looks files generation (Ok look) = Tells (commit_file files generation) look × (is_too_large files generation ≡ false) × IfSome (commit_file files generation) IsBytes
+Looks files generation (Ok look) =
+    Tells (commit_file files generation) look × (is_too_large files generation ≡ false) × IfSome (commit_file files generation) IsBytes
 Looks files generation (Err (FileTooLarge kind)) = (kind ≡ kinds.Commit) × (is_too_large files generation ≡ true)
 Looks files generation (Err NoIndex) = ⊥
 Looks files generation (Err (NotStanding other fault)) = ⊥
@@ -49,10 +50,16 @@ ArePassed files generations count = (k : ℕ) → k < count → IsPassed files (
 
 -- what looks at the commits of these generations answer, one after another
 abbrev pub Walks : Files → List ℕ → Result Chosen FolderFault → Type 0
-Walks files generations (Ok chosen) = (place : ℕ) × (place < length generations) × (slice_index generations place ≡ chosen.generation) × IsGood files chosen.generation chosen.commit × (is_too_large files chosen.generation ≡ false) × ArePassed files generations place
+Walks files generations (Ok chosen) =
+    (place : ℕ) × (place < length generations) × (slice_index generations place ≡ chosen.generation)
+    × IsGood files chosen.generation chosen.commit × (is_too_large files chosen.generation ≡ false) × ArePassed files generations place
 Walks files generations (Err NoIndex) = length generations ≡ 0
-Walks files generations (Err (FileTooLarge kind)) = (kind ≡ kinds.Commit) × ((place : ℕ) × (place < length generations) × (is_too_large files (slice_index generations place) ≡ true) × ArePassed files generations place)
-Walks files generations (Err (NotStanding generation fault)) = (0 < length generations) × (slice_index generations 0 ≡ generation) × HasFault files generation fault × ArePassed files generations (length generations)
+Walks files generations (Err (FileTooLarge kind)) =
+    (kind ≡ kinds.Commit)
+    × ((place : ℕ) × (place < length generations) × (is_too_large files (slice_index generations place) ≡ true) × ArePassed files generations place)
+Walks files generations (Err (NotStanding generation fault)) =
+    (0 < length generations) × (slice_index generations 0 ≡ generation) × HasFault files generation fault
+    × ArePassed files generations (length generations)
 Walks files generations (Err Failed) = Unit {0}
 Walks files generations (Err OutOfMemory) = Unit {0}
 
@@ -64,7 +71,8 @@ first_fault (Some first) fault = Some first
 -- the fault of the first commit, once one was looked at
 abbrev pub IsFirst : Files → List ℕ → ℕ → Option (ℕ × Spot) → Type 0
 IsFirst files generations count None = count ≡ 0
-IsFirst files generations count (Some first) = (0 < count) × (slice_index generations 0 ≡ first.0) × IsFaulty (commit_file files first.0) first.1
+IsFirst files generations count (Some first) =
+    (0 < count) × (slice_index generations 0 ≡ first.0) × IsFaulty (commit_file files first.0) first.1
 
 -- a fault is kept exactly once one commit was looked at
 abbrev pub IsSeen : ℕ → Option (ℕ × Spot) → Type 0

@@ -1,4 +1,4 @@
--- Numbers in names of files, and the least number above others (docs/FORMAT.md, "Names of files").
+-- Numbers in names of files, and the least number above others (docs/FORMAT.md, "Commits in a folder").
 use Rattle.std.specs.Prelude.{ℕ, ◌+◌, ◌==◌, max, List, Option, Some, None, if◌then◌else◌, nat_lt, fold}
 use Rattle.segment_infos.specs.declared.naming.LuceneName.{LuceneName}
 use Rattle.segment_infos.specs.declared.naming.LuceneName.TheVariants.{Commit, Part, Del, Sep}

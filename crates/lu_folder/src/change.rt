@@ -45,9 +45,15 @@ impl Model for Change {
 
     ghost Value = { ChangeValue };
 
-    ghost view = { λ c. record { files = c.files.items; generation = c.generation; commit = c.commit; removable = texts c.removable.items } };
+    ghost view = { λ c. record {
+      files = c.files.items;
+      generation = c.generation;
+      commit = c.commit;
+      removable = texts c.removable.items;
+    } };
 
-    ghost invariant = { λ c. (c.pending.name ≡ commit_name c.generation) × (c.pending.bytes ≡ pending_form (commit_bytes c.commit)) × (c.bytes ≡ commit_bytes c.commit)
+    ghost invariant = { λ c. (c.pending.name ≡ commit_name c.generation)
+        × (c.pending.bytes ≡ pending_form (commit_bytes c.commit)) × (c.bytes ≡ commit_bytes c.commit)
         × IsGenerationNumber c.generation × IsCommit c.commit };
 }
 

@@ -1,18 +1,21 @@
 //! What holds of commits and of drawn numbers in every folder: each law stands on a function that does nothing.
-ghost use Rattle.std.specs.Prelude.{◌≡◌, ◌≢◌, ◌⊎◌, ◌<◌, ◌≤◌, ◌^◌, ℕ, List, Some, None, Contains, IsPermutation};
+ghost use Rattle.std.specs.Prelude.{◌≡◌, ◌≢◌, ◌⊎◌, ◌<◌, ◌≤◌, ◌^◌, ℕ, List, Some, None, Result, Contains, IsPermutation};
 ghost use Rattle.std.specs.FinMap.{keys};
 ghost use Rattle.lu_types.specs.Names.{greatest_segment};
-ghost use Rattle.lu_dir.specs.Files.{Files, contents};
+ghost use Rattle.lu_dir.specs.Files.{Files, contents, AreMadeOfBytes};
 ghost use Rattle.segment_infos.specs.declared.infos.SegInfo.{SegInfo};
 ghost use Rattle.segment_infos.specs.declared.naming.LuceneName.{LuceneName};
 ghost use Rattle.segment_infos.specs.declared.naming.LuceneName.TheVariants.{Del};
 ghost use Rattle.segment_infos.specs.LuceneNames.{IsGenerationNumber, IsName, name_spelling};
 ghost use Rattle.segment_infos.specs.Referring.{KeptValue, referred_names, removable};
 ghost use Rattle.segment_infos.specs.Values.{CommitValue, IsCommit};
+ghost use Rattle.lu_folder.specs.declared.choosing.Chosen.{Chosen};
+ghost use Rattle.lu_folder.specs.declared.fault.FolderFault.{FolderFault};
 ghost use Rattle.lu_folder.specs.declared.new_file.NewFile.{NewFile};
 ghost use Rattle.lu_folder.specs.ChangeValues.{ChangeValue, commit_name};
 ghost use Rattle.lu_folder.specs.Changes.{written, IsStopped, IsMade};
 ghost use Rattle.lu_folder.specs.Keeping.{IsFresh, AreKept, AddsOnly, IsOld, IsNew, IsWholeOrSame};
+ghost use Rattle.lu_folder.specs.Choosing.{AnswersCurrent, AnswersNewest, IsTold};
 ghost use Rattle.lu_folder.specs.Fresh.{AreNewFiles};
 ghost use Rattle.lu_folder.specs.Numbers.{above, segment_of};
 ghost use Rattle.lu_folder.specs.Drawing.{next_generation as next_generation_of, next_segment as next_segment_of, next_del as next_del_of};
@@ -90,14 +93,25 @@ pub fn drawn_is_fresh()
 /// was removed but those that are removable beside it.
 pub fn what_stands_is_kept()
     ensures stopped { (change : ChangeValue) (old new : Files) (commit : CommitValue)
-        → ((file : NewFile) (name : LuceneName) → Contains (written change) file → Contains (referred_names commit) name → file.name ≢ name_spelling name)
+        → ((file : NewFile) (name : LuceneName) → Contains (written change) file → Contains (referred_names commit) name
+        → file.name ≢ name_spelling name)
         → AddsOnly change old new → AreKept old new
-        → (name : LuceneName) → Contains (referred_names commit) name → contents new (name_spelling name) ≡ contents old (name_spelling name) }
+        → (name : LuceneName) → Contains (referred_names commit) name
+        → contents new (name_spelling name) ≡ contents old (name_spelling name) }
     ensures made { (change : ChangeValue) (old new : Files) (kept : List KeptValue) (names : List (List ℕ))
         → change.removable ≡ removable kept names
         → Contains kept (record { generation = change.generation; commit = change.commit })
         → AddsOnly change old new → IsNew change old new
-        → (name : LuceneName) → Contains (referred_names change.commit) name → IsWholeOrSame change old new (name_spelling name) }
+        → (name : LuceneName) → Contains (referred_names change.commit) name
+        → IsWholeOrSame change old new (name_spelling name) }
     ensures removable { (kept : List KeptValue) (names : List (List ℕ)) (name : List ℕ)
         → Contains (removable kept names) name → Contains names name }
+{}
+
+/// At most one answer is due where the current commit, or the newest, is looked for in files that are told; memory and device aside.
+pub fn one_answer()
+    ensures current { (files : Files) (one other : Result Chosen FolderFault) → AreMadeOfBytes files → IsTold one → IsTold other
+        → AnswersCurrent files one → AnswersCurrent files other → one ≡ other }
+    ensures newest { (files : Files) (one other : Result Chosen FolderFault) → AreMadeOfBytes files → IsTold one → IsTold other
+        → AnswersNewest files one → AnswersNewest files other → one ≡ other }
 {}

@@ -221,8 +221,8 @@ pub fn read_segment<D: Dir>(
         first_too_large told (names_read info.now) ≡ None)) }
     ensures too_large { (kind : FileKind) → IsErrOf result (FolderFault.FileTooLarge kind)
         → ForSome (D.files dir.old) (λ told. first_too_large told (names_read info.now) ≡ Some kind) }
-    ensures no_others { IsErrOf result FolderFault.NoIndex → ⊥ }
-    ensures no_fault { (generation : ℕ) (fault : Fault) → IsErrOf result (FolderFault.NotStanding generation fault) → ⊥ }
+    ensures no_index_fault { IsErrOf result FolderFault.NoIndex → ⊥ }
+    ensures no_standing_fault { (generation : ℕ) (fault : Fault) → IsErrOf result (FolderFault.NotStanding generation fault) → ⊥ }
     ensures files { D.files dir.new ≡ D.files dir.old }
     ensures asked { D.asked dir.new ≡ D.asked dir.old }
     ensures cause { IsCaused (D.faults dir.old) (D.faults dir.new) (IsErrOf result FolderFault.Failed) }

@@ -17,7 +17,7 @@ loop-generation-preserved g c =
     let generations = c.args.generations.now in
     let place = c.loop-generation.generation-index in
     let looked : (told : Files) → g.D.Dir.files c.args.dir.now ≡ Some told → IsFaulty (commit_file told (get_or generations place 0)) c.in-Ok-Faulty.spot × (is_too_large told (get_or generations place 0) ≡ false) × IfSome (commit_file told (get_or generations place 0)) IsBytes =
-        (λ told is. subst (λ (l : Look). Looks told (get_or generations place 0) (Ok l)) c.in-Ok-Faulty.field-0-is (c.in-Ok-Faulty.ensures.told told (c.loop-generation.invariant.files ∙ is))) in
+    (λ told is. subst (λ (l : Look). Looks told (get_or generations place 0) (Ok l)) c.in-Ok-Faulty.field-0-is (c.in-Ok-Faulty.ensures.told told (c.loop-generation.invariant.files ∙ is))) in
     record {
       passed = λ told is. below_more _ _ (c.loop-generation.invariant.passed told is) (faulty-passed told (get_or generations place 0) c.in-Ok-Faulty.spot (looked told is).0 (looked told is).1 (looked told is).2);
       first = λ told is. subst (IsFirst told generations (place + 1)) (sym c.first_of-first.ensures)

@@ -1,0 +1,15 @@
+pub mod Writing
+pub mod Sealing
+pub mod Sweeping
+pub mod ChangeValues
+pub mod Changes
+pub mod Commits
+pub mod Keeping
+pub mod Fresh
+pub mod Numbers
+pub mod Counting
+pub mod Drawing
+pub mod Limits
+pub mod Choosing
+pub mod Looking
+pub mod Reading

@@ -1,0 +1,11 @@
+pub mod FileSteps
+pub mod TurnLemmas
+pub mod TermLemmas
+pub mod NormLemmas
+pub mod ReadBytes
+pub mod PartLemmas
+pub mod LocatedLemmas
+pub mod TermFiles
+pub mod ContentFiles
+pub mod MadeFiles
+pub mod SegmentMade

@@ -1,0 +1,47 @@
+-- What the parts of a segment that was checked stand for, and how they belong together (format page, "Indexes").
+use Rattle.std.specs.Prelude.{◌≡◌, ℕ, ◌<◌, List, [], length, map, replicate, All, Option, Some, None, slice_get, slice_index_or, option_map}
+use Rattle.lu_types.specs.declared.term.TermInfo.{TermInfo}
+use Rattle.lu_model.specs.Index.{IndexedEntry, IndexedTerm, frequency}
+use Rattle.term_dict.specs.Dictionary.{Dictionary}
+use Rattle.term_index.specs.Seeking.{AreChecked}
+use Rattle.freq_skips.specs.declared.entry.Entry.{Entry}
+use Rattle.check_index.specs.declared.standing.OpenContents.{OpenContents}
+use Rattle.check_index.specs.declared.standing.OpenColumns.{OpenColumns}
+use Rattle.check_index.specs.Terms.{listed_terms, lists_in, AreListed}
+use Rattle.check_index.specs.Segments.{Contents, Columns, Segment, untold_occurrences}
+
+-- what the open files of a segment of so many documents stand for
+abbrev pub contents_of : ℕ → OpenContents → Contents
+contents_of size o = record {
+  fields = o.fields;
+  stored = o.stored;
+  terms = listed_terms o.terms.terms (lists_in o.fields size o.terms.terms o.terms.frq.now);
+  occurrences = map untold_occurrences (lists_in o.fields size o.terms.terms o.terms.frq.now);
+}
+
+abbrev pub columns_of : ℕ → OpenColumns → Columns
+columns_of size o = record { norms = o.norms; deleted = o.live.documents; vectors = replicate size [] }
+
+-- they belong together
+pub record IsTied (size : ℕ) (contents : OpenContents) (columns : OpenColumns) : Type 0 where
+  pub documents : length contents.stored ≡ size
+  pub checked : AreChecked contents.terms.tii.now contents.terms.terms contents.fields
+  pub listed : AreListed contents.fields size contents.terms.terms contents.terms.frq.now (lists_in contents.fields size contents.terms.terms contents.terms.frq.now)
+  pub norms : length columns.norms ≡ length contents.fields
+  pub live : columns.live.size ≡ size
+
+-- the dictionary says this of the term with a number
+abbrev pub IsTermOf : Segment → ℕ → TermInfo → Type 0
+IsTermOf s n info = option_map (λ t. t.info) (slice_get s.dictionary.terms n) ≡ Some info
+
+-- no term
+abbrev pub no_indexed_term : IndexedTerm
+no_indexed_term = record { field = 0; text = []; entries = [] }
+
+-- an entry as a walk over documents and frequencies gives it
+abbrev pub entry_of : IndexedEntry → Entry
+entry_of entry = record { doc = entry.document; freq = frequency entry.occurrences }
+
+-- those of the term with a number
+abbrev pub listed_entries : Segment → ℕ → List Entry
+listed_entries s n = map entry_of (slice_index_or s.index.terms n no_indexed_term).entries

@@ -1,5 +1,8 @@
+pub mod Points
+pub mod ProxPlaces
 pub mod Records
 pub mod Entries
+pub mod Finding
 pub mod Levels
 pub mod Terms
 pub mod Walking

@@ -1,18 +1,21 @@
 //! The entries of a term, in order.
-ghost use Rattle.std.specs.Prelude.{◌≡◌, ◌+◌, [], ◌∷◌, map, min, MatchOption};
+ghost use Rattle.std.specs.Prelude.{◌≡◌, ◌+◌, ◌<◌, ◌≤◌, length, slice_index_or, min, MatchOption};
 ghost use Rattle.lu_grammar.specs.Bytes.{Cursor, place_in};
 ghost use Rattle.lu_grammar.specs.Meaning.{ReadsTo};
-ghost use Rattle.freq_skips.specs.Entries.{entry_of};
+ghost use Rattle.freq_skips.specs.Entries.{entry_of, no_posting};
 ghost use Rattle.freq_skips.specs.Terms.{TermData, IsGoodTerm, term_of, term_plan};
+ghost use Rattle.freq_skips.specs.Points.{IsPoint};
 
 use crate::entry::Entry;
 use crate::passing::Passing;
 use crate::rules::RuledTerm;
+use crate::skip_point::SkipPoint;
 use lu_prims::{Cur, Steps};
 use lu_types::{TermInfo, TermRules};
 use std::marker::Model;
 
-/// The entries of a term that are left, in order, over bytes that were checked. No call takes memory.
+/// The entries of a term in order, over bytes that were checked. Contracts see the term, what its bytes stand for, and how many
+/// of its entries are passed. No call takes memory.
 #[derive(Drop)]
 pub struct Entries<'a> {
     frq: &'a [u8],
@@ -21,18 +24,22 @@ pub struct Entries<'a> {
 }
 
 impl<'a> Model for Entries<'a> {
-    ghost use Rattle.std.specs.Prelude.{◌≤◌, List, drop};
-    ghost use Rattle.freq_skips.specs.declared.entry.Entry.{Entry};
-    ghost use Rattle.freq_skips.specs.Entries.{entries_from, AreGoodFrom, Stands};
-    ghost use Rattle.lu_grammar.specs.Bytes.{place_in};
+    ghost use Rattle.std.specs.Prelude.{◌≡◌, ◌≤◌, length};
+    ghost use Rattle.lu_grammar.specs.Bytes.{IsBytes};
+    ghost use Rattle.freq_skips.specs.Entries.{AreGoodFrom, Stands, postings_from};
+    ghost use Rattle.freq_skips.specs.Walks.{WalkState, start_in, value_from};
 
-    ghost Value = { List Entry };
+    ghost Value = { WalkState };
 
-    ghost view = { λ e. drop e.passing.index (entries_from e.term (place_in e.frq.now e.term.info.freq)) };
+    ghost view = { λ e. record { term = e.term; value = value_from e.term (start_in e.term e.frq.now); passed = e.passing.index } };
 
     ghost invariant = { λ e. record {
-      all : AreGoodFrom e.term (place_in e.frq.now e.term.info.freq);
-      stands : Stands e.term (place_in e.frq.now e.term.info.freq) e.passing.index e.passing.doc e.passing.cur;
+      interval : 2 ≤ e.term.rules.skip_interval;
+      bytes : IsBytes e.frq.now;
+      begin_within : e.term.info.freq ≤ length e.frq.now;
+      all : AreGoodFrom e.term (start_in e.term e.frq.now);
+      postings : (value_from e.term (start_in e.term e.frq.now)).postings ≡ postings_from e.term (start_in e.term e.frq.now);
+      stands : Stands e.term (start_in e.term e.frq.now) e.passing.index e.passing.doc e.passing.cur;
       within : e.passing.index ≤ e.term.info.doc_freq;
     } };
 }
@@ -41,7 +48,8 @@ impl<'a> Entries<'a> {
     /// The entries of a term of the dictionary, from the first on.
     pub fn at(frq: &'a [u8], info: &TermInfo, rules: &TermRules) -> Entries<'a>
         requires { IsGoodTerm info.now rules.now frq.now }
-        ensures { (value : TermData) (end : Cursor) → ReadsTo (term_plan (term_of info.now rules.now)) (place_in frq.entry.now info.now.freq) value end → result ≡ map entry_of value.postings }
+        ensures { (value : TermData) (end : Cursor) → ReadsTo (term_plan (term_of info.now rules.now)) (place_in frq.entry.now info.now.freq) value end
+            → result ≡ record { term = term_of info.now rules.now; value = value; passed = 0 } }
     {
         let term = RuledTerm {
             info: *info,
@@ -61,7 +69,10 @@ impl<'a> Entries<'a> {
 
     /// The next entry, at one step; `None` exactly at the end.
     pub fn next<L>(&mut self, steps: &mut Steps<L>) -> Option<Entry>
-        ensures entry { MatchOption result ((self.old ≡ []) × (self.new ≡ [])) (λ e. self.old ≡ e ∷ self.new) }
+        ensures entry { MatchOption result
+            ((self.old.passed ≡ length self.old.value.postings) × (self.new ≡ self.old))
+            (λ entry. (self.old.passed < length self.old.value.postings) × (entry ≡ entry_of (slice_index_or self.old.value.postings self.old.passed no_posting))
+            × (self.new ≡ record { term = self.old.term; value = self.old.value; passed = self.old.passed + 1 })) }
         ensures step { steps.new ≡ min (steps.old + 1) u64.MAX }
     {
         steps.tick();
@@ -72,5 +83,18 @@ impl<'a> Entries<'a> {
             Err(_rule) => None,
             Ok(entry) => Some(entry),
         }
+    }
+
+    /// Goes on to a point of the term that is not before the entry that comes next.
+    pub fn jump(&mut self, point: &SkipPoint)
+        requires point { IsPoint self.old.term self.old.value point.now }
+        requires ahead { self.old.passed ≤ point.now.passed }
+        ensures { self.new ≡ record { term = self.old.term; value = self.old.value; passed = point.now.passed } }
+    {
+        self.passing = Passing {
+            cur: Cur::at(self.frq, point.freq as usize),
+            index: point.passed,
+            doc: point.doc,
+        };
     }
 }

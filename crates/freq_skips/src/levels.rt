@@ -1,7 +1,7 @@
 //! All skip levels of a term.
 ghost use Rattle.lu_grammar.specs.Bytes.{place_in};
 ghost use Rattle.lu_grammar.specs.Answers.{Gives};
-ghost use Rattle.std.specs.Prelude.{◌≡◌, ℕ, suc, ◌+◌, ◌/◌, ◌^◌, ◌<◌, ◌≤◌, List, [], ◌∷◌, Option, length, ◌==◌, IfOk, IfSome, MatchResult, Ok, Err};
+ghost use Rattle.std.specs.Prelude.{◌≡◌, ◌⊎◌, ℕ, suc, ◌+◌, ◌/◌, ◌^◌, ◌<◌, ◌≤◌, List, [], ◌∷◌, Option, length, ◌==◌, IfOk, IfSome, MatchResult, Some, Ok, Err};
 ghost use Rattle.lu_grammar.specs.Records.{record_at, first_broken};
 ghost use Rattle.lu_grammar.specs.Plans.{read_plan};
 ghost use Rattle.lu_types.specs.declared.kind.FileKind.TheVariants.{Frq};
@@ -53,6 +53,7 @@ pub fn level_length(
 ) -> Result<(Option<u64>, usize), Spot>
     requires { at ≤ length frq.now }
     ensures within { IfOk result (λ x. x.1 ≤ length frq.now) }
+    ensures stated { IfOk result (λ x. (number ≡ 0) ⊎ ((n : ℕ) × (x.0 ≡ Some n))) }
     ensures level { (postings : List Posting) (points : List (List Point)) → highest ≡ (length points == 0)
         → MatchResult result
         (λ x. read_plan (level_plan term.now postings number points) (place_in frq.now at) ≡ read_plan (level_data term.now postings (level_of number x.0 points)) (place_in frq.now x.1))

@@ -3,6 +3,7 @@
 
 mod check;
 mod datum;
+mod descent;
 mod entries;
 mod entry;
 mod following;
@@ -12,6 +13,7 @@ mod levels;
 mod passing;
 mod rules;
 mod skip_point;
+mod skips;
 mod walk;
 mod writer;
 
@@ -20,7 +22,9 @@ pub use entries::Entries;
 pub use entry::Entry;
 pub use laws::{terms_in_turn, what_is_written};
 pub use lu_types::TermRules;
+pub use rules::RuledTerm;
 pub use skip_point::SkipPoint;
+pub use skips::Skips;
 pub use walk::{Datum, Walk, Walked};
 pub use writer::FreqWriter;
 

@@ -285,6 +285,51 @@ fn two_entries(rt: &impl Abort) {
     );
 }
 
+/// The point that is found for a target in a term that is good, and how many steps that takes.
+fn found(frq: &[u8], info: &TermInfo, rules: &TermRules, target: u32) -> Option<(SkipPoint, u64)>
+    requires interval { 2 ≤ rules.now.skip_interval }
+    requires some { 0 < info.now.doc_freq }
+    requires within { info.now.freq ≤ length frq.now }
+    requires small { length frq.now < 2 ^ 32 }
+{
+    if check_term(frq, info.freq as usize, info, rules).is_err() {
+        return None;
+    }
+    let mut steps: Steps<Read> = Steps::new();
+    let mut skips = Skips::at(frq, info, rules);
+    let point = skips.find(target, &mut steps);
+    Some((point, steps.count()))
+}
+
+/// The points of a term of two levels, whose positions take a byte each.
+fn finds(rt: &impl Abort, alloc: Global) -> Result<(), Fail> {
+    let (bytes, _delta) = written(rt, alloc, 35, 4, 2)?;
+    assert!(rt; bytes.len() < 100);
+    for (target, passed, doc, place) in [
+        (35, 31, 30, 31),
+        (34, 31, 30, 31),
+        (20, 19, 18, 19),
+        (0, 0, 0, 0),
+    ] {
+        let point = found(&bytes, &info(35, 35), &rules(4, 2), target);
+        let Some((point, steps)) = point else {
+            panic!(rt; "the term is good");
+        };
+        assert!(rt;
+            point
+                == SkipPoint {
+                    passed,
+                    doc,
+                    freq: place,
+                    prox: place
+                },
+            "target {target}: {point:?}"
+        );
+        assert!(rt; steps <= 2 + 4 * 2, "target {target}: {steps}");
+    }
+    Ok(())
+}
+
 #[test]
 fn terms(rt: HostRuntime) -> Result<(), Fail> {
     let alloc = rt.alloc();
@@ -293,5 +338,6 @@ fn terms(rt: HostRuntime) -> Result<(), Fail> {
     refuses(&rt, alloc)?;
     reads(&rt, alloc)?;
     two_entries(&rt);
+    finds(&rt, alloc)?;
     Ok(())
 }

@@ -1,23 +1,31 @@
-use Rattle.std.proofs.Common.{ap, sym, subst, map, arith}
-use Rattle.lu_grammar.specs.Bytes.{Cursor, place_in}
-use Rattle.freq_skips.specs.Entries.{Stands, entry_of}
-use Rattle.freq_skips.specs.Terms.{term_of}
+use Rattle.std.proofs.Common.{ap, sym, subst, ◌∙◌, arith}
+use Rattle.lu_grammar.specs.Bytes.{Cursor}
+use Rattle.freq_skips.specs.Entries.{Stands}
+use Rattle.freq_skips.specs.Terms.{TermData, term_of}
+use Rattle.freq_skips.specs.Walks.{WalkState, start_in}
 use Rattle.freq_skips.proofs.EntryLemmas.{Stands-none}
 use Rattle.freq_skips.proofs.TermLemmas.{TermParts-ReadsTo}
+use Rattle.freq_skips.proofs.WalkLemmas.{value_from-is}
 use Rattle.freq_skips.proofs.entries.Entries.at.Goals as goal
 
 pub invariant_of-result : goal.invariant_of-result
 invariant_of-result c =
     let t = term_of c.args.info.now c.args.rules.now in
-    let start = place_in c.args.frq.now c.args.info.now.freq in
-    let parts = TermParts-ReadsTo t start c.requires.value c.requires.end c.requires.reads in
+    let frq = c.args.frq.now in
+    let good = c.requires in
+    let parts = TermParts-ReadsTo t (start_in t frq) good.value good.end good.reads in
     record {
+      interval = good.interval;
+      bytes = λ i. (c.type_inv.frq i).fits;
+      begin_within = good.within;
       all = (parts.mid, parts.all);
-      stands = subst (λ (here : Cursor). Stands t start 0 0 here) (sym c.at-cur.ensures) (Stands-none t start);
+      postings = ap (λ (v : TermData). v.postings) (value_from-is t (start_in t frq) good.value good.end good.reads) ∙ parts.postings;
+      stands = subst (λ (here : Cursor). Stands t (start_in t frq) 0 0 here) (sym c.at-cur.ensures) (Stands-none t (start_in t frq));
       within = omega arith;
     }
 
 pub returns : goal.returns
 returns c = λ value end h.
-    let parts = TermParts-ReadsTo (term_of c.args.info.now c.args.rules.now) (place_in c.args.frq.now c.args.info.now.freq) value end h in
-    ap (map entry_of) (sym parts.postings)
+    let t = term_of c.args.info.now c.args.rules.now in
+    let state : TermData → WalkState = λ v. record { term = t; value = v; passed = 0 } in
+    ap state (value_from-is t (start_in t c.args.frq.now) value end h)

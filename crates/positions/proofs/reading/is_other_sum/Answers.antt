@@ -1,0 +1,42 @@
+use Rattle.std.proofs.Common.{◌≡◌, ℕ, ◌+◌, ◌^◌, ◌<◌, ◌≤◌, false, rules, below_more, inl, inr, sym, arith}
+use Rattle.std.proofs.lemmas.Bool.{cases_lt}
+use Rattle.freq_skips.specs.Levels.{level_count}
+use Rattle.positions.specs.Occurrences.{tells_other_sum}
+use Rattle.positions.specs.Walked.{posted_by}
+use Rattle.positions.proofs.LevelTests.{any_below-none, any_below-some, level_count-most, sum-true, sum-false, sum-none}
+use Rattle.positions.proofs.reading.is_other_sum.Goals as goal
+
+pub loop-datum-init : goal.loop-datum-init
+loop-datum-init c = record { within = omega arith; below = λ n lt. absurd (omega arith) }
+
+pub returns-then-datum-so_far : goal.returns-then-datum-so_far
+returns-then-datum-so_far c =
+    let w = c.args.walk.now in
+    let has = c.in-Some.ensures in
+    sym (any_below-some (tells_other_sum (posted_by w) w.passed c.args.so_far) (level_count w.term) c.loop-datum.level has.0.0 (sum-true (posted_by w) w.passed c.args.so_far c.loop-datum.level c.in-Some.datum has.0 has.1 c.if-datum-so_far.true))
+
+pub overflow_add-level : goal.overflow_add-level
+overflow_add-level c =
+    let lt : c.loop-datum.level + 1 < 2 ^ 32 = omega (arith, c.in-Some.ensures.0.0, c.requires.few) in search rules
+
+pub loop-datum-smaller : goal.loop-datum-smaller
+loop-datum-smaller c = let lt : c.loop-datum.level < level_count c.args.walk.now.term = c.in-Some.ensures.0.0 in omega arith
+
+pub loop-datum-preserved : goal.loop-datum-preserved
+loop-datum-preserved c =
+    let w = c.args.walk.now in
+    let has = c.in-Some.ensures in
+    let lt : c.loop-datum.level < level_count w.term = has.0.0 in
+    record {
+      within = omega arith;
+      below = below_more (λ (n : ℕ). tells_other_sum (posted_by w) w.passed c.args.so_far n ≡ false) c.loop-datum.level c.loop-datum.invariant.below
+          (sum-false (posted_by w) w.passed c.args.so_far c.loop-datum.level c.in-Some.datum has.1 c.if-datum-so_far.false);
+    }
+
+pub returns : goal.returns
+returns c =
+    let w = c.args.walk.now in
+    sym (any_below-none (tells_other_sum (posted_by w) w.passed c.args.so_far) (level_count w.term) (λ n lt. elim (cases_lt n c.loop-datum.level) [
+      | inl low ↦ c.loop-datum.invariant.below n low
+      | inr high ↦ sum-none (posted_by w) w.passed c.args.so_far c.loop-datum.level n c.requires.some high lt c.in_default.ensures
+    ]))

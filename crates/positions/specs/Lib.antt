@@ -1,0 +1,9 @@
+pub mod Records
+pub mod Parts
+pub mod Occurrences
+pub mod Terms
+pub mod Standing
+pub mod Cursors
+pub mod Walked
+pub mod Written
+pub mod Writing

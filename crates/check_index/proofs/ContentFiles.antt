@@ -11,9 +11,9 @@ use Rattle.check_index.specs.Files.{PartFiles, FolderFiles}
 use Rattle.check_index.specs.Locating.{located_parts}
 use Rattle.check_index.specs.Documents.{field_files, stored_files, deletion_files}
 use Rattle.check_index.specs.Terms.{TermLists, term_files}
-use Rattle.check_index.specs.Indexed.{TermOccurrences}
+use Rattle.check_index.specs.Positions.{TermOccurrences, position_files}
 use Rattle.check_index.specs.Norms.{FieldNorms, norm_files}
-use Rattle.check_index.specs.Segments.{Segment, Contents, Columns, position_files, document_vectors, content_files, side_files, segment_of, segment_files}
+use Rattle.check_index.specs.Segments.{Segment, Contents, Columns, document_vectors, content_files, side_files, segment_of, segment_files}
 
 -- ---- the field table, the stored documents and the terms
 

@@ -9,3 +9,5 @@ pub mod TermFiles
 pub mod ContentFiles
 pub mod MadeFiles
 pub mod SegmentMade
+pub mod PositionLemmas
+pub mod PositionFiles

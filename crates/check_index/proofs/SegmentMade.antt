@@ -28,8 +28,10 @@ use Rattle.check_index.specs.Files.{DocumentFiles, IndexFiles, PartFiles, Folder
 use Rattle.check_index.specs.Locating.{packed_part, packed_documents, packed_index, packed_files, compound_files, own_parts, document_parts, located_parts}
 use Rattle.check_index.specs.Documents.{norm_fields, field_files, window_of, stored_files, deletion_files}
 use Rattle.check_index.specs.Terms.{TermLists, infos_of, listed_terms, term_files}
+use Rattle.positions.specs.Terms.{prx_plan}
+use Rattle.check_index.specs.Positions.{no_positions, position_files}
 use Rattle.check_index.specs.Norms.{FieldNorms, norm_count, norms_from, column_files, is_separate, needed_file, separate_file, separate_files, norm_files}
-use Rattle.check_index.specs.Segments.{Contents, Columns, position_files, document_vectors, content_files, side_files, segment_of, segment_files}
+use Rattle.check_index.specs.Segments.{Contents, Columns, document_vectors, content_files, side_files, segment_of, segment_files}
 use Rattle.check_index.proofs.ReadBytes.{read-bytes}
 use Rattle.check_index.proofs.PartLemmas.{file-within, named-bytes}
 use Rattle.check_index.proofs.LocatedLemmas.{with_documents}
@@ -133,6 +135,11 @@ module _ (folder : FolderFiles) (line : SegInfo) (made : AreBytes folder) where
       (λ tis d reads. needed-made Tii files.tii (λ _. tii_plan d) (λ _ (_ : Unit {0}). needs Frq files.frq (λ _. frq_plan fields d.numbers size (infos_of d)) (λ _ lists. stands (listed_terms d lists))) held.tii
       (λ tii v reads. needed-made Frq files.frq (λ _. frq_plan fields d.numbers size (infos_of d)) (λ _ lists. stands (listed_terms d lists)) held.frq (λ frq lists reads. tt)))
 
+  positions-made : (files : IndexFiles) (fields : List TableField) (terms : TermLists) → AreIndexBytes files → AreMade (position_files files line fields terms)
+  positions-made files fields terms held =
+      asked-made line.has_prox (no_positions terms.lists) (needs Prx files.prx (λ _. prx_plan fields terms.dictionary.numbers line.size (infos_of terms.dictionary) terms.lists) (λ _ all. stands all))
+      (needed-made Prx files.prx (λ _. prx_plan fields terms.dictionary.numbers line.size (infos_of terms.dictionary) terms.lists) (λ _ all. stands all) held.prx (λ bytes v reads. tt))
+
   norms-made : (nrm : Option (List ℕ)) (fields : List TableField) → ForSome nrm IsBytes → AreMade (norm_files nrm folder.separate line fields)
   norms-made nrm fields held =
       let columns = needed-made Nrm nrm (λ _. nrm_plan (norm_count fields) line.size) (λ _ columns. stands (norms_from 0 columns fields)) held (λ bytes v reads. tt) in
@@ -153,7 +160,9 @@ module _ (folder : FolderFiles) (line : SegInfo) (made : AreBytes folder) where
       (λ fields stand. followed-made (stored_files line.store line.size (length fields) files.documents.fdx files.documents.fdt) _ (stored-made line.store line.size (length fields) files.documents.fdx files.documents.fdt held.1.fdx held.1.fdt)
       (λ stored also. followed-made (term_files files.index line.size fields)
       (λ (terms : TermLists). followed_by (position_files files.index line fields terms) (λ occurrences. stands (record { fields = fields; stored = stored; terms = terms; occurrences = occurrences })))
-      (terms-made files.index line.size fields held.0) (λ terms too. tt)))
+      (terms-made files.index line.size fields held.0)
+      (λ terms too. followed-made (position_files files.index line fields terms) (λ occurrences. stands (record { fields = fields; stored = stored; terms = terms; occurrences = occurrences }))
+      (positions-made files.index fields terms held.0) (λ occurrences there. tt))))
 
   sides-made : (files : PartFiles) (fields : List TableField) → ArePartBytes files → AreMade (side_files folder files line fields)
   sides-made files fields held =

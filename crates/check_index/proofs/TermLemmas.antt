@@ -36,7 +36,7 @@ used_at d n info used there =
     subst (λ (i : TermInfo). 0 < i.doc_freq) found.2 here
 
 module _ (fields : List TableField) (size : ℕ) (d : Dictionary) where
-  abbrev rules_for : TermInfo → TermRules
+  abbrev pub rules_for : TermInfo → TermRules
   rules_for info = term_rules d.numbers (bits_at fields info.field) size
 
   -- the term with a number, with what its entries are read by

@@ -1,5 +1,5 @@
 -- What the parts of a segment that was checked stand for, and how they belong together (format page, "Indexes").
-use Rattle.std.specs.Prelude.{◌≡◌, ℕ, ◌<◌, List, [], length, map, replicate, All, Option, Some, None, slice_get, slice_index_or, option_map}
+use Rattle.std.specs.Prelude.{◌≡◌, ℕ, ◌<◌, List, [], length, map, replicate, All, Option, Some, None, slice_get, slice_index_or, option_map, option_copied}
 use Rattle.lu_types.specs.declared.term.TermInfo.{TermInfo}
 use Rattle.lu_model.specs.Index.{IndexedEntry, IndexedTerm, frequency}
 use Rattle.term_dict.specs.Dictionary.{Dictionary}
@@ -7,8 +7,9 @@ use Rattle.term_index.specs.Seeking.{AreChecked}
 use Rattle.freq_skips.specs.declared.entry.Entry.{Entry}
 use Rattle.check_index.specs.declared.standing.OpenContents.{OpenContents}
 use Rattle.check_index.specs.declared.standing.OpenColumns.{OpenColumns}
-use Rattle.check_index.specs.Terms.{listed_terms, lists_in, AreListed}
-use Rattle.check_index.specs.Segments.{Contents, Columns, Segment, untold_occurrences}
+use Rattle.check_index.specs.Terms.{AreUsed, listed_terms, lists_in, AreListed}
+use Rattle.check_index.specs.Positions.{occurrences_in, ArePositions}
+use Rattle.check_index.specs.Segments.{Contents, Columns, Segment}
 
 -- what the open files of a segment of so many documents stand for
 abbrev pub contents_of : ℕ → OpenContents → Contents
@@ -16,7 +17,7 @@ contents_of size o = record {
   fields = o.fields;
   stored = o.stored;
   terms = listed_terms o.terms.terms (lists_in o.fields size o.terms.terms o.terms.frq.now);
-  occurrences = map untold_occurrences (lists_in o.fields size o.terms.terms o.terms.frq.now);
+  occurrences = occurrences_in o.fields size o.terms.terms (lists_in o.fields size o.terms.terms o.terms.frq.now) (option_copied o.prx);
 }
 
 abbrev pub columns_of : ℕ → OpenColumns → Columns
@@ -27,6 +28,8 @@ pub record IsTied (size : ℕ) (contents : OpenContents) (columns : OpenColumns)
   pub documents : length contents.stored ≡ size
   pub checked : AreChecked contents.terms.tii.now contents.terms.terms contents.fields
   pub listed : AreListed contents.fields size contents.terms.terms contents.terms.frq.now (lists_in contents.fields size contents.terms.terms contents.terms.frq.now)
+  pub used : AreUsed contents.terms.terms
+  pub posted : ArePositions contents.fields size contents.terms.terms (lists_in contents.fields size contents.terms.terms contents.terms.frq.now) (option_copied contents.prx)
   pub norms : length columns.norms ≡ length contents.fields
   pub live : columns.live.size ≡ size
 

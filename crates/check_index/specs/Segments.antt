@@ -6,15 +6,15 @@ use Rattle.lu_types.specs.declared.stored.SharedStore.{SharedStore}
 use Rattle.lu_model.specs.Index.{FieldVector, Index}
 use Rattle.stored_fields.specs.Values.{Document}
 use Rattle.term_dict.specs.Dictionary.{Dictionary}
-use Rattle.freq_skips.specs.Terms.{TermData}
 use Rattle.segment_infos.specs.declared.infos.SegInfo.{SegInfo}
 use Rattle.check_index.specs.declared.parts.CheckFault.{CheckFault}
 use Rattle.check_index.specs.declared.parts.CheckFault.TheVariants as faults
-use Rattle.check_index.specs.Files.{DocumentFiles, IndexFiles, PartFiles, FolderFiles}
+use Rattle.check_index.specs.Files.{DocumentFiles, PartFiles, FolderFiles}
 use Rattle.check_index.specs.Locating.{located_parts}
 use Rattle.check_index.specs.Documents.{field_files, stored_files, deletion_files}
 use Rattle.check_index.specs.Terms.{TermLists, term_files}
-use Rattle.check_index.specs.Indexed.{TermOccurrences, indexed_terms}
+use Rattle.check_index.specs.Positions.{TermOccurrences, position_files}
+use Rattle.check_index.specs.Indexed.{indexed_terms}
 use Rattle.check_index.specs.Norms.{FieldNorms, norm_files}
 
 -- what the files of a segment stand for: an index, and what the file of terms says
@@ -34,14 +34,6 @@ pub record Columns : Type 0 where
   pub norms : FieldNorms
   pub deleted : List ℕ
   pub vectors : List (List (FieldVector ℕ))
-
--- as many occurrences as each entry of a term is to have, where no file tells them
-abbrev pub untold_occurrences : TermData → TermOccurrences
-untold_occurrences value = map (λ p. replicate p.freq (record { position = 0; payload = [] })) value.postings
-
--- the positions of the terms
-abbrev pub position_files : IndexFiles → SegInfo → List TableField → TermLists → FilePlan (List TermOccurrences)
-position_files files line fields terms = stands (map untold_occurrences terms.lists)
 
 -- the vectors of the documents
 abbrev pub document_vectors : DocumentFiles → SegInfo → List TableField → FilePlan (List (List (FieldVector ℕ)))

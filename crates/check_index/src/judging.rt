@@ -1,11 +1,12 @@
 //! The files of a segment are checked in their order (format page, "How a fault is found").
-ghost use Rattle.std.specs.Prelude.{◌≡◌, length, IfOk};
+ghost use Rattle.std.specs.Prelude.{◌≡◌, length, IfOk, option_copied};
 ghost use Rattle.lu_types.specs.FilePlans.{Judges};
 ghost use Rattle.term_index.specs.Seeking.{AreChecked};
 ghost use Rattle.segment_infos.specs.Values.{IsLine};
 ghost use Rattle.check_index.specs.Files.{folder_of, AreShort, AreShortParts};
 ghost use Rattle.check_index.specs.Locating.{part_files_of};
-ghost use Rattle.check_index.specs.Terms.{lists_in, AreListed};
+ghost use Rattle.check_index.specs.Terms.{AreUsed, lists_in, AreListed};
+ghost use Rattle.check_index.specs.Positions.{ArePositions};
 ghost use Rattle.check_index.specs.Segments.{content_files, side_files, segment_files, IsJudged};
 ghost use Rattle.check_index.specs.Opened.{contents_of, columns_of};
 
@@ -14,6 +15,7 @@ use crate::fields::open_fields;
 use crate::locating::{Located, locate};
 use crate::norms::open_norms;
 use crate::parts::{CheckFault, Parts};
+use crate::occurrences::open_positions;
 use crate::standing::{OpenColumns, OpenContents, Standing};
 use crate::stored::open_stored;
 use crate::terms::open_terms;
@@ -32,6 +34,8 @@ fn open_contents<'a>(
     ensures judged { Judges (contents_of info.now.size) (content_files (part_files_of files.now) info.now) result }
     ensures documents { IfOk result (λ o. length o.stored ≡ info.now.size) }
     ensures checked { IfOk result (λ o. AreChecked o.terms.tii.now o.terms.terms o.fields) }
+    ensures used { IfOk result (λ o. AreUsed o.terms.terms) }
+    ensures posted { IfOk result (λ o. ArePositions o.fields info.now.size o.terms.terms (lists_in o.fields info.now.size o.terms.terms o.terms.frq.now) (option_copied o.prx)) }
     ensures listed { IfOk result (λ o. AreListed o.fields info.now.size o.terms.terms o.terms.frq.now (lists_in o.fields info.now.size o.terms.terms o.terms.frq.now)) }
 {
     let fields = match open_fields(alloc, &files.index, info) {
@@ -42,12 +46,17 @@ fn open_contents<'a>(
         Err(fault) => return Err(fault),
         Ok(stored) => stored,
     };
-    match open_terms(alloc, &files.index, info.size, &fields) {
+    let terms = match open_terms(alloc, &files.index, info.size, &fields) {
+        Err(fault) => return Err(fault),
+        Ok(terms) => terms,
+    };
+    match open_positions(alloc, files.index.prx, info, &fields, &terms) {
         Err(fault) => Err(fault),
-        Ok(terms) => Ok(OpenContents {
+        Ok(prx) => Ok(OpenContents {
             fields,
             stored,
             terms,
+            prx,
         }),
     }
 }

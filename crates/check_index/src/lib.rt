@@ -10,6 +10,7 @@ mod locating;
 mod needed;
 mod norms;
 mod parts;
+mod occurrences;
 mod standing;
 mod stored;
 mod terms;

@@ -22,6 +22,8 @@ pub struct OpenContents<'a> {
     pub fields: FieldTable<'a>,
     pub stored: StoredView<'a>,
     pub terms: OpenTerms<'a>,
+    /// The bytes of `.prx`, where the segment has positions.
+    pub prx: Option<&'a [u8]>,
 }
 
 /// The norms and the deletions of a segment.

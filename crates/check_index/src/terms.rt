@@ -83,9 +83,12 @@ pub fn open_terms<'a>(
     size: u32,
     fields: &FieldTable<'a>,
 ) -> Result<OpenTerms<'a>, CodecFault>
-    requires { IsShort (option_copied files.now.tis) }
+    requires tis { IsShort (option_copied files.now.tis) }
+    requires frq { IsShort (option_copied files.now.frq) }
     ensures judged { Judges (λ o. listed_terms o.terms (lists_in fields.now size o.terms o.frq.now)) (term_files (index_files_of files.now) size fields.now) result }
     ensures checked { IfOk result (λ o. AreChecked o.tii.now o.terms fields.now) }
+    ensures used { IfOk result (λ o. AreUsed o.terms) }
+    ensures small { IfOk result (λ o. length o.frq.now < 2 ^ 31) }
     ensures listed { IfOk result (λ o. AreListed fields.now size o.terms o.frq.now (lists_in fields.now size o.terms o.frq.now)) }
 {
     let tis = match needed(files.tis, FileKind::Tis) {

@@ -26,3 +26,6 @@ returns-in-Ok-check_entries-clause-judged c =
     let seen = λ (o : OpenTerms). listed_terms o.terms (lists_in fields size o.terms o.frq.now) in
     entries-stand seen (index_files_of c.args.files.now) size fields c.in-Ok.tis.now c.in-Ok-needed.tii.now frq.now d c.in-Ok.ensures c.in-Ok-check_tis.ensures.ok c.in-Ok-needed.ensures c.in_default.ensures.ok
     c.in-Ok-needed-2.ensures (lists_in fields size d frq.now) (record { terms = d; tii = c.in-Ok-needed.tii; frq = frq }) c.in-Ok-check_entries.ensures.listed.reads refl
+
+pub returns-in-Ok-check_entries-clause-used : goal.returns-in-Ok-check_entries-clause-used
+returns-in-Ok-check_entries-clause-used c = terms_are_used c.args.fields.now c.args.size c.in-Ok.tis.now c.in-Ok-check_tis.terms c.in-Ok-check_tis.ensures.ok

@@ -1,6 +1,6 @@
 -- The terms of the dictionary, one after another in `.frq`.
 use Rattle.std.proofs.Common.{◌≡◌, ℕ, ◌+◌, ◌<◌, ◌≤◌, List, [], length, map, Some, Err, refl, sym, ap, subst, ◌∙◌, arith}
-use Rattle.std.specs.Prelude.{All, slice_get, option_map}
+use Rattle.std.specs.Prelude.{slice_get, slice_index_or, option_map}
 use Rattle.std.proofs.lemmas.List.{length-map}
 use Rattle.std.proofs.lemmas.Option.{slice_get-map, get_or_from_slice_get, slice_get_within}
 use Rattle.lu_grammar.specs.Bytes.{IsBytes, Cursor, start_of, place_in}
@@ -19,7 +19,7 @@ use Rattle.term_dict.specs.Facts.{IsTermOfSegment}
 use Rattle.term_dict.proofs.FactLemmas.{good-terms}
 use Rattle.freq_skips.specs.declared.rules.RuledTerm.{RuledTerm}
 use Rattle.freq_skips.specs.Terms.{TermData, term_plan, term_of, frq_plan, IsGoodTerm, IsTermFault}
-use Rattle.check_index.specs.Turns.{HavePassed, AreTaken}
+use Rattle.freq_skips.specs.Walks.{WalkState}
 use Rattle.check_index.specs.Terms.{infos_of, ruled_terms, lists_in, IsListed, HavePassedTerms, AreListed, AreUsed}
 use Rattle.check_index.proofs.TurnLemmas.{element, HavePassed-none, HavePassed-more, HavePassed-fault, HavePassed-trailing, HavePassed-all, broken-read}
 
@@ -82,3 +82,17 @@ module _ (fields : List TableField) (size : ℕ) (d : Dictionary) where
         let all = HavePassed-all term_plan (IsListed frq) (ruled_terms fields size d) frq fits passed place (omega (arith, ended, ruled-length)) last before in
         let same : before.values ≡ lists_in fields size d frq = sym (ap (value_or []) (read_file-Reads (frq_plan fields d.numbers size (infos_of d)) frq before.values all.reads)) in
         subst (AreListed fields size d frq) same all
+
+  module _ (frq : List ℕ) (lists : List TermData) (listed : AreListed fields size d frq lists) (n : ℕ) (info : TermInfo) (rules : TermRules) (there : option_map (λ (t : DictionaryTerm). t.info) (slice_get d.terms n) ≡ Some info) (is : rules ≡ rules_for info) where
+    -- a term of the dictionary is good in the file
+    pub good_at : IsGoodTerm info rules frq
+    good_at = (listed.each n (term_of info rules) (ruled_at n info rules there is)).2.good
+
+    -- and a walk over its entries is one over those that the file stands for
+    pub walk_at : (default : TermData) (w : WalkState) → ((value : TermData) (end : Cursor) → ReadsTo (term_plan (term_of info rules)) (place_in frq info.freq) value end → w ≡ record { term = term_of info rules; value = value; passed = 0 })
+        → w ≡ record { term = term_of info (rules_for info); value = slice_index_or lists n default; passed = 0 }
+    walk_at default w answers =
+        let held = listed.each n (term_of info rules) (ruled_at n info rules there is) in
+        answers held.0 held.2.end held.2.reads
+        ∙ ap (λ (v : TermData). record { term = term_of info rules; value = v; passed = 0 }) (sym (get_or_from_slice_get lists n held.0 default held.1))
+        ∙ ap (λ (r : TermRules). record { term = term_of info r; value = slice_index_or lists n default; passed = 0 }) is

@@ -1,10 +1,13 @@
 -- What the parts of a segment that was checked stand for, and how they belong together (format page, "Indexes").
-use Rattle.std.specs.Prelude.{◌≡◌, ℕ, ◌<◌, List, [], length, map, replicate, All, Option, Some, None, slice_get, slice_index_or, option_map, option_copied}
+use Rattle.std.specs.Prelude.{◌≡◌, ℕ, [], length, replicate, Some, None, slice_get, slice_index_or, option_map, option_copied}
 use Rattle.lu_types.specs.declared.term.TermInfo.{TermInfo}
-use Rattle.lu_model.specs.Index.{IndexedEntry, IndexedTerm, frequency}
 use Rattle.term_dict.specs.Dictionary.{Dictionary}
 use Rattle.term_index.specs.Seeking.{AreChecked}
-use Rattle.freq_skips.specs.declared.entry.Entry.{Entry}
+use Rattle.lu_types.specs.Tables.{bits_at}
+use Rattle.lu_types.specs.Terms.{term_rules}
+use Rattle.freq_skips.specs.declared.rules.RuledTerm.{RuledTerm}
+use Rattle.freq_skips.specs.Terms.{TermData, term_of}
+use Rattle.freq_skips.specs.Walks.{WalkState}
 use Rattle.check_index.specs.declared.standing.OpenContents.{OpenContents}
 use Rattle.check_index.specs.declared.standing.OpenColumns.{OpenColumns}
 use Rattle.check_index.specs.Terms.{AreUsed, listed_terms, lists_in, AreListed}
@@ -37,14 +40,14 @@ pub record IsTied (size : ℕ) (contents : OpenContents) (columns : OpenColumns)
 abbrev pub IsTermOf : Segment → ℕ → TermInfo → Type 0
 IsTermOf s n info = option_map (λ t. t.info) (slice_get s.dictionary.terms n) ≡ Some info
 
--- no term
-abbrev pub no_indexed_term : IndexedTerm
-no_indexed_term = record { field = 0; text = []; entries = [] }
+-- nothing read of a term
+abbrev pub no_data : TermData
+no_data = record { postings = []; levels = [] }
 
--- an entry as a walk over documents and frequencies gives it
-abbrev pub entry_of : IndexedEntry → Entry
-entry_of entry = record { doc = entry.document; freq = frequency entry.occurrences }
+-- a term by what the dictionary says of it, with what its entries are read by
+abbrev pub ruled_term : Segment → TermInfo → RuledTerm
+ruled_term s info = term_of info (term_rules s.dictionary.numbers (bits_at s.index.fields info.field) s.index.size)
 
--- those of the term with a number
-abbrev pub listed_entries : Segment → ℕ → List Entry
-listed_entries s n = map entry_of (slice_index_or s.index.terms n no_indexed_term).entries
+-- a walk over the entries of the term with a number, of which the dictionary says this, before the first
+abbrev pub entries_of : Segment → ℕ → TermInfo → WalkState
+entries_of s n info = record { term = ruled_term s info; value = slice_index_or s.lists n no_data; passed = 0 }

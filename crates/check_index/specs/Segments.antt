@@ -6,6 +6,7 @@ use Rattle.lu_types.specs.declared.stored.SharedStore.{SharedStore}
 use Rattle.lu_model.specs.Index.{FieldVector, Index}
 use Rattle.stored_fields.specs.Values.{Document}
 use Rattle.term_dict.specs.Dictionary.{Dictionary}
+use Rattle.freq_skips.specs.Terms.{TermData}
 use Rattle.segment_infos.specs.declared.infos.SegInfo.{SegInfo}
 use Rattle.check_index.specs.declared.parts.CheckFault.{CheckFault}
 use Rattle.check_index.specs.declared.parts.CheckFault.TheVariants as faults
@@ -17,10 +18,12 @@ use Rattle.check_index.specs.Positions.{TermOccurrences, position_files}
 use Rattle.check_index.specs.Indexed.{indexed_terms}
 use Rattle.check_index.specs.Norms.{FieldNorms, norm_files}
 
--- what the files of a segment stand for: an index, and what the file of terms says
+-- what the files of a segment stand for: an index, and, term by term, what the files of terms, entries and positions say
 pub record Segment : Type 0 where
   pub index : Index
   pub dictionary : Dictionary
+  pub lists : List TermData
+  pub occurrences : List TermOccurrences
 
 -- what its fields, stored documents and terms are, read from these parts
 pub record Contents : Type 0 where
@@ -69,6 +72,8 @@ segment_of size contents columns = record {
     deleted = columns.deleted;
   };
   dictionary = contents.terms.dictionary;
+  lists = contents.terms.lists;
+  occurrences = contents.occurrences;
 }
 
 -- all files of a segment

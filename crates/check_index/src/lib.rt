@@ -18,3 +18,6 @@ mod terms;
 pub use judging::check_segment;
 pub use parts::{CheckFault, Parts, SepFiles};
 pub use standing::Standing;
+
+#[cfg(test)]
+mod tests;

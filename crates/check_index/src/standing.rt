@@ -2,7 +2,7 @@
 ghost use Rattle.std.specs.Prelude.{◌≡◌, ℕ, IfOk, option_copied};
 ghost use Rattle.term_index.specs.Seeking.{searched, names_of};
 ghost use Rattle.check_index.specs.Files.{file_at};
-ghost use Rattle.check_index.specs.Opened.{IsTermOf, listed_entries};
+ghost use Rattle.check_index.specs.Opened.{IsTermOf, entries_of};
 
 use crate::norms::FieldNorms;
 use crate::terms::{OpenTerms, rules_of};
@@ -105,10 +105,10 @@ impl<'a> Standing<'a> {
         TermIndex::load(alloc, terms.tii, &terms.terms, &self.contents.fields)
     }
 
-    /// The entries of a term of the segment. Takes no memory.
+    /// The entries of a term of the segment, from the first on. Takes no memory.
     pub fn entries(&self, term: &TermInfo) -> Entries<'a>
         requires { (n : ℕ) × IsTermOf self.now n term.now }
-        ensures { (n : ℕ) → IsTermOf self.now n term.now → result ≡ listed_entries self.now n }
+        ensures { (n : ℕ) → IsTermOf self.now n term.now → result ≡ entries_of self.now n term.now }
     {
         let contents = &self.contents;
         let numbers = contents.terms.terms.numbers();

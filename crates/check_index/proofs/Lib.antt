@@ -11,3 +11,5 @@ pub mod MadeFiles
 pub mod SegmentMade
 pub mod PositionLemmas
 pub mod PositionFiles
+pub mod StandsLemmas
+pub mod StandsLaws

@@ -8,3 +8,4 @@ pub mod Positions
 pub mod Indexed
 pub mod Segments
 pub mod Opened
+pub mod Stands

@@ -44,8 +44,7 @@ so_many-was n c d front fits e = go (nat_lt (length c.rest) n) e
     go : (b : Bool) → behind c (if b then Err Ends else front_of n c.rest) ≡ ok_pair {E = Bad} front d → (length front ≤ length c.rest) × IsBytes front × (length d.rest ≤ length c.rest) × IsBytes d.rest
     go true h = cc
     go false h =
-        let same = same_pair (take n c.rest) front (moved n c) d h in
-        (
+        let same = same_pair (take n c.rest) front (moved n c) d h in (
           subst (λ (bs : List ℕ). length bs ≤ length c.rest) same.0 (omega (arith, length-take n c.rest)),
           subst IsBytes same.0 (IsBytes-take n c.rest fits),
           subst (λ (m : Cursor). length m.rest ≤ length c.rest) same.1 (omega (arith, length-drop n c.rest)),

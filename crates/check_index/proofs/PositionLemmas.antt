@@ -60,8 +60,8 @@ module _ (fields : List TableField) (size : ℕ) (d : Dictionary) (frq : List �
     positions-more passed place end info rules value behind there is has before occurrences reads seen stands starts within =
         let p = posted info rules value in
         let kept : rules.omit_tf ≡ false → StandsInBoth (term_of info rules) value prx occurrences = λ omit.
-            let here = subst (λ (n : ℕ). ReadsTo (term_plan p) (place_in prx n) occurrences (place_in prx end)) (starts omit) reads in
-            subst (StandsInBoth (term_of info rules) value prx) (one_value p (place_in prx info.prox) seen occurrences stands.end (place_in prx end) stands.reads here) stands in
+        let here = subst (λ (n : ℕ). ReadsTo (term_plan p) (place_in prx n) occurrences (place_in prx end)) (starts omit) reads in
+        subst (StandsInBoth (term_of info rules) value prx) (one_value p (place_in prx info.prox) seen occurrences stands.end (place_in prx end) stands.reads here) stands in
         let so : IsPosted prx p occurrences = record { kept = kept; seen = seen; stands = stands } in
         HavePassed-more term_plan (IsPosted prx) (listed_postings fields size d lists) prx fits passed place end p occurrences
         (posted-at (ruled_terms fields size d) lists passed (term_of info rules) value (ruled_at fields size d passed info rules there is) has) before reads so within

@@ -110,28 +110,28 @@ module _ (folder : FolderFiles) (line : SegInfo) where
       let contents = contents_by fields x.index.stored terms x.occurrences in
       let columns = columns_by x.index.norms x.index.deleted x.index.vectors in
       let located = followed_by-stand (own_parts folder line) after_own s.own files (own-stand folder line.number line.compound s.own s.is_own)
-          (followed_by-stand (document_parts folder line.store s.own.documents) (λ documents. stands (with_documents s.own documents)) s.documents files (documents-stand folder line.store s.own.documents s.documents s.are_documents) refl) in
+      (followed_by-stand (document_parts folder line.store s.own.documents) (λ documents. stands (with_documents s.own documents)) s.documents files (documents-stand folder line.store s.own.documents s.documents s.are_documents) refl) in
       let table = holds-stand Fnm s.own.index.fnm (λ _. fnm_plan line.has_prox (norm_fields line)) (λ fields. stands fields) fields fields s.fnm refl in
       let entries = holds-stand Frq s.own.index.frq (λ _. frq_plan fields d.numbers line.size (infos_of d)) (λ lists. stands (listed_terms d lists)) x.lists terms s.frq refl in
       let index = holds-stand Tii s.own.index.tii (λ _. tii_plan d) (λ (_ : Unit {0}). needs Frq s.own.index.frq (λ _. frq_plan fields d.numbers line.size (infos_of d)) (λ _ lists. stands (listed_terms d lists))) tt terms s.tii entries in
       let all_terms = holds-stand Tis s.own.index.tis (λ tis. tis_plan fields line.size (length tis))
-          (λ e. needs Tii s.own.index.tii (λ _. tii_plan e) (λ _ (_ : Unit {0}). needs Frq s.own.index.frq (λ _. frq_plan fields e.numbers line.size (infos_of e)) (λ _ lists. stands (listed_terms e lists)))) d terms s.tis index in
+      (λ e. needs Tii s.own.index.tii (λ _. tii_plan e) (λ _ (_ : Unit {0}). needs Frq s.own.index.frq (λ _. frq_plan fields e.numbers line.size (infos_of e)) (λ _ lists. stands (listed_terms e lists)))) d terms s.tis index in
       let plan = λ (_ : List ℕ). prx_plan fields d.numbers line.size (infos_of d) x.lists in
       let positions = either-stand line.has_prox (no_positions x.lists) x.occurrences (needs Prx s.own.index.prx plan (λ _ all. stands all)) (Holds s.own.index.prx plan x.occurrences)
-          (λ h. holds-stand Prx s.own.index.prx plan (λ all. stands all) x.occurrences x.occurrences h refl) s.prx in
+      (λ h. holds-stand Prx s.own.index.prx plan (λ all. stands all) x.occurrences x.occurrences h refl) s.prx in
       let one_file = either-stand (nat_lt 0 (norm_count fields)) (map (λ (_ : TableField). None) fields) s.columns (needs Nrm s.own.index.nrm (λ _. nrm_plan (norm_count fields) line.size) (λ _ columns. stands (norms_from 0 columns fields)))
-          ((columns : List (List ℕ)) × Holds s.own.index.nrm (λ _. nrm_plan (norm_count fields) line.size) columns × (s.columns ≡ norms_from 0 columns fields))
-          (λ h. holds-stand Nrm s.own.index.nrm (λ _. nrm_plan (norm_count fields) line.size) (λ columns. stands (norms_from 0 columns fields)) h.0 s.columns h.1 h.2) s.nrm in
+      ((columns : List (List ℕ)) × Holds s.own.index.nrm (λ _. nrm_plan (norm_count fields) line.size) columns × (s.columns ≡ norms_from 0 columns fields))
+      (λ h. holds-stand Nrm s.own.index.nrm (λ _. nrm_plan (norm_count fields) line.size) (λ columns. stands (norms_from 0 columns fields)) h.0 s.columns h.1 h.2) s.nrm in
       let norms = followed_by-stand (column_files s.own.index.nrm line.size fields) (separate_files line.norm_gens fields line.size folder.separate (length fields)) s.columns x.index.norms one_file s.separate in
       let deleted = either-stand (is_some line.del_gen) [] x.index.deleted (needs Del folder.del (λ _. del_plan line.size line.deleted) (λ _ documents. stands documents)) (Holds folder.del (λ _. del_plan line.size line.deleted) x.index.deleted)
-          (λ h. holds-stand Del folder.del (λ _. del_plan line.size line.deleted) (λ documents. stands documents) x.index.deleted x.index.deleted h refl) s.del in
+      (λ h. holds-stand Del folder.del (λ _. del_plan line.size line.deleted) (λ documents. stands documents) x.index.deleted x.index.deleted h refl) s.del in
       let all_contents = followed_by-stand (field_files files.index line) (after_fields files) fields contents table
-          (followed_by-stand (stored_files line.store line.size (length fields) files.documents.fdx files.documents.fdt) (after_stored files fields) x.index.stored contents (stored-stand line.store line.size (length fields) files.documents.fdx files.documents.fdt x.index.stored s.stored)
-          (followed_by-stand (term_files files.index line.size fields) (after_terms files fields x.index.stored) terms contents all_terms
-          (followed_by-stand (position_files files.index line fields terms) (λ occurrences. stands (contents_by fields x.index.stored terms occurrences)) x.occurrences contents positions refl))) in
+      (followed_by-stand (stored_files line.store line.size (length fields) files.documents.fdx files.documents.fdt) (after_stored files fields) x.index.stored contents (stored-stand line.store line.size (length fields) files.documents.fdx files.documents.fdt x.index.stored s.stored)
+      (followed_by-stand (term_files files.index line.size fields) (after_terms files fields x.index.stored) terms contents all_terms
+      (followed_by-stand (position_files files.index line fields terms) (λ occurrences. stands (contents_by fields x.index.stored terms occurrences)) x.occurrences contents positions refl))) in
       let all_columns = followed_by-stand (norm_files files.index.nrm folder.separate line fields) (after_norms files fields) x.index.norms columns norms
-          (followed_by-stand (deletion_files folder.del line) (after_deletions files fields x.index.norms) x.index.deleted columns deleted
-          (followed_by-stand (document_vectors files.documents line fields) (λ vectors. stands (columns_by x.index.norms x.index.deleted vectors)) x.index.vectors columns s.vectors refl)) in
+      (followed_by-stand (deletion_files folder.del line) (after_deletions files fields x.index.norms) x.index.deleted columns deleted
+      (followed_by-stand (document_vectors files.documents line fields) (λ vectors. stands (columns_by x.index.norms x.index.deleted vectors)) x.index.vectors columns s.vectors refl)) in
       followed_by-stand (located_parts folder line) after_located files x located
       (followed_by-stand (content_files files line) (after_contents files) contents x all_contents
       (followed_by-stand (side_files folder files line fields) (λ columns. stands (segment_of line.size contents columns)) columns x all_columns s.value))
@@ -147,7 +147,7 @@ module _ (folder : FolderFiles) (line : SegInfo) where
   terms-held : (files : IndexFiles) (fields : List TableField) (terms : TermLists) → StandFor (term_files files line.size fields) terms → TermsHeld files fields terms
   terms-held files fields terms h =
       let first = holds-was Tis files.tis (λ tis. tis_plan fields line.size (length tis))
-          (λ d. needs Tii files.tii (λ _. tii_plan d) (λ _ (_ : Unit {0}). needs Frq files.frq (λ _. frq_plan fields d.numbers line.size (infos_of d)) (λ _ lists. stands (listed_terms d lists)))) terms h in
+      (λ d. needs Tii files.tii (λ _. tii_plan d) (λ _ (_ : Unit {0}). needs Frq files.frq (λ _. frq_plan fields d.numbers line.size (infos_of d)) (λ _ lists. stands (listed_terms d lists)))) terms h in
       let d = first.0 in
       let next = holds-was Tii files.tii (λ _. tii_plan d) (λ (_ : Unit {0}). needs Frq files.frq (λ _. frq_plan fields d.numbers line.size (infos_of d)) (λ _ lists. stands (listed_terms d lists))) terms first.2 in
       let last = holds-was Frq files.frq (λ _. frq_plan fields d.numbers line.size (infos_of d)) (λ lists. stands (listed_terms d lists)) terms next.2 in
@@ -174,7 +174,7 @@ module _ (folder : FolderFiles) (line : SegInfo) where
       let occurrences = last.0 in
       let plan = λ (_ : List ℕ). prx_plan fields terms.dictionary.numbers line.size (infos_of terms.dictionary) terms.lists in
       let positions = either-was line.has_prox (no_positions terms.lists) occurrences (needs Prx files.index.prx plan (λ _ all. stands all)) (Holds files.index.prx plan occurrences)
-          (λ h. let w = holds-was Prx files.index.prx plan (λ all. stands all) occurrences h in subst (Holds files.index.prx plan) (sym w.2) w.1) last.1 in
+      (λ h. let w = holds-was Prx files.index.prx plan (λ all. stands all) occurrences h in subst (Holds files.index.prx plan) (sym w.2) w.1) last.1 in
       subst (ContentsHeld files) (sym last.2) (record {
         fnm = subst (Holds files.index.fnm (λ _. fnm_plan line.has_prox (norm_fields line))) (sym fnm.2) fnm.1;
         stored = stored-was line.store line.size (length fields) files.documents.fdx files.documents.fdt stored documents.1;
@@ -195,12 +195,12 @@ module _ (folder : FolderFiles) (line : SegInfo) where
       let norms = first.0 in
       let cut = followed_by-was (column_files files.index.nrm line.size fields) (separate_files line.norm_gens fields line.size folder.separate (length fields)) norms first.1 in
       let one_file = either-was (nat_lt 0 (norm_count fields)) (map (λ (_ : TableField). None) fields) cut.0 (needs Nrm files.index.nrm (λ _. nrm_plan (norm_count fields) line.size) (λ _ columns. stands (norms_from 0 columns fields)))
-          ((columns : List (List ℕ)) × Holds files.index.nrm (λ _. nrm_plan (norm_count fields) line.size) columns × (cut.0 ≡ norms_from 0 columns fields))
-          (λ h. holds-was Nrm files.index.nrm (λ _. nrm_plan (norm_count fields) line.size) (λ columns. stands (norms_from 0 columns fields)) cut.0 h) cut.1 in
+      ((columns : List (List ℕ)) × Holds files.index.nrm (λ _. nrm_plan (norm_count fields) line.size) columns × (cut.0 ≡ norms_from 0 columns fields))
+      (λ h. holds-was Nrm files.index.nrm (λ _. nrm_plan (norm_count fields) line.size) (λ columns. stands (norms_from 0 columns fields)) cut.0 h) cut.1 in
       let next = followed_by-was (deletion_files folder.del line) (after_deletions files fields norms) columns first.2 in
       let deleted = next.0 in
       let del = either-was (is_some line.del_gen) [] deleted (needs Del folder.del (λ _. del_plan line.size line.deleted) (λ _ documents. stands documents)) (Holds folder.del (λ _. del_plan line.size line.deleted) deleted)
-          (λ h. let w = holds-was Del folder.del (λ _. del_plan line.size line.deleted) (λ documents. stands documents) deleted h in subst (Holds folder.del (λ _. del_plan line.size line.deleted)) (sym w.2) w.1) next.1 in
+      (λ h. let w = holds-was Del folder.del (λ _. del_plan line.size line.deleted) (λ documents. stands documents) deleted h in subst (Holds folder.del (λ _. del_plan line.size line.deleted)) (sym w.2) w.1) next.1 in
       let last = followed_by-was (document_vectors files.documents line fields) (λ vectors. stands (columns_by norms deleted vectors)) columns next.2 in
       subst (ColumnsHeld files fields) (sym last.2) (record { one_file = cut.0; nrm = one_file; separate = cut.2; del = del; vectors = last.1 })
 

@@ -62,7 +62,7 @@ module _ {C V R : Type 0} (plan : C → Plan V R) (IsSo : C → V → Type 0) (c
       record {
         values = values;
         so_far = subst (λ (ds : List C). AreUpTo plan ds bytes end values) (sym parts.1)
-        (turns-more plan bytes fits (take passed cs) before.values c place end v before.so_far (read_plan-ReadsTo (plan c) (place_in bytes place) v (place_in bytes end) reads));
+            (turns-more plan bytes fits (take passed cs) before.values c place end v before.so_far (read_plan-ReadsTo (plan c) (place_in bytes place) v (place_in bytes end) reads));
         count = simp length-append (omega (arith, before.count));
         each = λ n d lt is. all n lt d is;
         few = omega (arith, slice_get_within cs passed c e);

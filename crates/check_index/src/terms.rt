@@ -29,12 +29,7 @@ pub struct OpenTerms<'a> {
 }
 
 /// What the entries of a term are read by that is of the field with this number, in a segment of so many documents.
-pub fn rules_of(
-    fields: &FieldTable<'_>,
-    numbers: &TermNumbers,
-    field: u32,
-    size: u32,
-) -> TermRules
+pub fn rules_of(fields: &FieldTable<'_>, numbers: &TermNumbers, field: u32, size: u32) -> TermRules
     ensures { result ≡ term_rules numbers.now (bits_at fields.now field) size }
 {
     let bits = match fields.field(field) {

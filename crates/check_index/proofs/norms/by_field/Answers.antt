@@ -27,7 +27,7 @@ loop-number-preserved c =
       | then-has_norms+in_ok-push w ↦
           let pushed : c.if-has_norms.columns.items ≡ columns ++ Some w.column.result ∷ [] = cc (w.columns-is, w.in_ok-push.ensures.items) in
           let mapped : map option_copied c.if-has_norms.columns.items ≡ before ++ Some (column_of norms column) ∷ [] =
-              ap (map option_copied) pushed ∙ map-append option_copied columns (Some w.column.result ∷ []) ∙ ap (λ (bytes : List ℕ). before ++ Some bytes ∷ []) w.column.ensures in
+          ap (map option_copied) pushed ∙ map-append option_copied columns (Some w.column.result ∷ []) ∙ ap (λ (bytes : List ℕ). before ++ Some bytes ∷ []) w.column.ensures in
           subst (λ (found : FieldNorms). AreGiven norms fields found (number + 1) c.if-has_norms.column) (sym mapped)
           (subst (λ (k : ℕ). AreGiven norms fields (before ++ Some (column_of norms column) ∷ []) (number + 1) k) (sym w.column-is)
           (given-column norms fields before number column lt (sym c.has_norms.ensures ∙ w.if-has_norms.true) c.loop-number.invariant))

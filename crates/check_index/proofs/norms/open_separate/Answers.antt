@@ -43,14 +43,12 @@ loop-number-preserved c =
           let column = w.in-Ok.column in
           let set = slice_set norms number (Some column.now) in
           let is : c.if-is_separate.norms ≡ set = w.norms-is ∙ w.set.ensures in
-          let here = judges-asked (λ (b : Bor (List ℕ)). slice_set norms number (Some b.now)) test norms file (Ok column) (sym c.is_separate.ensures ∙ w.if-is_separate.true) (w.in-Ok.ensures.judged norms) in
-          (
+          let here = judges-asked (λ (b : Bor (List ℕ)). slice_set norms number (Some b.now)) test norms file (Ok column) (sym c.is_separate.ensures ∙ w.if-is_separate.true) (w.in-Ok.ensures.judged norms) in (
             ap length is ∙ length-set norms number (Some column.now) ∙ c.loop-number.invariant.0,
             subst (λ (found : FieldNorms). StandFor (separate_files gens fields size files (number + 1) c.args.norms) found) (sym is) (numbered-more all c.args.norms number norms set c.loop-number.invariant.1 here),
           )
       | else-is_separate w ↦
-          let here = stand-unasked test norms norms file (sym c.is_separate.ensures ∙ w.if-is_separate.false) refl in
-          (
+          let here = stand-unasked test norms norms file (sym c.is_separate.ensures ∙ w.if-is_separate.false) refl in (
             ap length w.norms-is ∙ c.loop-number.invariant.0,
             subst (λ (found : FieldNorms). StandFor (separate_files gens fields size files (number + 1) c.args.norms) found) (sym w.norms-is) (numbered-more all c.args.norms number norms norms c.loop-number.invariant.1 here),
           )

@@ -36,8 +36,7 @@ loop-info-init c =
     let size = c.args.size in
     let d = c.args.opened.now.terms in
     let frq = c.args.opened.now.frq.now in
-    let lists = lists_in fields size d frq in
-    (
+    let lists = lists_in fields size d frq in (
       ap (λ (w : TermWalk). w.dictionary) c.in-Ok.ensures,
       subst (λ (n : ℕ). HavePassedPositions fields size d lists c.args.prx.now n 0) (sym (ap (λ (w : TermWalk). w.passed) c.in-Ok.ensures)) (positions-none fields size d frq lists c.requires.listed c.args.prx.now (λ i. (c.type_inv.prx i).fits)),
     )
@@ -90,7 +89,7 @@ loop-info-preserved c =
     let read = c.in-Ok-check_term.ensures.term held.0 held.2.end held.2.reads in
     let stands = c.in-Ok-check_term.ensures.stands used held.0 held.2.end held.2.reads in
     let more = positions-more fields size d frq lists c.requires.listed prx (λ i. (c.type_inv.prx i).fits) w.passed c.loop-info.at end info rules held.0 held.2.end there is held.1 c.loop-info.invariant.1
-        read.0 read.1 stands.0 stands.1 (λ omit. c.in-Ok-check_term.ensures.starts omit used) c.in-Ok-check_term.ensures.within in
+    read.0 read.1 stands.0 stands.1 (λ omit. c.in-Ok-check_term.ensures.starts omit used) c.in-Ok-check_term.ensures.within in
     let moved = c.in-Some.ensures.passed in
     (ap (λ (x : TermWalk). x.dictionary) moved ∙ c.loop-info.invariant.0, subst (λ (n : ℕ). HavePassedPositions fields size d lists prx n end) (sym (ap (λ (x : TermWalk). x.passed) moved)) more)
 

@@ -28,7 +28,7 @@ returns-in-Err-check_term-clause-fault c =
     let info = c.in-Some.info in
     let spot = c.in-Err-check_term.spot in
     let there : option_map (λ (t : DictionaryTerm). t.info) (slice_get d.terms passed) ≡ Some info =
-        ap (λ (x : Dictionary). option_map (λ (t : DictionaryTerm). t.info) (slice_get x.terms passed)) (sym c.loop-info.invariant.0) ∙ sym c.in-Some.ensures.term in
+    ap (λ (x : Dictionary). option_map (λ (t : DictionaryTerm). t.info) (slice_get x.terms passed)) (sym c.loop-info.invariant.0) ∙ sym c.in-Some.ensures.term in
     let is = c.rules_of-rules.ensures ∙ ap (λ (m : TermNumbers). term_rules m (bits_at c.args.fields.now info.field) c.args.size) c.numbers-numbers.ensures.numbers in
     (c.in-Err-check_term.ensures.term.0, terms-fault c.args.fields.now c.args.size d c.args.frq.now (λ i. (c.type_inv.frq i).fits) passed c.loop-info.at spot.offset spot.rule info c.rules_of-rules.result there is c.loop-info.invariant.1 c.in-Err-check_term.ensures.term.1)
 
@@ -40,7 +40,7 @@ loop-info-preserved c =
     let info = c.in-Some.info in
     let end = c.in-Ok-check_term.end in
     let there : option_map (λ (t : DictionaryTerm). t.info) (slice_get d.terms passed) ≡ Some info =
-        ap (λ (x : Dictionary). option_map (λ (t : DictionaryTerm). t.info) (slice_get x.terms passed)) (sym c.loop-info.invariant.0) ∙ sym c.in-Some.ensures.term in
+    ap (λ (x : Dictionary). option_map (λ (t : DictionaryTerm). t.info) (slice_get x.terms passed)) (sym c.loop-info.invariant.0) ∙ sym c.in-Some.ensures.term in
     let is = c.rules_of-rules.ensures ∙ ap (λ (m : TermNumbers). term_rules m (bits_at fields info.field) c.args.size) c.numbers-numbers.ensures.numbers in
     let read = c.in-Ok-check_term.ensures.term in
     let good = c.in-Ok-check_term.ensures.good (used_at d passed info c.requires there) in

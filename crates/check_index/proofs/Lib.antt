@@ -1,0 +1,15 @@
+pub mod FileSteps
+pub mod TurnLemmas
+pub mod TermLemmas
+pub mod NormLemmas
+pub mod ReadBytes
+pub mod PartLemmas
+pub mod LocatedLemmas
+pub mod TermFiles
+pub mod ContentFiles
+pub mod MadeFiles
+pub mod SegmentMade
+pub mod PositionLemmas
+pub mod PositionFiles
+pub mod StandsLemmas
+pub mod StandsLaws

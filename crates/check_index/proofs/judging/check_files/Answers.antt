@@ -1,0 +1,31 @@
+use Rattle.std.proofs.Common.{refl}
+use Rattle.check_index.specs.Files.{folder_of}
+use Rattle.check_index.specs.Locating.{part_files_of}
+use Rattle.check_index.specs.Segments.{Segment, segment_of}
+use Rattle.check_index.specs.Opened.{contents_of, columns_of}
+use Rattle.check_index.proofs.LocatedLemmas.{located-short}
+use Rattle.check_index.proofs.ContentFiles.{located-fault, contents-fault, columns-fault, segment-stands}
+use Rattle.check_index.proofs.judging.check_files.Goals as goal
+
+pub open_contents-requires-clause-short : goal.open_contents-requires-clause-short
+open_contents-requires-clause-short c = located-short (folder_of c.args.parts.now) c.args.info.now (part_files_of c.in-Ok.files) c.requires.short c.in-Ok.ensures
+
+pub returns-in-Err-open_contents : goal.returns-in-Err-open_contents
+returns-in-Err-open_contents c =
+    contents-fault (λ (s : Segment). s) (folder_of c.args.parts.now) c.args.info.now (part_files_of c.in-Ok.files) c.in-Ok.ensures (contents_of c.args.info.now.size) c.in-Err-open_contents.fault c.in-Err-open_contents.ensures.judged
+
+pub returns-in-Err-open_columns : goal.returns-in-Err-open_columns
+returns-in-Err-open_columns c =
+    let size = c.args.info.now.size in
+    columns-fault (λ (s : Segment). s) (folder_of c.args.parts.now) c.args.info.now (part_files_of c.in-Ok.files) c.in-Ok.ensures (contents_of size c.in-Ok-open_contents.contents) c.in-Ok-open_contents.ensures.judged
+    (columns_of size) c.in-Err-open_columns.fault c.in-Err-open_columns.ensures.judged
+
+pub returns : goal.returns
+returns c =
+    let size = c.args.info.now.size in
+    let contents = contents_of size c.in-Ok-open_contents.contents in
+    let columns = columns_of size c.in-Ok-open_columns.columns in
+    segment-stands (λ (s : Segment). s) (folder_of c.args.parts.now) c.args.info.now (part_files_of c.in-Ok.files) c.in-Ok.ensures contents c.in-Ok-open_contents.ensures.judged columns (segment_of size contents columns) c.in-Ok-open_columns.ensures.judged refl
+
+pub returns-in-Err : goal.returns-in-Err
+returns-in-Err c = located-fault (λ (s : Segment). s) (folder_of c.args.parts.now) c.args.info.now part_files_of c.in-Err.fault c.in-Err.ensures

@@ -1,0 +1,11 @@
+pub mod Files
+pub mod Locating
+pub mod Turns
+pub mod Terms
+pub mod Documents
+pub mod Norms
+pub mod Positions
+pub mod Indexed
+pub mod Segments
+pub mod Opened
+pub mod Stands

@@ -1,0 +1,53 @@
+-- What the parts of a segment that was checked stand for, and how they belong together (format page, "Indexes").
+use Rattle.std.specs.Prelude.{◌≡◌, ℕ, [], length, replicate, Some, None, slice_get, slice_index_or, option_map, option_copied}
+use Rattle.lu_types.specs.declared.term.TermInfo.{TermInfo}
+use Rattle.term_dict.specs.Dictionary.{Dictionary}
+use Rattle.term_index.specs.Seeking.{AreChecked}
+use Rattle.lu_types.specs.Tables.{bits_at}
+use Rattle.lu_types.specs.Terms.{term_rules}
+use Rattle.freq_skips.specs.declared.rules.RuledTerm.{RuledTerm}
+use Rattle.freq_skips.specs.Terms.{TermData, term_of}
+use Rattle.freq_skips.specs.Walks.{WalkState}
+use Rattle.check_index.specs.declared.standing.OpenContents.{OpenContents}
+use Rattle.check_index.specs.declared.standing.OpenColumns.{OpenColumns}
+use Rattle.check_index.specs.Terms.{AreUsed, listed_terms, lists_in, AreListed}
+use Rattle.check_index.specs.Positions.{occurrences_in, ArePositions}
+use Rattle.check_index.specs.Segments.{Contents, Columns, Segment}
+
+-- what the open files of a segment of so many documents stand for
+abbrev pub contents_of : ℕ → OpenContents → Contents
+contents_of size o = record {
+  fields = o.fields;
+  stored = o.stored;
+  terms = listed_terms o.terms.terms (lists_in o.fields size o.terms.terms o.terms.frq.now);
+  occurrences = occurrences_in o.fields size o.terms.terms (lists_in o.fields size o.terms.terms o.terms.frq.now) (option_copied o.prx);
+}
+
+abbrev pub columns_of : ℕ → OpenColumns → Columns
+columns_of size o = record { norms = o.norms; deleted = o.live.documents; vectors = replicate size [] }
+
+-- they belong together
+pub record IsTied (size : ℕ) (contents : OpenContents) (columns : OpenColumns) : Type 0 where
+  pub documents : length contents.stored ≡ size
+  pub checked : AreChecked contents.terms.tii.now contents.terms.terms contents.fields
+  pub listed : AreListed contents.fields size contents.terms.terms contents.terms.frq.now (lists_in contents.fields size contents.terms.terms contents.terms.frq.now)
+  pub used : AreUsed contents.terms.terms
+  pub posted : ArePositions contents.fields size contents.terms.terms (lists_in contents.fields size contents.terms.terms contents.terms.frq.now) (option_copied contents.prx)
+  pub norms : length columns.norms ≡ length contents.fields
+  pub live : columns.live.size ≡ size
+
+-- the dictionary says this of the term with a number
+abbrev pub IsTermOf : Segment → ℕ → TermInfo → Type 0
+IsTermOf s n info = option_map (λ t. t.info) (slice_get s.dictionary.terms n) ≡ Some info
+
+-- nothing read of a term
+abbrev pub no_data : TermData
+no_data = record { postings = []; levels = [] }
+
+-- a term by what the dictionary says of it, with what its entries are read by
+abbrev pub ruled_term : Segment → TermInfo → RuledTerm
+ruled_term s info = term_of info (term_rules s.dictionary.numbers (bits_at s.index.fields info.field) s.index.size)
+
+-- a walk over the entries of the term with a number, of which the dictionary says this, before the first
+abbrev pub entries_of : Segment → ℕ → TermInfo → WalkState
+entries_of s n info = record { term = ruled_term s info; value = slice_index_or s.lists n no_data; passed = 0 }

@@ -1,0 +1,118 @@
+//! A segment whose files stand together (format page, "Indexes").
+ghost use Rattle.std.specs.Prelude.{◌≡◌, ℕ, IfOk, option_copied};
+ghost use Rattle.term_index.specs.Seeking.{searched, names_of};
+ghost use Rattle.check_index.specs.Files.{file_at};
+ghost use Rattle.check_index.specs.Opened.{IsTermOf, entries_of};
+
+use crate::norms::FieldNorms;
+use crate::terms::{OpenTerms, rules_of};
+use doc_marks::Live;
+use freq_skips::Entries;
+use lu_prims::OutOfMemory;
+use lu_types::{FieldTable, TermInfo};
+use std::alloc::Global;
+use std::marker::Model;
+use stored_fields::StoredView;
+use term_dict::TermFile;
+use term_index::TermIndex;
+
+/// The field table, the stored documents and the terms of a segment.
+#[derive(Drop)]
+pub struct OpenContents<'a> {
+    pub fields: FieldTable<'a>,
+    pub stored: StoredView<'a>,
+    pub terms: OpenTerms<'a>,
+    /// The bytes of `.prx`, where the segment has positions.
+    pub prx: Option<&'a [u8]>,
+}
+
+/// The norms and the deletions of a segment.
+#[derive(Drop)]
+pub struct OpenColumns<'a> {
+    pub norms: FieldNorms<'a>,
+    pub live: Live<'a>,
+}
+
+/// A segment whose files were checked. Contracts see the index that they stand for, and what its file of terms says.
+#[derive(Drop)]
+pub struct Standing<'a> {
+    pub(crate) contents: OpenContents<'a>,
+    pub(crate) columns: OpenColumns<'a>,
+    pub(crate) size: u32,
+}
+
+impl<'a> Model for Standing<'a> {
+    ghost use Rattle.check_index.specs.Segments.{Segment, segment_of};
+    ghost use Rattle.check_index.specs.Opened.{contents_of, columns_of, IsTied};
+
+    ghost Value = { Segment };
+
+    ghost view = { λ s. segment_of s.size (contents_of s.size s.contents) (columns_of s.size s.columns) };
+
+    ghost invariant = { λ s. IsTied s.size s.contents s.columns };
+}
+
+impl<'a> Standing<'a> {
+    /// The fields of the segment.
+    pub fn fields(&self) -> &FieldTable<'a>
+        ensures { result.now ≡ self.now.index.fields }
+    {
+        &self.contents.fields
+    }
+
+    /// The stored documents of the segment. Takes no memory.
+    pub fn stored(&self) -> StoredView<'a>
+        ensures { result ≡ self.now.index.stored }
+    {
+        self.contents.stored.again()
+    }
+
+    /// The terms of the segment.
+    pub fn terms(&self) -> &TermFile<'a>
+        ensures { result.now ≡ self.now.dictionary }
+    {
+        &self.contents.terms.terms
+    }
+
+    /// Which documents of the segment are live. Takes no memory.
+    pub fn live(&self) -> Live<'a>
+        ensures { result ≡ record { size = self.now.index.size; documents = self.now.index.deleted } }
+    {
+        self.columns.live.again()
+    }
+
+    /// The norms of the field with a number, one byte for each document, as a slice of their file; `None` exactly where there is no
+    /// such field, or it has no norms. Takes no memory.
+    pub fn norm_column(&self, field: u32) -> Option<&'a [u8]>
+        ensures { option_copied result ≡ file_at self.now.index.norms field }
+    {
+        self.columns.norms.column(field)
+    }
+
+    /// How many documents the segment has.
+    pub fn size(&self) -> u32
+        ensures size { result ≡ self.now.index.size }
+    {
+        self.size
+    }
+
+    /// The terms of the segment, which can be sought. Takes memory for the entries of their index, for the names of the fields and
+    /// for one text.
+    pub fn index(&self, alloc: Global) -> Result<TermIndex<'a>, OutOfMemory>
+        ensures { IfOk result (λ index. index ≡ searched self.now.dictionary (names_of self.now.index.fields)) }
+    {
+        let terms = &self.contents.terms;
+        TermIndex::load(alloc, terms.tii, &terms.terms, &self.contents.fields)
+    }
+
+    /// The entries of a term of the segment, from the first on. Takes no memory.
+    pub fn entries(&self, term: &TermInfo) -> Entries<'a>
+        requires { (n : ℕ) × IsTermOf self.now n term.now }
+        ensures { (n : ℕ) → IsTermOf self.now n term.now → result ≡ entries_of self.now n term.now }
+    {
+        let contents = &self.contents;
+        let numbers = contents.terms.terms.numbers();
+        let rules = rules_of(&contents.fields, &numbers, term.field, self.size);
+        Entries::at(contents.terms.frq, term, &rules)
+    }
+}

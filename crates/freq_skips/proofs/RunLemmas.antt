@@ -85,3 +85,10 @@ Runs-places w interval most omit payloads bytes limit count next prox place skip
     (subst (λ (q : TermRules). HasKnownPlaces (term_written w limit 0 0).info q frq)
     (ap (λ (n : ℕ). rules_of limit n w.most w.omit w.payloads) r.interval_is ∙ ap (λ (n : ℕ). rules_of limit interval n w.omit w.payloads) r.most_is
     ∙ ap (λ (b : Bool). rules_of limit interval most b w.payloads) r.omit_is ∙ ap (λ (b : Bool). rules_of limit interval most omit b) r.payloads_is) places)
+
+-- one entry more is the last, and there is one
+pub added_last : (last : ℕ) (entries : List Handed) (h : Handed) → last_doc last (entries ++ h ∷ []) ≡ h.doc
+added_last last entries h = last_doc-more last entries h
+
+pub added_some : (entries : List Handed) (h : Handed) → length (entries ++ h ∷ []) ≡ length entries + 1
+added_some entries h = omega (arith, length-append entries (h ∷ []))

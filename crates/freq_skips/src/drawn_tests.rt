@@ -133,6 +133,7 @@ struct WrittenFile {
 }
 
 /// The file of a term of one entry and, after it, the drawn term.
+#[tactic(auto, using(crate::proofs::RunLemmas::added_last, crate::proofs::RunLemmas::added_some))]
 fn written(rt: &impl Abort, alloc: Global, drawn: &Drawn) -> Result<WrittenFile, Fail> {
     assert!(rt; drawn.interval >= 2);
     let mut writer = FreqWriter::new(alloc, drawn.interval, drawn.levels)?;
@@ -378,6 +379,7 @@ fn answers(
 }
 
 /// Once in document 7 and three times in document 11, in a field with frequencies or without: its bytes, checked and read.
+#[tactic(auto, using(crate::proofs::RunLemmas::added_last, crate::proofs::RunLemmas::added_some))]
 fn row(rt: &impl Abort, alloc: Global, omit_tf: bool, bytes: &[u8]) -> Result<(), Fail> {
     let mut writer = FreqWriter::new(alloc, 16, 10)?;
     let place = writer.start(omit_tf, false);

@@ -114,15 +114,13 @@ fn reads(
     let mut steps: Steps<Read> = Steps::new();
     let mut entries = Entries::at(frq, info, rules);
     let mut left = wanted.1.iter();
-    let mut skipped = 0u32;
-    for _ in 0..info.doc_freq {
+    for _ in 0..passed {
+        let _passed = entries.next(&mut steps);
+    }
+    for _ in passed..info.doc_freq {
         let Some(entry) = entries.next(&mut steps) else {
             return false;
         };
-        if skipped < passed {
-            skipped = skipped.saturating_add(1);
-            continue;
-        }
         occurrences.open_doc(0, entry.freq);
         for _ in 0..u64::from(entry.freq) + 1 {
             let Some(occ) = occurrences.next() else {

@@ -47,6 +47,7 @@ stated-same found force delta next = outer (read_part num next)
     inner : (n : ℕ) (r : Result (List ℕ × Cursor) Bad) → (r >>= made delta n) >>= behind found ≡ (r >>= made delta n) >>= behind force
     inner n (Ok x) = refl
     inner n (Err bad) = refl
+
     outer : (r : Result (ℕ × Cursor) Bad)
         → (r >>= λ x. read_shape (payload_shape found delta (Some x.0)) x.1) >>= behind found ≡ (r >>= λ x. read_shape (payload_shape force delta (Some x.0)) x.1) >>= behind force
     outer (Ok (n, c)) = inner n (read_part (bytes n) c)
@@ -57,7 +58,7 @@ unfolding taken
 agrees-taken payloads found force here (inl same) = ap (λ (n : ℕ). taken payloads n here) same
 agrees-taken payloads found force here (inr (delta, next, is, states)) =
     let at : (n : ℕ) → with_force n (read_shape (occurrence_shape payloads n) here) ≡ with_force n (read_shape (optional true (alone num) (payload_shape n delta)) next) = λ n.
-        ap (with_force n) (read_shape-part vint _ here delta next is ∙ ap (λ (b : Bool). read_shape (optional b (alone num) (payload_shape n delta)) next) states) in
+    ap (with_force n) (read_shape-part vint _ here delta next is ∙ ap (λ (b : Bool). read_shape (optional b (alone num) (payload_shape n delta)) next) states) in
     at found ∙ stated-same found force delta next ∙ sym (at force)
 
 -- what is read of the payload length alone
@@ -81,7 +82,7 @@ pub agrees-passed : (payloads : Bool) (found force : ℕ) (here : Cursor) (n : �
 unfolding each read_plan
 agrees-passed payloads found force here n agrees =
     let both : read_plan (one (passed_kind payloads) found) here ≡ read_plan (one (passed_kind payloads) force) here =
-      passed-taken payloads found here ∙ ap (passed_of here.place) (agrees-taken payloads found force here agrees) ∙ sym (passed-taken payloads force here) in
+    passed-taken payloads found here ∙ ap (passed_of here.place) (agrees-taken payloads found force here agrees) ∙ sym (passed-taken payloads force here) in
     read_plan-and_then (one (passed_kind payloads) found) (each (one (passed_kind payloads)) n) here
     ∙ ap (λ (r : Result (ℕ × Cursor) Broken). r >>= λ x. read_plan (each (one (passed_kind payloads)) n x.0) x.1) both
     ∙ sym (read_plan-and_then (one (passed_kind payloads) force) (each (one (passed_kind payloads)) n) here)

@@ -86,7 +86,7 @@ among-opened t value occurrences passed entry skip freq left c new force behind 
       within = omega arith;
       stands = StandsWith-made p occurrences new entry 0 to.force (slice_index_or occurrences entry [])
           (subst (λ (x : List ℕ). StandsIn p (place_in x t.info.prox) entry 0 to.force new.position new.here) (sym prx)
-            (subst (λ (q : ℕ). StandsIn p start entry 0 to.force q new.here) (sym position) (subst (λ (d : Cursor). StandsIn p start entry 0 to.force 0 d) (sym there.0) to.stands)))
+          (subst (λ (q : ℕ). StandsIn p start entry 0 to.force q new.here) (sym position) (subst (λ (d : Cursor). StandsIn p start entry 0 to.force 0 d) (sym there.0) to.stands)))
           (subst (λ (d : Cursor). Agrees t.rules.payloads new.force to.force d) (sym there.0) there.1)
           lt (omega (arith, size)) refl;
     }
@@ -110,10 +110,9 @@ among-next t value occurrences passed (o ∷ os) c new r h some read force term 
     let lists : o ∷ os ≡ seen ∷ rest = sym s.left_is ∙ taken.is in
     let tail : os ≡ rest = cc in
     let stands = StandsWith-made p occurrences new s.entry (s.count + 1) new.force rest
-        (subst (λ (x : List ℕ). StandsIn p (place_in x t.info.prox) s.entry (s.count + 1) new.force new.position new.here) (sym prx)
-          (subst (λ (q : ℕ). StandsIn p start s.entry (s.count + 1) new.force q new.here) (sym same) (subst (λ (f : ℕ). StandsIn p start s.entry (s.count + 1) f (c.position + gap) new.here) (sym force) taken.stands)))
-        (inl refl) s.within (omega (arith, s.due, ap length tail)) refl in
-    (
+    (subst (λ (x : List ℕ). StandsIn p (place_in x t.info.prox) s.entry (s.count + 1) new.force new.position new.here) (sym prx)
+    (subst (λ (q : ℕ). StandsIn p start s.entry (s.count + 1) new.force q new.here) (sym same) (subst (λ (f : ℕ). StandsIn p start s.entry (s.count + 1) f (c.position + gap) new.here) (sym force) taken.stands)))
+    (inl refl) s.within (omega (arith, s.due, ap length tail)) refl in (
       rest,
       lists ∙ ap (λ (q : ℕ). (record { position = q; payload = r.payload }) ∷ rest) (sym same),
       record {

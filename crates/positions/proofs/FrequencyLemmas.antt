@@ -34,11 +34,13 @@ posting-front (p ∷ ps) qs zero lt = refl
 posting-front (p ∷ ps) qs (suc k) lt = posting-front ps qs k (omega arith)
 
 AreFrequent-more : (ps : List Posting) (q : Posting) → AreFrequent ps → 0 < q.freq → AreFrequent (ps ++ q ∷ [])
-AreFrequent-more ps q h some = record { some = λ k lt. elim (cases_lt k (length ps)) [
-  | inl low ↦ subst (λ (x : Posting). 0 < x.freq) (sym (posting-front ps (q ∷ []) k low)) (h.some k low)
-  | inr high ↦ let same : length ps ≡ k = omega (arith, length-append ps (q ∷ [])) in
-      subst (λ (x : Posting). 0 < x.freq) (sym (ap (λ (n : ℕ). get_or (ps ++ q ∷ []) n no_posting) (sym same) ∙ get_or-append_seam ps q [] no_posting)) some
-] }
+AreFrequent-more ps q h some = record {
+  some = λ k lt. elim (cases_lt k (length ps)) [
+    | inl low ↦ subst (λ (x : Posting). 0 < x.freq) (sym (posting-front ps (q ∷ []) k low)) (h.some k low)
+    | inr high ↦ let same : length ps ≡ k = omega (arith, length-append ps (q ∷ [])) in
+        subst (λ (x : Posting). 0 < x.freq) (sym (ap (λ (n : ℕ). get_or (ps ++ q ∷ []) n no_posting) (sym same) ∙ get_or-append_seam ps q [] no_posting)) some
+  ];
+}
 
 AreFrequent-step : (t : RuledTerm) (s : Passed) (c : Cursor) (r : Record) (d : Cursor) → AreFrequent s.postings → record_at ((entry_kind t).shape s) ((entry_kind t).conditions s c.place) c ≡ Ok (r, d) → AreFrequent ((entry_kind t).after s c.place r).postings
 AreFrequent-step t s c r d h e =

@@ -62,8 +62,8 @@ read-facts b force here r next fits e =
 forced-small : (b : Bool) (start : Cursor) (n force : ℕ) (here : Cursor) → IsBytes start.rest → Skims b start n force here → force < 2 ^ 31
 forced-small b start n force here fits h =
     (times-keeps-at (passed_kind b) (λ f c. (f < 2 ^ 31) × IsBytes c.rest)
-      (λ f c r d is e. let facts = read-facts b f c r d is.1 (record_at-was (occurrence_shape b f) (λ x. []) c r d e).0 in (facts.small is.0, facts.rest))
-      n 0 start force here (omega arith, fits) h.reads).0
+    (λ f c r d is e. let facts = read-facts b f c r d is.1 (record_at-was (occurrence_shape b f) (λ x. []) c r d e).0 in (facts.small is.0, facts.rest))
+    n 0 start force here (omega arith, fits) h.reads).0
 
 -- one occurrence more at the end of a document
 document-more : (b : Bool) (last : ℕ) (os : List Occurrence) (o : Occurrence) → IsDocument b last os → last_position last os ≤ o.position → o.position < 2 ^ 31 → length o.payload < 2 ^ 31 → IsBytes o.payload → (b ≡ false → o.payload ≡ []) → IsDocument b last (os ++ o ∷ [])

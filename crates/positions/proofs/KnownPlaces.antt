@@ -81,7 +81,7 @@ module _ (t : RuledTerm) (value : TermData) (prx : List ℕ) (occurrences : List
             let at = datum-entry m (stride t level) t.info.doc_freq pos lt in
             let first = first_at (suc m * stride t level - 1) at.0 in
             sum-is p start occurrences good.end level m first.force first.here good.interval (read_plan-ReadsTo (term_plan p) start occurrences good.end good.reads) below lt
-                (entry-some t value prx occurrences (suc m * stride t level - 1) good omit at.0) first.stands
+            (entry-some t value prx occurrences (suc m * stride t level - 1) good omit at.0) first.stands
             ∙ sym (prox_of-is p start (suc m * stride t level - 1) first);
       }
 

@@ -17,10 +17,12 @@ entries-omitted : (p : PostedTerm) (n : ℕ) (s : Held) (c : Cursor) → p.term.
 unfolding each read_plan
 entries-omitted p zero s c omit = (s, refl)
 entries-omitted p (suc n) s c omit =
-    let rest = entries-omitted p n (closed s) c omit in
-    (rest.0, read_plan-and_then (entry_plan p s) (each (entry_plan p) n) c
-        ∙ ap (λ (r : Result (Held × Cursor) Broken). r >>= λ x. read_plan (each (entry_plan p) n x.0) x.1) (entry-read p s c 0 s c (count_at-omitted p (length s.before) omit) (each-none (one (occurrence_kind p)) s c))
-        ∙ rest.1)
+    let rest = entries-omitted p n (closed s) c omit in (
+      rest.0,
+      read_plan-and_then (entry_plan p s) (each (entry_plan p) n) c
+          ∙ ap (λ (r : Result (Held × Cursor) Broken). r >>= λ x. read_plan (each (entry_plan p) n x.0) x.1) (entry-read p s c 0 s c (count_at-omitted p (length s.before) omit) (each-none (one (occurrence_kind p)) s c))
+          ∙ rest.1,
+    )
 
 -- it has no record
 pub omitted-read : (p : PostedTerm) (c : Cursor) → p.term.rules.omit_tf ≡ true → (v : List (List Occurrence)) × (read_plan (term_plan p) c ≡ Ok (v, c))

@@ -80,6 +80,7 @@ plain-stated force here r next e = outer (read_part vint here) e
     inner : (delta : ℕ) (x : Result (List ℕ × Cursor) Bad) → (x >>= λ y. ok_pair {E = Bad} (record { delta = delta; stated = None; payload = y.0 }) y.1) ≡ ok_pair r next → r.stated ≡ None
     inner delta (Ok (bs, d)) e = let same = same_pair (record { delta = delta; stated = None; payload = bs }) r d next e in ap (λ (x : OccurrenceRecord). x.stated) (sym same.0)
     inner delta (Err bad) e = absurd (err_is_not_ok e)
+
     outer : (x : Result (ℕ × Cursor) Bad) → (x >>= λ y. read_shape (payload_shape force y.0 None) y.1) ≡ ok_pair r next → r.stated ≡ None
     outer (Ok (delta, d)) e = inner delta (read_part (bytes force) d) e
     outer (Err bad) e = absurd (err_is_not_ok e)

@@ -121,6 +121,7 @@ led-start t value prx occurrences point good omit is =
       within = omega (arith, is.prox, good.within omit);
       below = omega arith;
     })
+
 led-by : (t : RuledTerm) (value : TermData) (prx : List ℕ) (occurrences : List (List Occurrence)) (point : SkipPoint) → IsBytes prx → StandsInBoth t value prx occurrences → t.rules.omit_tf ≡ false → IsLedTo t value point → LeadsTo (posted_term t value) prx point.passed point.prox
 led-by t value prx occurrences point fits good omit is =
     let p = posted_term t value in

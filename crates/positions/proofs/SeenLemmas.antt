@@ -43,7 +43,7 @@ taken-next p start v end entry count found force position here r next all h agre
     let conditions : OccurrenceRecord → List Condition = λ r. occurrence_conditions p (due_with (count == 0) entry force position here.place) r.delta in
     let was = record_at-was (occurrence_shape p.term.rules.payloads force) conditions here again.0 again.1 again.2 in
     let both : taken_of r (length_after found r) next ≡ taken_of again.0 (length_after force again.0) again.1 =
-      sym (taken-read p.term.rules.payloads found here r next read) ∙ agrees-taken p.term.rules.payloads found force here agrees ∙ taken-read p.term.rules.payloads force here again.0 again.1 was.0 in
+    sym (taken-read p.term.rules.payloads found here r next read) ∙ agrees-taken p.term.rules.payloads found force here agrees ∙ taken-read p.term.rules.payloads force here again.0 again.1 was.0 in
     let same = taken-same r again.0 (length_after found r) (length_after force again.0) next again.1 both in
     let kept = all_unbroken (conditions again.0) was.1 in
     let e : occurrence_at p entry count force position here ≡ Ok (r, next) = again.2 ∙ ap (λ (x : OccurrenceRecord). ok x again.1) (sym same.0) ∙ ap (λ (c : Cursor). ok r c) (sym same.2) in
@@ -57,6 +57,7 @@ taken-next p start v end entry count found force position here r next all h agre
   where
     ok : OccurrenceRecord → Cursor → Result (OccurrenceRecord × Cursor) ℕ
     ok r c = Ok (r, c)
+
     below : (n : ℕ) → nat_le (2 ^ 31) n ≡ false → n < 2 ^ 31
     below n e = elim (cases_lt n (2 ^ 31)) [ inl low ↦ low | inr high ↦ let t : nat_le (2 ^ 31) n ≡ true = grind (arith, nat_tests) in absurd (cc) ]
 

@@ -172,4 +172,4 @@ pub Stands-as : (p : PostedTerm) (start : Cursor) (passed count force position :
     → StandsIn p start passed count force position here → StandsIn p start k j f q here
 Stands-as p start passed count force position here k j f q a b c d h =
     subst (λ (n : ℕ). StandsIn p start n j f q here) (sym a) (subst (λ (n : ℕ). StandsIn p start passed n f q here) (sym b)
-      (subst (λ (n : ℕ). StandsIn p start passed count n q here) (sym c) (subst (λ (n : ℕ). StandsIn p start passed count force n here) (sym d) h)))
+    (subst (λ (n : ℕ). StandsIn p start passed count n q here) (sym c) (subst (λ (n : ℕ). StandsIn p start passed count force n here) (sym d) h)))

@@ -67,7 +67,7 @@ entry-begins p start v end passed count force position here all h lt le =
     let parts = entry-parts p start v end passed count force position here all h lt in
     let rest = sym (each-rest (one (occurrence_kind p)) count (count_at p passed) h.mid h.behind h.held here le h.reads) ∙ parts.times_read in
     let kept = times-keeps (occurrence_kind p) (Keeps h.held.now h.held.before) (Keeps-step p h.held.now h.held.before) (count_at p passed - count) h.held here parts.here parts.next
-        (record { back = []; now_is = sym (append-nil h.held.now); before_is = refl }) rest in
+    (record { back = []; now_is = sym (append-nil h.held.now); before_is = refl }) rest in
     record { back = kept.back; entry = entry-is p start v end passed h.mid h.behind parts h.begun (kept.before_is ∙ h.before_is) ∙ kept.now_is }
 
 -- there are as many as the entry's frequency
@@ -94,6 +94,6 @@ entry-next p start v end passed count force position here r next all h lt due e 
     let size : count < length entry = omega (arith, ap length is, length-append h.held.now (o ∷ begins.back), h.now_is) in
     drop-cons entry count o size
     ∙ ap (λ (x : Occurrence). x ∷ drop (suc count) entry)
-      (ap (λ (l : List Occurrence). get_or l count o) is ∙ ap (λ (n : ℕ). get_or (h.held.now ++ o ∷ begins.back) n o) (sym h.now_is) ∙ get_or-append_seam h.held.now o begins.back o
-        ∙ ap (λ (q : ℕ). occurrence_of p.term q r) h.position_is)
+    (ap (λ (l : List Occurrence). get_or l count o) is ∙ ap (λ (n : ℕ). get_or (h.held.now ++ o ∷ begins.back) n o) (sym h.now_is) ∙ get_or-append_seam h.held.now o begins.back o
+    ∙ ap (λ (q : ℕ). occurrence_of p.term q r) h.position_is)
     ∙ ap (λ (n : ℕ). occurrence_of p.term position r ∷ drop n entry) (sym (add-one count))

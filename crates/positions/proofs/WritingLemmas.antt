@@ -53,9 +53,9 @@ holds-added w payloads written entries now o h =
     let doc = document_bytes payloads None 0 now in
     let new = record_bytes (written_record payloads (last_length None now) (last_position 0 now) o) in
     let same : record_bytes (written_record w.payloads w.before w.position o) ≡ new =
-      ap (λ (b : Bool). record_bytes (written_record b w.before w.position o)) h.holds.payloads_are
-      ∙ ap (λ (b : Option ℕ). record_bytes (written_record payloads b w.position o)) h.before
-      ∙ ap (λ (q : ℕ). record_bytes (written_record payloads (last_length None now) q o)) h.position in
+    ap (λ (b : Bool). record_bytes (written_record b w.before w.position o)) h.holds.payloads_are
+    ∙ ap (λ (b : Option ℕ). record_bytes (written_record payloads b w.position o)) h.before
+    ∙ ap (λ (q : ℕ). record_bytes (written_record payloads (last_length None now) q o)) h.position in
     let whole : w.bytes ≡ written ++ (front ++ doc) = h.holds.bytes ∙ ap (λ (l : List ℕ). written ++ l) (occurrences_bytes-more payloads entries now) in
     record {
       holds = record {
@@ -80,6 +80,6 @@ written-read p written entries prx rest h is fits =
     let whole : prx ≡ (written ++ bytes) ++ rest = is ∙ sym (append_assoc written bytes rest) in
     let size : length written + length bytes ≡ length (written ++ bytes) = sym (length-append written bytes) in
     let there : place_in prx (length written + length bytes) ≡ at (length written + length bytes) rest =
-      ap (λ (l : List ℕ). place_in l (length written + length bytes)) whole ∙ ap (λ (l : List ℕ). at (length written + length bytes) l) (drop_at (written ++ bytes) rest (length written + length bytes) (sym size)) in
+    ap (λ (l : List ℕ). place_in l (length written + length bytes)) whole ∙ ap (λ (l : List ℕ). at (length written + length bytes) l) (drop_at (written ++ bytes) rest (length written + length bytes) (sym size)) in
     reads-read_plan (term_plan p) (place_in prx (length written)) entries (place_in prx (length written + length bytes)) (IsBytes-drop (length written) prx fits)
-        (ap (λ (c : Cursor). read_plan (term_plan p) c) here ∙ w.reads rest ∙ ap (λ (c : Cursor). ok_of (entries, c)) (sym there))
+    (ap (λ (c : Cursor). read_plan (term_plan p) c) here ∙ w.reads rest ∙ ap (λ (c : Cursor). ok_of (entries, c)) (sym there))

@@ -70,7 +70,7 @@ module _ (p : PostedTerm) (first : Held) (place : ℕ) where
       → HasWritten p first place (n + length os) (bytes ++ document_bytes p.term.rules.payloads before last os) (last_length before os) (last_position last os) (now ++ os)
   rest-written [] n bytes before last now h some is =
       subst (λ (l : List Occurrence). HasWritten p first place (n + 0) (bytes ++ []) before last l) (sym (append-nil now))
-        (subst (λ (l : List ℕ). HasWritten p first place (n + 0) l before last now) (sym (append-nil bytes)) (subst (λ (k : ℕ). HasWritten p first place k bytes before last now) (let e : n ≡ n + 0 = omega arith in e) h))
+      (subst (λ (l : List ℕ). HasWritten p first place (n + 0) l before last now) (sym (append-nil bytes)) (subst (λ (k : ℕ). HasWritten p first place k bytes before last now) (let e : n ≡ n + 0 = omega arith in e) h))
   rest-written (o ∷ os) n bytes before last now h some (le, small, few, fits, none, more) =
       let b = p.term.rules.payloads in
       let r = written_record b before last o in
@@ -81,5 +81,5 @@ module _ (p : PostedTerm) (first : Held) (place : ℕ) where
       let rest = rest-written os (n + 1) (bytes ++ record_bytes r) (Some (length o.payload)) o.position (now ++ o ∷ []) one (omega (arith, length-append now (o ∷ []))) more in
       let back = document_bytes b (Some (length o.payload)) o.position os in
       subst (λ (k : ℕ). HasWritten p first place k (bytes ++ (record_bytes r ++ back)) (last_length (Some (length o.payload)) os) (last_position o.position os) (now ++ o ∷ os)) (let e : n + 1 + length os ≡ n + suc (length os) = omega arith in e)
-        (subst (λ (l : List ℕ). HasWritten p first place (n + 1 + length os) l (last_length (Some (length o.payload)) os) (last_position o.position os) (now ++ o ∷ os)) (append_assoc bytes (record_bytes r) back)
-          (subst (λ (l : List Occurrence). HasWritten p first place (n + 1 + length os) ((bytes ++ record_bytes r) ++ back) (last_length (Some (length o.payload)) os) (last_position o.position os) l) (append_assoc now (o ∷ []) os) rest))
+      (subst (λ (l : List ℕ). HasWritten p first place (n + 1 + length os) l (last_length (Some (length o.payload)) os) (last_position o.position os) (now ++ o ∷ os)) (append_assoc bytes (record_bytes r) back)
+      (subst (λ (l : List Occurrence). HasWritten p first place (n + 1 + length os) ((bytes ++ record_bytes r) ++ back) (last_length (Some (length o.payload)) os) (last_position o.position os) l) (append_assoc now (o ∷ []) os) rest))

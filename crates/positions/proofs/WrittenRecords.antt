@@ -63,10 +63,11 @@ written-spells true force before gap payload (inl none) small few fits plain =
     subst (λ (b : Option ℕ). Spells (occurrence_shape true force) (written_parts true b gap payload) (record_bytes (written_parts true b gap payload))) (sym none) (stated-spells force gap payload small few fits)
 written-spells true force before gap payload (inr some) small few fits plain =
     subst (λ (b : Option ℕ). Spells (occurrence_shape true force) (written_parts true b gap payload) (record_bytes (written_parts true b gap payload))) (sym some)
-        (go (force == length payload) (λ e. same-number force (length payload) e))
+    (go (force == length payload) (λ e. same-number force (length payload) e))
   where
     same-number : (m n : ℕ) → (m == n) ≡ true → n ≡ m
     same-number m n e = grind (arith, nat_tests)
+
     go : (b : Bool) → (b ≡ true → length payload ≡ force) → Spells (occurrence_shape true force) (with_length (not b) gap payload) (record_bytes (with_length (not b) gap payload))
     go true same = forced-spells force gap payload small (same refl) fits
     go false same = stated-spells force gap payload small few fits
@@ -80,6 +81,7 @@ written-force true force before gap payload (inr some) plain =
   where
     same-number : (m n : ℕ) → (m == n) ≡ true → m ≡ n
     same-number m n e = grind (arith, nat_tests)
+
     go : (b : Bool) → (b ≡ true → force ≡ length payload) → length_after force (with_length (not b) gap payload) ≡ length payload
     go true same = same refl
     go false same = refl

@@ -53,7 +53,7 @@ module _ (p : PostedTerm) (place : ℕ) (entries : List (List Occurrence)) (h : 
         let number : (k + 1) / s - 1 ≡ k / s = ap (λ (n : ℕ). n - 1) (multiple-next k s pos e) ∙ omega arith in
         let sum : length (front k) ≡ place + length (front k) - p.term.info.prox = omega (arith, h.starts) in
         other-false (has_datum p.term (k + 1) level) (datum_at p (k + 1) level).prox (place + length (front k) - p.term.info.prox)
-            (ap (λ (n : ℕ). (point_at p.value level n).prox) number ∙ told ∙ ap (λ (n : ℕ). length (front n)) index ∙ sum)
+        (ap (λ (n : ℕ). (point_at p.value level n).prox) number ∙ told ∙ ap (λ (n : ℕ). length (front n)) index ∙ sum)
   ])
 
   -- the first occurrence of an entry breaks no rule
@@ -100,11 +100,11 @@ module _ (p : PostedTerm) (place : ℕ) (entries : List (List Occurrence)) (h : 
       let start : HasWritten p s at 0 [] None 0 [] = record { held = s; writes = Writes-none (one (occurrence_kind p)) at s; before_is = inl refl; plain = plain; position_is = position; now_is = now; kept = refl } in
       let delta = (written_record b None 0 o).delta in
       let good : first_broken (occurrence_conditions p (due_with (length s.now == 0) (length s.before) s.force s.position (at + 0)) delta) ≡ None =
-        ap (λ (l : List Occurrence). first_broken (occurrence_conditions p (due_with (length l == 0) (length s.before) s.force s.position (at + 0)) delta)) now
-        ∙ ap (λ (n : ℕ). first_broken (occurrence_conditions p (due_with true n s.force s.position (at + 0)) delta)) before
-        ∙ ap (λ (n : ℕ). first_broken (occurrence_conditions p (due_with true k s.force n (at + 0)) delta)) position
-        ∙ ap (λ (n : ℕ). first_broken (occurrence_conditions p (due_with true k s.force 0 n) delta)) (add-zero at)
-        ∙ first-good k s.force o lt small in
+      ap (λ (l : List Occurrence). first_broken (occurrence_conditions p (due_with (length l == 0) (length s.before) s.force s.position (at + 0)) delta)) now
+      ∙ ap (λ (n : ℕ). first_broken (occurrence_conditions p (due_with true n s.force s.position (at + 0)) delta)) before
+      ∙ ap (λ (n : ℕ). first_broken (occurrence_conditions p (due_with true k s.force n (at + 0)) delta)) position
+      ∙ ap (λ (n : ℕ). first_broken (occurrence_conditions p (due_with true k s.force 0 n) delta)) (add-zero at)
+      ∙ first-good k s.force o lt small in
       let first = one-written p s at 0 [] None 0 [] o start le small few fits none good in
       let rest = rest-written p s at os (0 + 1) ([] ++ record_bytes (written_record b None 0 o)) (Some (length o.payload)) o.position ([] ++ o ∷ []) first (omega arith) more in
       subst (λ (n : ℕ). HasWritten p s at n (document_bytes b None 0 (o ∷ os)) (last_length None (o ∷ os)) (last_position 0 (o ∷ os)) (o ∷ os)) (let e : 0 + 1 + length os ≡ suc (length os) = omega arith in e) rest
@@ -119,13 +119,13 @@ module _ (p : PostedTerm) (place : ℕ) (entries : List (List Occurrence)) (h : 
       let within : k < p.term.info.doc_freq = omega (arith, h.count) in
       let due : count_at p (length w.held.before) ≡ length d = ap (count_at p) before ∙ count_at-kept p k h.kept ∙ h.frequencies k within in
       let turn : Writes (entry_plan p w.held) at (document_bytes b None 0 d ++ []) (closed doc.held) =
-        Writes-and_then (times (occurrence_kind p) (count_at p (length w.held.before)) w.held) (λ held. done (closed held)) at (document_bytes b None 0 d) [] doc.held (closed doc.held)
-            (subst (λ (n : ℕ). Writes (times (occurrence_kind p) n w.held) at (document_bytes b None 0 d) doc.held) (sym due) doc.writes) (Writes-done (at + length (document_bytes b None 0 d)) (closed doc.held)) in
+      Writes-and_then (times (occurrence_kind p) (count_at p (length w.held.before)) w.held) (λ held. done (closed held)) at (document_bytes b None 0 d) [] doc.held (closed doc.held)
+      (subst (λ (n : ℕ). Writes (times (occurrence_kind p) n w.held) at (document_bytes b None 0 d) doc.held) (sym due) doc.writes) (Writes-done (at + length (document_bytes b None 0 d)) (closed doc.held)) in
       let listed : take (suc k) entries ≡ take k entries ++ d ∷ [] = take-suc entries k [] lt in
       let bytes : front (suc k) ≡ front k ++ document_bytes b None 0 d = ap (occurrences_bytes b) listed ∙ occurrences_bytes-more b (take k entries) d in
       let made : Writes (entries_plan p (k + 1)) place (front k ++ document_bytes b None 0 d) (closed doc.held) =
-        Writes-turn (entry_plan p) nothing_held place k (front k) w.held (document_bytes b None 0 d) (closed doc.held) w.writes
-            (subst (λ (l : List ℕ). Writes (entry_plan p w.held) at l (closed doc.held)) (append-nil (document_bytes b None 0 d)) turn) in
+      Writes-turn (entry_plan p) nothing_held place k (front k) w.held (document_bytes b None 0 d) (closed doc.held) w.writes
+      (subst (λ (l : List ℕ). Writes (entry_plan p w.held) at l (closed doc.held)) (append-nil (document_bytes b None 0 d)) turn) in
       record {
         held = closed doc.held;
         writes = subst (λ (l : List ℕ). Writes (entries_plan p (suc k)) place l (closed doc.held)) (sym bytes) (subst (λ (n : ℕ). Writes (entries_plan p n) place (front k ++ document_bytes b None 0 d) (closed doc.held)) (add-one k) made);
@@ -146,7 +146,7 @@ module _ (p : PostedTerm) (place : ℕ) (entries : List (List Occurrence)) (h : 
       let whole : take (length entries) entries ≡ entries = take_all (length entries) entries (omega arith) in
       let bytes = ap (occurrences_bytes p.term.rules.payloads) whole in
       let made : Writes (term_plan p) place (front (length entries) ++ []) w.held.before =
-        Writes-and_then (entries_plan p p.term.info.doc_freq) (λ s. done s.before) place (front (length entries)) [] w.held w.held.before
-            (subst (λ (n : ℕ). Writes (entries_plan p n) place (front (length entries)) w.held) h.count w.writes) (Writes-done (place + length (front (length entries))) w.held.before) in
+      Writes-and_then (entries_plan p p.term.info.doc_freq) (λ s. done s.before) place (front (length entries)) [] w.held w.held.before
+      (subst (λ (n : ℕ). Writes (entries_plan p n) place (front (length entries)) w.held) h.count w.writes) (Writes-done (place + length (front (length entries))) w.held.before) in
       subst (λ (v : List (List Occurrence)). Writes (term_plan p) place (occurrences_bytes p.term.rules.payloads entries) v) (w.before_is ∙ whole)
-        (subst (λ (l : List ℕ). Writes (term_plan p) place l w.held.before) (append-nil (front (length entries)) ∙ bytes) made)
+      (subst (λ (l : List ℕ). Writes (term_plan p) place l w.held.before) (append-nil (front (length entries)) ∙ bytes) made)

@@ -26,7 +26,9 @@ fn draw(term: u32, entry: u32, occurrence: u32, limit: u32) -> u32
     requires { 0 < limit }
     ensures { result < limit }
 {
-    let mixed = term.wrapping_mul(2654435761) ^ entry.wrapping_mul(40503) ^ occurrence.wrapping_mul(9176);
+    let mixed = term.wrapping_mul(2654435761)
+        ^ entry.wrapping_mul(40503)
+        ^ occurrence.wrapping_mul(9176);
     let turned = mixed ^ (mixed >> 15);
     (turned.wrapping_mul(2246822519) >> 7) % limit
 }
@@ -36,7 +38,11 @@ impl Drawn {
     fn of(number: u32) -> Drawn {
         Drawn {
             number,
-            entries: if number % 10 == 0 { 70 } else { 1 + draw(number, 1000, 0, 20) },
+            entries: if number % 10 == 0 {
+                70
+            } else {
+                1 + draw(number, 1000, 0, 20)
+            },
             interval: 2 + number % 15,
             levels: 1 + draw(number, 1000, 1, 6),
             payloads: number % 3 != 0,
@@ -82,7 +88,11 @@ struct Place {
 }
 
 /// The bytes of `.prx` of a term whose lengths are stated only where they change, and the places of its entries.
-fn carried_positions(alloc: Global, drawn: &Drawn, places: &mut Vec<Place>) -> Result<Vec<u8>, Fail> {
+fn carried_positions(
+    alloc: Global,
+    drawn: &Drawn,
+    places: &mut Vec<Place>,
+) -> Result<Vec<u8>, Fail> {
     let mut bytes = Vec::new(alloc);
     let mut force = 0;
     for entry in 0..drawn.entries {
@@ -163,7 +173,8 @@ fn level_of(
     let mut carried = 0;
     for index in 0..drawn.entries / stride {
         let entry = index.wrapping_add(1).wrapping_mul(stride).wrapping_sub(1);
-        let (Some(start), Some(place)) = (starts.get(entry as usize), places.get(entry as usize)) else {
+        let (Some(start), Some(place)) = (starts.get(entry as usize), places.get(entry as usize))
+        else {
             return Err(Fail::from("no entry"));
         };
         let doc = entry.wrapping_sub(1).wrapping_mul(2);
@@ -218,7 +229,11 @@ fn entries_of(alloc: Global, drawn: &Drawn, places: &[Place]) -> Result<(Vec<u8>
         if stride == 0 || stride > drawn.entries {
             break;
         }
-        let below = if level == 0 { None } else { Some(children.as_slice()) };
+        let below = if level == 0 {
+            None
+        } else {
+            Some(children.as_slice())
+        };
         let made = level_of(alloc, drawn, stride, &starts, places, below)?;
         built.push(made.bytes)?;
         children = made.children;
@@ -309,8 +324,14 @@ fn drawn_terms(rt: HostRuntime) -> Result<(), Fail> {
             let Some((mut occurrences, passed)) = found else {
                 return Err(Fail::from("not good"));
             };
-            assert!(rt; passed == last_point(&drawn, target), "term {number}, target {target}");
-            assert!(rt; reads_on(&mut occurrences, &drawn, passed), "term {number}, target {target}");
+            assert!(rt;
+                passed == last_point(&drawn, target),
+                "term {number}, target {target}"
+            );
+            assert!(rt;
+                reads_on(&mut occurrences, &drawn, passed),
+                "term {number}, target {target}"
+            );
         }
     }
     Ok(())

@@ -57,12 +57,12 @@ fn is_other_length(walk: &Walk<'_>, force: u32) -> bool
     requires few { level_count walk.now.term < 2 ^ 32 }
     ensures { result ≡ any_below (carries_other_length (posted_by walk.now) walk.now.passed force) (level_count walk.now.term) }
 {
-    let mut level = 0;
-    while let Some(datum) = walk.datum(level) {
+    let mut number = 0;
+    while let Some(datum) = walk.datum(number) {
         if datum.payload != force {
             return true;
         }
-        level += 1;
+        number += 1;
     }
     false
 }

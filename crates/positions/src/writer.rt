@@ -164,7 +164,12 @@ impl ProxWriter {
         ensures ok { OnOk result (self.new ≡ added self.old (record { position = position; payload = payload.now })) }
         ensures err { OnErr result (self.new ≡ self.old) }
     {
-        let parts = written(self.payloads, self.before, position - self.position, payload);
+        let parts = written(
+            self.payloads,
+            self.before,
+            position - self.position,
+            payload,
+        );
         put_parts(&mut self.bytes, &parts)?;
         self.before = Some(payload.len() as u32);
         self.position = position;

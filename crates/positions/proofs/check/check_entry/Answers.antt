@@ -38,8 +38,8 @@ loop-read-preserved c =
       stands = λ start h lt is.
           let e = expected_as p r.payloads k c.loop-read.read r.force r.position r.cur (Ok (read.0, new.cur)) same read.1 in
           Stands-as p start k (c.loop-read.read + 1) _ (r.position + position_gap p.term.rules.payloads read.0.delta) new.cur k (c.loop-read.read + 1) new.force new.position refl refl read.2
-              (read.3 ∙ ap (λ (b : Bool). r.position + position_gap b read.0.delta) same)
-              (Stands-more p start k c.loop-read.read r.force r.position r.cur read.0 new.cur (i.stands start h lt is) e);
+          (read.3 ∙ ap (λ (b : Bool). r.position + position_gap b read.0.delta) same)
+          (Stands-more p start k c.loop-read.read r.force r.position r.cur read.0 new.cur (i.stands start h lt is) e);
     }
 
 pub returns-clause-payloads : goal.returns-clause-payloads
@@ -53,4 +53,4 @@ returns-clause-entry c = λ start h lt is.
     let r = c.loop-read.reading in
     let all : c.loop-read.read ≡ count_at p k = omega (arith, i.within) in
     Stands-as p start (k + 1) 0 r.force 0 r.cur c.args.walk.now.passed 0 r.force 0 c.requires.passed refl refl refl
-        (Stands-closed p start k c.loop-read.read r.force r.position r.cur (i.stands start h lt is) all)
+    (Stands-closed p start k c.loop-read.read r.force r.position r.cur (i.stands start h lt is) all)

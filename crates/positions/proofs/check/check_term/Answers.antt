@@ -80,9 +80,11 @@ returns-in-Err-clause-term c = λ value behind h.
     let step = c.in-Some.ensures.2 in
     let answer = answered w n c.in-Some.walked step c.in-Some.ensures.1 c.in-Some.ensures.0 i.count (kept w t i.term c.if-rules.false) in
     let broken = c.in-Err.ensures.entry start (answer.stands start r.force r.cur i.stands) answer.below answer.freq in
-    let same = posted-is n t value (ap (λ (x : WalkState). x.term) step ∙ i.term) (ap (λ (x : WalkState). x.value) step ∙ i.value ∙ ap (λ (x : WalkState). x.value) (c.at-walk.ensures value behind h)) in
-    (broken.0, term-bad p c.args.prx.now c.args.at spot.offset spot.rule (λ i. (c.type_inv.prx i).fits)
-      (subst (λ (q : PostedTerm). read_plan (term_plan q) start ≡ Err (record { offset = spot.offset; rule = spot.rule })) same broken.1))
+    let same = posted-is n t value (ap (λ (x : WalkState). x.term) step ∙ i.term) (ap (λ (x : WalkState). x.value) step ∙ i.value ∙ ap (λ (x : WalkState). x.value) (c.at-walk.ensures value behind h)) in (
+      broken.0,
+      term-bad p c.args.prx.now c.args.at spot.offset spot.rule (λ i. (c.type_inv.prx i).fits)
+          (subst (λ (q : PostedTerm). read_plan (term_plan q) start ≡ Err (record { offset = spot.offset; rule = spot.rule })) same broken.1),
+    )
 
 pub loop-walked-smaller : goal.loop-walked-smaller
 loop-walked-smaller c =
@@ -125,7 +127,7 @@ returns-clause-term c = λ value behind h.
     let all = Stands-all (posted_by w) start w.passed r.force 0 r.cur i.stands (c.in_default.ensures.0 ∙ i.count) in
     let same = posted-is w t value i.term (i.value ∙ ap (λ (x : WalkState). x.value) (c.at-walk.ensures value behind h)) in
     (term-good p c.args.prx.now c.args.at i.stands.mid.before r.cur c.place.result (λ i. (c.type_inv.prx i).fits) c.requires.at_within
-      (subst (λ (q : PostedTerm). read_plan (term_plan q) start ≡ Ok (i.stands.mid.before, r.cur)) same all) c.place.ensures).0
+    (subst (λ (q : PostedTerm). read_plan (term_plan q) start ≡ Ok (i.stands.mid.before, r.cur)) same all) c.place.ensures).0
 
 pub returns-clause-within : goal.returns-clause-within
 returns-clause-within c =
@@ -157,8 +159,7 @@ returns-then-rules-clause-stands c = λ some value behind h.
     let t = term_of c.args.info.now c.args.rules.now in
     let start = place_in c.args.prx.now t.info.prox in
     let p = posted c.args.info.now c.args.rules.now value in
-    let read = omitted-read p start c.if-rules.true in
-    (
+    let read = omitted-read p start c.if-rules.true in (
       read.0,
       record {
         interval = c.requires.good.interval;
@@ -185,8 +186,7 @@ returns-clause-stands c = λ some value behind h.
     let read = subst (λ (q : PostedTerm). read_plan (term_plan q) start ≡ Ok (i.stands.mid.before, r.cur)) same all in
     let count = term-count t (start_in t c.args.frq.now) value behind h in
     let due = count_at-some p 0 c.if-rules.false ((term-frequent t (start_in t c.args.frq.now) value behind h).some 0 (omega arith)) in
-    let at : c.args.at ≡ t.info.prox = term-starts p start i.stands.mid.before r.cur read some due in
-    (
+    let at : c.args.at ≡ t.info.prox = term-starts p start i.stands.mid.before r.cur read some due in (
       i.stands.mid.before,
       record {
         interval = c.requires.good.interval;

@@ -5,7 +5,7 @@ use Rattle.positions.specs.Walked.{posted_by}
 use Rattle.positions.proofs.reading.is_other_length.Given as goal
 
 abbrev pub invariant-loop-datum : goal.invariant-loop-datum
-invariant-loop-datum l = record { within : l.level ≤ level_count l.walk.term; below : (n : ℕ) → n < l.level → carries_other_length (posted_by l.walk) l.walk.passed l.force n ≡ false }
+invariant-loop-datum l = record { within : l.number ≤ level_count l.walk.term; below : (n : ℕ) → n < l.number → carries_other_length (posted_by l.walk) l.walk.passed l.force n ≡ false }
 
 abbrev pub decreases-loop-datum : goal.decreases-loop-datum
-decreases-loop-datum l = level_count l.walk.term - l.level
+decreases-loop-datum l = level_count l.walk.term - l.number

@@ -19,7 +19,7 @@ returns-in-Err-bytes c =
     read_shape-part vint _ c.args.cur.now delta c.vint.new.self c.in-Ok.ensures
     ∙ c.in-Ok-stated_length.ensures.gives (payload_shape c.args.force delta)
     ∙ subst (λ (n : ℕ). read_shape (part (bytes n) (made delta stated)) c.stated_length.new.cur ≡ Err c.in-Err-bytes.bad) c.length_or.ensures
-        (read_shape-part_err (bytes c.length_or.result) (made delta stated) c.stated_length.new.cur c.in-Err-bytes.bad c.in-Err-bytes.ensures.0)
+    (read_shape-part_err (bytes c.length_or.result) (made delta stated) c.stated_length.new.cur c.in-Err-bytes.bad c.in-Err-bytes.ensures.0)
 
 pub returns-in-Ok-bytes : goal.returns-in-Ok-bytes
 returns-in-Ok-bytes c =
@@ -30,4 +30,4 @@ returns-in-Ok-bytes c =
     read_shape-part vint _ c.args.cur.now delta c.vint.new.self c.in-Ok.ensures
     ∙ c.in-Ok-stated_length.ensures.gives (payload_shape c.args.force delta)
     ∙ subst (λ (n : ℕ). read_shape (part (bytes n) (made delta stated)) c.stated_length.new.cur ≡ Ok (found, c.bytes.new.self)) c.length_or.ensures
-        (read_shape-part (bytes c.length_or.result) (made delta stated) c.stated_length.new.cur payload c.bytes.new.self c.in-Ok-bytes.ensures)
+    (read_shape-part (bytes c.length_or.result) (made delta stated) c.stated_length.new.cur payload c.bytes.new.self c.in-Ok-bytes.ensures)

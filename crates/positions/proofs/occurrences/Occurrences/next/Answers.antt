@@ -16,7 +16,7 @@ returns-in-Err c = λ t value occurrences passed left h.
     let flag = c.self.invariant.payloads ∙ ap (λ (x : RuledTerm). x.rules.payloads) before.term_is in
     let some : 0 < i.left = omega (arith, c.if-self-eq0.false) in
     absurd (among-never t value occurrences passed left old c.in-Err._bad before some
-      (subst (λ (b : Bool). read_shape (occurrence_shape b i.reading.force) i.reading.cur ≡ Err c.in-Err._bad) flag c.in-Err.ensures.taken))
+    (subst (λ (b : Bool). read_shape (occurrence_shape b i.reading.force) i.reading.cur ≡ Err c.in-Err._bad) flag c.in-Err.ensures.taken))
 
 pub returns-in-Ok : goal.returns-in-Ok
 returns-in-Ok c = λ t value occurrences passed left h.
@@ -31,8 +31,8 @@ returns-in-Ok c = λ t value occurrences passed left h.
     let taken = c.in-Ok.ensures.taken in
     let some : 0 < i.left = omega (arith, c.if-self-eq0.false) in
     let at = c.saturating_add-self-inside.ensures
-        ∙ ap (λ (q : ℕ). min (q + c.position_gap-gap.result) 4294967295) taken.2
-        ∙ ap (λ (g : ℕ). min (i.reading.position + g) 4294967295) (c.position_gap-gap.ensures ∙ ap (λ (b : Bool). position_gap b r.delta) (c.in-Ok.ensures.payloads ∙ flag)) in
+    ∙ ap (λ (q : ℕ). min (q + c.position_gap-gap.result) 4294967295) taken.2
+    ∙ ap (λ (g : ℕ). min (i.reading.position + g) 4294967295) (c.position_gap-gap.ensures ∙ ap (λ (b : Bool). position_gap b r.delta) (c.in-Ok.ensures.payloads ∙ flag)) in
     among-next t value occurrences passed left old new r before some
-        (subst (λ (b : Bool). read_shape (occurrence_shape b i.reading.force) i.reading.cur ≡ Ok (r, two.cur)) flag taken.0)
-        taken.1 refl refl (omega arith) at
+    (subst (λ (b : Bool). read_shape (occurrence_shape b i.reading.force) i.reading.cur ≡ Ok (r, two.cur)) flag taken.0)
+    taken.1 refl refl (omega arith) at

@@ -15,6 +15,6 @@ returns c = λ t value occurrences passed entry left h omit le lt sum is.
     let before : IsAmong t value occurrences passed left old = subst (λ (s : CursorState). IsAmong t value occurrences passed left s) (sym c.self.view_is) h in
     let flag = c.self.invariant.payloads ∙ ap (λ (x : RuledTerm). x.rules.payloads) before.term_is in
     let first = subst (λ (b : Bool). PassesOver b i.left i.reading.force i.reading.cur one.force one.cur) flag
-        (subst (λ (n : ℕ). PassesOver i.reading.payloads n i.reading.force i.reading.cur one.force one.cur) c.from.ensures c.pass.ensures.passes) in
+    (subst (λ (n : ℕ). PassesOver i.reading.payloads n i.reading.force i.reading.cur one.force one.cur) c.from.ensures c.pass.ensures.passes) in
     let second = subst (λ (b : Bool). PassesOver b c.args.skip one.force one.cur two.force two.cur) (c.pass.ensures.payloads ∙ flag) c.pass-2.ensures.passes in
     among-opened t value occurrences passed entry c.args.skip c.args.freq left old new one.force one.cur before omit le lt sum is first second refl refl refl refl

@@ -22,8 +22,7 @@ pub returns-in-None : goal.returns-in-None
 returns-in-None c =
     let s = c.args.self.now in
     let parts = c.in-Ok.parts in
-    let broken = ap (λ (n : ℕ). first_broken (occurrence_conditions (posted_by c.args.walk.now) (due_with c.args.first c.args.index s.force s.position n) parts.delta)) (sym c.place.ensures) ∙ sym c.in-None.ensures.broken in
-    (
+    let broken = ap (λ (n : ℕ). first_broken (occurrence_conditions (posted_by c.args.walk.now) (due_with c.args.first c.args.index s.force s.position n) parts.delta)) (sym c.place.ensures) ∙ sym c.in-None.ensures.broken in (
       record_of parts,
       record_at-read (occurrence_shape s.payloads s.force) _ s.cur (record_of parts) c.take.new.self.cur c.in-Ok.ensures.taken.0 broken,
       c.in-Ok.ensures.taken.1,

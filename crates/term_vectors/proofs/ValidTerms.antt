@@ -68,13 +68,14 @@ positions-valid (suc n) last c ps d e =
     let later = positions-valid n p head.0.1 rest.0 d rest.1 in
     let up : last ≤ p = position-up last head.0.0 in
     let fits : p ≤ greatest_place = ltb-false greatest_place p (not_over (ltb greatest_place p) 112 judged.1) in
-    let small : p < 2 ^ 31 = omega arith in
-    (ap length rest.2 ∙ ap suc later.0,
-    subst (ArePositions last) (sym rest.2) (record {
-      from = All-cons (λ q. last ≤ q) p rest.0 up (λ k x lt. omega (arith, later.1.from k x lt));
-      low = All-cons IsSmall p rest.0 small later.1.low;
-      rise = rise-cons p rest.0 later.1.from later.1.rise;
-    }))
+    let small : p < 2 ^ 31 = omega arith in (
+      ap length rest.2 ∙ ap suc later.0,
+      subst (ArePositions last) (sym rest.2) (record {
+        from = All-cons (λ q. last ≤ q) p rest.0 up (λ k x lt. omega (arith, later.1.from k x lt));
+        low = All-cons IsSmall p rest.0 small later.1.low;
+        rise = rise-cons p rest.0 later.1.from later.1.rise;
+      }),
+    )
 
 -- ---- spans
 

@@ -33,7 +33,7 @@ use Rattle.term_vectors.proofs.LeftLemmas.{terms-next}
 use Rattle.term_vectors.proofs.ValidTerms.{positions-valid, spans-valid}
 
 -- what is read ends behind where it starts
-forward : {V R : Type 0} (plan : Plan V R) (c : Cursor) (v : V) (d : Cursor) → IsBytes c.rest → read_plan plan c ≡ Ok (v, d) → c.place ≤ d.place
+pub forward : {V R : Type 0} (plan : Plan V R) (c : Cursor) (v : V) (d : Cursor) → IsBytes c.rest → read_plan plan c ≡ Ok (v, d) → c.place ≤ d.place
 forward plan c v d fits e = let h = reads-read_plan plan c v d fits e in omega (arith, h.place)
 
 -- a record of a term that was read, and how far it reaches
@@ -47,7 +47,7 @@ record TermRead (c : Cursor) (r : TvfRecord) (b : Cursor) : Type 0 where
   fits : IsBytes b.rest
 
 -- what a part that was read is
-part_value : (p : Part) (c : Cursor) (v : Value p) (d : Cursor) → IsBytes c.rest → read_part p c ≡ ok_pair v d → IsValue p v
+pub part_value : (p : Part) (c : Cursor) (v : Value p) (d : Cursor) → IsBytes c.rest → read_part p c ≡ ok_pair v d → IsValue p v
 part_value p c v d fits e =
     let was = then_ok (read p c.rest) (λ x. ok_pair {E = Bad} x.0 (moved x.1 c)) (v, d) e in
     subst (IsValue p) (same_pair was.0.0 v (moved was.0.1 c) d was.2).0 (read_is_spelled p c.rest was.0.0 was.0.1 fits was.1).0

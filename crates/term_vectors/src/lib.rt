@@ -4,6 +4,7 @@
 mod checking;
 mod document;
 mod fields;
+pub mod laws;
 mod layout;
 mod occurrences;
 mod places;

@@ -25,10 +25,11 @@ IsDone outcome old new = new ≡ option_map (standing outcome.effect) old
 -- how a call answers, where `IsDue` says which outcome is due
 pub data Answers (IsDue : Outcome → Type 0) (before after : Scene) (answer : Status) : Type 0 where
   -- an outcome that is due is done, its answer given, and its text printed whole
-  told : (outcome : Outcome) → IsDue outcome → IsDone outcome before.files after.files → answer ≡ outcome.status → Took outcome.text before.taken after.taken → Answers IsDue before after answer
+  told : (outcome : Outcome) → IsDue outcome → IsDone outcome before.files after.files → answer ≡ outcome.status
+      → Took outcome.text before.taken after.taken → Answers IsDue before after answer
   -- it is done, and the output fails: it took a strict prefix of the text
-  output_failed : (outcome : Outcome) (count : ℕ) → IsDue outcome → IsDone outcome before.files after.files → answer ≡ Device Sink → count < length outcome.text
-      → Took (take count outcome.text) before.taken after.taken → Answers IsDue before after answer
+  output_failed : (outcome : Outcome) (count : ℕ) → IsDue outcome → IsDone outcome before.files after.files → answer ≡ Device Sink
+      → count < length outcome.text → Took (take count outcome.text) before.taken after.taken → Answers IsDue before after answer
   -- it is done, and memory ends while its text is printed
   printing_ended : (outcome : Outcome) (count : ℕ) → IsDue outcome → IsDone outcome before.files after.files → answer ≡ NoMemory
       → Took (take count outcome.text) before.taken after.taken → Answers IsDue before after answer

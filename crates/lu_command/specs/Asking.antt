@@ -46,4 +46,5 @@ IsAnswered IsDue answer = ((outcome : Outcome) × IsDue outcome × (answer ≡ o
 
 -- where the folder tells its files, the answer that is due is given, or the call gave up
 abbrev pub Completes : List (List ℕ) → Option Files → Status → Type 0
-Completes words files answer = ForSome files (λ told. (outcome : Outcome) → Due words (Some told) outcome → (answer ≡ outcome.status) ⊎ GaveUp answer)
+Completes words files answer = ForSome files (λ told. (outcome : Outcome)
+    → Due words (Some told) outcome → (answer ≡ outcome.status) ⊎ GaveUp answer)

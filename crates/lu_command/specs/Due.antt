@@ -26,7 +26,7 @@ FieldsSay segment found = FilesSay segment (table_files (file_at found 0)) (fiel
 abbrev pub DocsSay : List ℕ → List (Option (List ℕ)) → Outcome → Type 0
 DocsSay segment found = FilesSay segment (document_files (file_at found 0) (file_at found 1) (file_at found 2)) (doc_lines 0)
 
--- the outcome that is due of a command that reads the segment's files of these kinds: that one is too long, or what the command comes to by them
+-- the outcome that is due of a command that reads the segment's files of these kinds: one is too long, or what it comes to by them
 abbrev pub FilesDue : List ℕ → List FileKind → (List (Option (List ℕ)) → Outcome → Type 0) → Option Files → Outcome → Type 0
 FilesDue segment kinds Say files outcome =
     ((kind : FileKind) × ForSome files (λ told. first_too_long told segment kinds ≡ Some kind) × (outcome ≡ too_large_outcome kind))

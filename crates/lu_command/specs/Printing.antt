@@ -13,8 +13,10 @@ Prints IsDue (Device Dir) before after = after ≡ before
 -- that the input failed is never answered
 Prints IsDue (Device Source) before after = ⊥
 -- a strict prefix of the text that is due where the output failed
-Prints IsDue (Device Sink) before after = (outcome : Outcome) × IsDue outcome × (count : ℕ) × (count < length outcome.text) × Took (take count outcome.text) before after
+Prints IsDue (Device Sink) before after = (outcome : Outcome) × IsDue outcome × (count : ℕ) × (count < length outcome.text)
+    × Took (take count outcome.text) before after
 -- a prefix of it where memory ended, or nothing
-Prints IsDue NoMemory before after = (after ≡ before) ⊎ ((outcome : Outcome) × IsDue outcome × (count : ℕ) × Took (take count outcome.text) before after)
+Prints IsDue NoMemory before after = (after ≡ before)
+    ⊎ ((outcome : Outcome) × IsDue outcome × (count : ℕ) × Took (take count outcome.text) before after)
 -- the whole text with an answer that is due
 Prints IsDue answer before after = (outcome : Outcome) × IsDue outcome × (answer ≡ outcome.status) × Took outcome.text before after

@@ -13,5 +13,6 @@ Took text before after = after ≡ with_taken text before
 -- some prefix printed
 pub data Tells (status : Status) (text : List ℕ) (before after : Option (List ℕ)) (answer : Status) : Type 0 where
   whole : answer ≡ status → Took text before after → Tells status text before after answer
-  cut : answer ≡ Device Sink → (count : ℕ) → count < length text → Took (take count text) before after → Tells status text before after answer
+  cut : answer ≡ Device Sink → (count : ℕ) → count < length text → Took (take count text) before after
+      → Tells status text before after answer
   memory_ended : answer ≡ NoMemory → (count : ℕ) → Took (take count text) before after → Tells status text before after answer

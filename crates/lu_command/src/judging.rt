@@ -114,7 +114,8 @@ fn judged_store(
     fdt: Option<&[u8]>,
 ) -> Result<Outcome, OutOfMemory>
     requires { IfSome (option_copied fdx) (λ bytes. length bytes < 2 ^ 31) }
-    ensures { IfOk result (λ outcome. FilesSay segment.now (all_files fields (option_copied fdx.entry) (option_copied fdt.entry)) (doc_lines 0) outcome) }
+    ensures { IfOk result (λ outcome.
+        FilesSay segment.now (all_files fields (option_copied fdx.entry) (option_copied fdt.entry)) (doc_lines 0) outcome) }
 {
     let Some(fdx) = fdx else {
         return faulty(alloc, segment, missing(FileKind::Fdx));
@@ -134,7 +135,8 @@ pub fn judged_documents(
     fdt: Option<&[u8]>,
 ) -> Result<Outcome, OutOfMemory>
     requires { IfSome (option_copied fdx) (λ bytes. length bytes < 2 ^ 31) }
-    ensures { IfOk result (λ outcome. FilesSay segment.now (document_files (option_copied fnm.entry) (option_copied fdx.entry) (option_copied fdt.entry)) (doc_lines 0) outcome) }
+    ensures { IfOk result (λ outcome. FilesSay segment.now
+        (document_files (option_copied fnm.entry) (option_copied fdx.entry) (option_copied fdt.entry)) (doc_lines 0) outcome) }
 {
     let Some(fnm) = fnm else {
         return faulty(alloc, segment, missing(FileKind::Fnm));

@@ -18,14 +18,16 @@ pub fn one_meaning()
 
 /// Words and the files of a folder that tells them determine the outcome: its answer, its text, and its effect.
 pub fn one_outcome()
-    ensures { (words : List (List ℕ)) (files : Files) (one other : Outcome) → Due words (Some files) one → Due words (Some files) other → one ≡ other }
+    ensures { (words : List (List ℕ)) (files : Files) (one other : Outcome)
+        → Due words (Some files) one → Due words (Some files) other → one ≡ other }
 {}
 
 /// An outcome that is due has an answer that says neither that something failed nor that memory ended, and no outcome
 /// changes the folder.
 pub fn outcomes_are_proper()
     ensures proper { (words : List (List ℕ)) (files : Option Files) (outcome : Outcome) → Due words files outcome → IsProper outcome }
-    ensures unchanged { (words : List (List ℕ)) (files : Option Files) (outcome : Outcome) → Due words files outcome → outcome.effect ≡ Effect.Nothing }
+    ensures unchanged { (words : List (List ℕ)) (files : Option Files) (outcome : Outcome)
+        → Due words files outcome → outcome.effect ≡ Effect.Nothing }
 {}
 
 /// What is printed with each answer of a call, and that the files of the folder are as before, whatever is answered.

@@ -37,7 +37,7 @@ pub record Columns : Type 0 where
   pub deleted : List ℕ
   pub vectors : List (List (FieldVector ℕ))
 
--- the vectors of the documents
+-- the vectors of the documents: their files are not looked at yet, so there are none
 abbrev pub document_vectors : DocumentFiles → SegInfo → List TableField → FilePlan (List (List (FieldVector ℕ)))
 document_vectors files line fields = stands (replicate line.size [])
 

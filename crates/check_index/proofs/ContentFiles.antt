@@ -1,5 +1,5 @@
 -- What the checks of the groups of files show of all files of a segment.
-use Rattle.std.proofs.Common.{◌≡◌, ℕ, List, length, Result, Ok, Err, refl}
+use Rattle.std.proofs.Common.{◌≡◌, ℕ, List, length, Result, Ok, Err}
 use Rattle.lu_types.specs.FilePlans.{FilePlan, stands, followed_by, StandFor, Judges}
 use Rattle.lu_types.specs.Tables.{TableField}
 use Rattle.lu_types.specs.declared.fault.CodecFault.{CodecFault}

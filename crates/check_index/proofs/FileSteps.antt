@@ -1,5 +1,5 @@
 -- What the check of one file shows of those that are needed.
-use Rattle.std.proofs.Common.{◌≡◌, ℕ, Bool, true, false, List, Option, Some, None, Result, Ok, Err, refl, sym, subst}
+use Rattle.std.proofs.Common.{◌≡◌, ℕ, Bool, true, false, List, Option, None, Result, Err, refl, sym, subst}
 use Rattle.lu_grammar.specs.Plans.{Plan}
 use Rattle.lu_types.specs.FilePlans.{FilePlan, needs, where_needed, missing, StandFor, Judges}
 use Rattle.lu_types.specs.declared.kind.FileKind.{FileKind}

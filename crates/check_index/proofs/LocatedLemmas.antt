@@ -1,6 +1,6 @@
 -- The parts that a segment is read from are no longer than files may be.
-use Rattle.std.proofs.Common.{◌≡◌, ℕ, Bool, true, false, List, length, Option, Some, None, refl, sym, subst}
-use Rattle.lu_types.specs.FilePlans.{FilePlan, stands, followed_by, where_needed, StandFor}
+use Rattle.std.proofs.Common.{ℕ, Bool, true, false, List, length, Option, Some, None, sym, subst}
+use Rattle.lu_types.specs.FilePlans.{stands, followed_by, where_needed, StandFor}
 use Rattle.lu_types.specs.Names.{segment_name}
 use Rattle.lu_types.specs.declared.kind.FileKind.{FileKind}
 use Rattle.lu_types.specs.declared.kind.FileKind.TheVariants.{Cfs, Cfx, Fdx, Tis, Frq, Prx, Tvx, Tvd, Tvf}
@@ -13,7 +13,7 @@ use Rattle.lu_types.specs.Names.{part_name}
 use Rattle.check_index.specs.Files.{DocumentFiles, PartFiles, FolderFiles, IsShort, AreShort, AreShortParts}
 use Rattle.check_index.specs.Locating.{packed_part, packed_documents, packed_files, compound_files, own_parts, document_parts, located_parts}
 use Rattle.check_index.proofs.ReadBytes.{read-bytes}
-use Rattle.check_index.proofs.PartLemmas.{IsWithin, file-within, named-within}
+use Rattle.check_index.proofs.PartLemmas.{file-within, named-within}
 
 -- these parts, with other files of documents
 abbrev pub with_documents : PartFiles → DocumentFiles → PartFiles

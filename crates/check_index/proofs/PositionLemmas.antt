@@ -1,9 +1,9 @@
 -- The terms of the dictionary, one after another in `.prx`.
-use Rattle.std.proofs.Common.{◌≡◌, ℕ, zero, suc, ◌+◌, ◌<◌, ◌≤◌, Bool, true, false, List, [], ◌∷◌, length, Some, Result, Ok, Err, refl, sym, ap, subst, ◌∙◌, arith}
+use Rattle.std.proofs.Common.{◌≡◌, ℕ, zero, suc, ◌+◌, ◌<◌, ◌≤◌, false, List, [], ◌∷◌, length, Some, refl, sym, ap, subst, ◌∙◌, arith}
 use Rattle.std.specs.Prelude.{slice_get, option_map}
-use Rattle.lu_grammar.specs.Bytes.{IsBytes, Cursor, start_of, place_in}
+use Rattle.lu_grammar.specs.Bytes.{IsBytes, Cursor, place_in}
 use Rattle.lu_grammar.specs.Reading.{value_or}
-use Rattle.lu_grammar.specs.Meaning.{Reads, ReadsTo, FirstFault}
+use Rattle.lu_grammar.specs.Meaning.{ReadsTo, FirstFault}
 use Rattle.lu_grammar.specs.RuleNumbers as rules
 use Rattle.lu_grammar.proofs.Parts.{IsBytes-drop}
 use Rattle.lu_grammar.proofs.Files.{read_file-Reads}
@@ -15,11 +15,10 @@ use Rattle.lu_types.specs.declared.term.TermRules.{TermRules}
 use Rattle.term_dict.specs.Terms.{DictionaryTerm}
 use Rattle.term_dict.specs.Dictionary.{Dictionary}
 use Rattle.freq_skips.specs.declared.rules.RuledTerm.{RuledTerm}
-use Rattle.freq_skips.specs.Terms.{TermData, term_of, term_plan as frq_term_plan, IsGoodTerm}
+use Rattle.freq_skips.specs.Terms.{TermData, term_of}
 use Rattle.positions.specs.Occurrences.{PostedTerm}
 use Rattle.positions.specs.Terms.{posted, term_plan, posted_terms, prx_plan, IsTermFault}
 use Rattle.positions.specs.Cursors.{StandsInBoth}
-use Rattle.check_index.specs.Turns.{HavePassed, AreTaken}
 use Rattle.check_index.specs.Terms.{infos_of, ruled_terms, IsListed, AreListed}
 use Rattle.check_index.specs.Positions.{TermOccurrences, listed_postings, occurrences_in, IsPosted, HavePassedPositions, ArePosted}
 use Rattle.check_index.proofs.TurnLemmas.{one_element, HavePassed-none, HavePassed-more, HavePassed-fault, HavePassed-trailing, HavePassed-all, broken-read}

@@ -1,5 +1,5 @@
 -- The files that a segment needs are made of bytes where those of its folder are.
-use Rattle.std.proofs.Common.{◌≡◌, ℕ, Bool, true, false, nat_lt, List, [], length, map, Option, Some, None, refl, sym, subst}
+use Rattle.std.proofs.Common.{ℕ, Bool, true, false, nat_lt, List, [], length, map, Option, Some, None, sym, subst}
 use Rattle.std.specs.Option.{ForSome}
 use Rattle.std.specs.Prelude.{slice_set, is_some}
 use Rattle.std.specs.List.{range_with_len}
@@ -16,9 +16,9 @@ use Rattle.field_infos.specs.Fnm.{fnm_plan}
 use Rattle.stored_fields.specs.Places.{fdx_plan}
 use Rattle.stored_fields.specs.Documents.{fdt_plan}
 use Rattle.stored_fields.specs.Stores.{total_of, whole_store, windowed, store_files}
-use Rattle.term_dict.specs.Dictionary.{Dictionary, tis_plan}
+use Rattle.term_dict.specs.Dictionary.{tis_plan}
 use Rattle.term_dict.specs.Index.{tii_plan}
-use Rattle.freq_skips.specs.Terms.{TermData, frq_plan}
+use Rattle.freq_skips.specs.Terms.{frq_plan}
 use Rattle.doc_marks.specs.Norms.{nrm_plan, separate_plan}
 use Rattle.doc_marks.specs.Deletions.{del_plan}
 use Rattle.compound_file.specs.Entries.{NamedPart}
@@ -30,8 +30,8 @@ use Rattle.check_index.specs.Documents.{norm_fields, field_files, window_of, sto
 use Rattle.check_index.specs.Terms.{TermLists, infos_of, listed_terms, term_files}
 use Rattle.positions.specs.Terms.{prx_plan}
 use Rattle.check_index.specs.Positions.{no_positions, position_files}
-use Rattle.check_index.specs.Norms.{FieldNorms, norm_count, norms_from, column_files, is_separate, needed_file, separate_file, separate_files, norm_files}
-use Rattle.check_index.specs.Segments.{Contents, Columns, document_vectors, content_files, side_files, segment_of, segment_files}
+use Rattle.check_index.specs.Norms.{norm_count, norms_from, column_files, is_separate, needed_file, separate_file, separate_files, norm_files}
+use Rattle.check_index.specs.Segments.{content_files, side_files, segment_files}
 use Rattle.check_index.proofs.ReadBytes.{read-bytes}
 use Rattle.check_index.proofs.PartLemmas.{file-within, named-bytes}
 use Rattle.check_index.proofs.LocatedLemmas.{with_documents}

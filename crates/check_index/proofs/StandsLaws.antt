@@ -11,13 +11,12 @@ use Rattle.lu_model.specs.Index.{FieldVector}
 use Rattle.field_infos.specs.Fnm.{fnm_plan}
 use Rattle.stored_fields.specs.Values.{Document}
 use Rattle.stored_fields.specs.Stores.{total_of, whole_store}
-use Rattle.term_dict.specs.Dictionary.{Dictionary, tis_plan}
+use Rattle.term_dict.specs.Dictionary.{tis_plan}
 use Rattle.term_dict.specs.Index.{tii_plan}
-use Rattle.freq_skips.specs.Terms.{TermData, frq_plan}
+use Rattle.freq_skips.specs.Terms.{frq_plan}
 use Rattle.positions.specs.Terms.{prx_plan}
 use Rattle.doc_marks.specs.Norms.{nrm_plan}
 use Rattle.doc_marks.specs.Deletions.{del_plan}
-use Rattle.compound_file.specs.Entries.{NamedPart}
 use Rattle.compound_file.specs.Cfs.{cfs_plan}
 use Rattle.segment_infos.specs.declared.infos.SegInfo.{SegInfo}
 use Rattle.check_index.specs.Files.{DocumentFiles, IndexFiles, PartFiles, FolderFiles}

@@ -1,22 +1,11 @@
 -- The files of a segment stand exactly where they stand file by file.
-use Rattle.std.proofs.Common.{◌≡◌, ℕ, Bool, true, false, nat_lt, ℤ, List, [], length, map, Option, Some, None, refl, sym, ap, subst, ◌∙◌}
-use Rattle.std.specs.Prelude.{is_some}
+use Rattle.std.proofs.Common.{ℕ, Bool, true, false, List, Option, Some, None}
 use Rattle.lu_grammar.specs.Plans.{Plan}
-use Rattle.lu_grammar.specs.Meaning.{Reads}
-use Rattle.lu_types.specs.FilePlans.{FilePlan, stands, needs, followed_by, where_needed, StandFor}
-use Rattle.lu_types.specs.Names.{segment_name}
-use Rattle.lu_types.specs.Tables.{TableField}
+use Rattle.lu_types.specs.FilePlans.{FilePlan, needs, where_needed, StandFor}
 use Rattle.lu_types.specs.declared.kind.FileKind.{FileKind}
-use Rattle.lu_types.specs.declared.kind.FileKind.TheVariants.{Cfs, Cfx, Fnm, Fdx, Fdt, Tis, Tii, Frq, Prx, Nrm, Del}
-use Rattle.lu_types.specs.declared.stored.SharedStore.{SharedStore}
 use Rattle.lu_types.specs.declared.stored.Window.{Window}
-use Rattle.lu_types.proofs.FileLaws.{followed_by-was, followed_by-stand}
 use Rattle.stored_fields.specs.Values.{Document}
-use Rattle.stored_fields.specs.Places.{fdx_plan}
-use Rattle.stored_fields.specs.Documents.{fdt_plan}
-use Rattle.stored_fields.specs.Stores.{total_of, whole_store, windowed, store_files}
-use Rattle.compound_file.specs.Entries.{NamedPart}
-use Rattle.compound_file.specs.Cfs.{cfs_plan}
+use Rattle.stored_fields.specs.Stores.{store_files}
 use Rattle.check_index.specs.Stands.{Holds, AreStored, Either}
 
 -- a needed file

@@ -1,7 +1,7 @@
 -- What the checks of the files of terms show of all three.
-use Rattle.std.proofs.Common.{◌≡◌, ℕ, List, length, Some, Result, Ok, Err, refl}
+use Rattle.std.proofs.Common.{◌≡◌, ℕ, List, length, Some, Result, Ok, Err}
 use Rattle.lu_grammar.specs.Meaning.{Reads}
-use Rattle.lu_types.specs.FilePlans.{FilePlan, stands, needs, Judges, StandFor}
+use Rattle.lu_types.specs.FilePlans.{FilePlan, stands, needs, Judges}
 use Rattle.lu_types.specs.Judging.{IsFault}
 use Rattle.lu_types.specs.Tables.{TableField}
 use Rattle.lu_types.specs.declared.kind.FileKind.TheVariants.{Tis, Tii, Frq}

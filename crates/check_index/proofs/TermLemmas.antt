@@ -1,9 +1,9 @@
 -- The terms of the dictionary, one after another in `.frq`.
-use Rattle.std.proofs.Common.{◌≡◌, ℕ, ◌+◌, ◌<◌, ◌≤◌, List, [], length, map, Some, Err, refl, sym, ap, subst, ◌∙◌, arith}
+use Rattle.std.proofs.Common.{◌≡◌, ℕ, ◌+◌, ◌<◌, ◌≤◌, List, [], length, Some, sym, ap, subst, ◌∙◌, arith}
 use Rattle.std.specs.Prelude.{slice_get, slice_index_or, option_map}
 use Rattle.std.proofs.lemmas.List.{length-map}
 use Rattle.std.proofs.lemmas.Option.{slice_get-map, get_or_from_slice_get, slice_get_within}
-use Rattle.lu_grammar.specs.Bytes.{IsBytes, Cursor, start_of, place_in}
+use Rattle.lu_grammar.specs.Bytes.{IsBytes, Cursor, place_in}
 use Rattle.lu_grammar.specs.Reading.{value_or}
 use Rattle.lu_grammar.specs.Meaning.{Reads, ReadsTo, FirstFault}
 use Rattle.lu_grammar.specs.RuleNumbers as rules
@@ -15,9 +15,7 @@ use Rattle.lu_types.specs.declared.term.TermInfo.{TermInfo}
 use Rattle.lu_types.specs.declared.term.TermRules.{TermRules}
 use Rattle.term_dict.specs.Terms.{DictionaryTerm}
 use Rattle.term_dict.specs.Dictionary.{Dictionary, tis_plan}
-use Rattle.term_dict.specs.Facts.{IsTermOfSegment}
 use Rattle.term_dict.proofs.FactLemmas.{good-terms}
-use Rattle.freq_skips.specs.declared.rules.RuledTerm.{RuledTerm}
 use Rattle.freq_skips.specs.Terms.{TermData, term_plan, term_of, frq_plan, IsGoodTerm, IsTermFault}
 use Rattle.freq_skips.specs.Walks.{WalkState}
 use Rattle.check_index.specs.Terms.{infos_of, ruled_terms, lists_in, IsListed, HavePassedTerms, AreListed, AreUsed}

@@ -3,7 +3,7 @@ use Rattle.std.proofs.Common.{◌≡◌, ℕ, zero, suc, ◌+◌, ◌<◌, ◌�
 use Rattle.std.specs.Prelude.{slice_get, option_map}
 use Rattle.std.proofs.lemmas.List.{take_more, take_all, take-append-drop, length-append}
 use Rattle.std.proofs.lemmas.Option.{slice_get_within, get_or_from_slice_get}
-use Rattle.lu_grammar.specs.Bytes.{IsBytes, Cursor, start_of, place_in}
+use Rattle.lu_grammar.specs.Bytes.{IsBytes, Cursor, place_in}
 use Rattle.lu_grammar.specs.Plans.{Plan, Broken, in_turn, read_plan}
 use Rattle.lu_grammar.specs.Meaning.{ReadsTo, FaultFrom, FirstFault}
 use Rattle.lu_grammar.specs.RuleNumbers as rules

@@ -1,7 +1,6 @@
 -- What the parts of a segment that was checked stand for, and how they belong together (format page, "Indexes").
-use Rattle.std.specs.Prelude.{◌≡◌, ℕ, [], length, replicate, Some, None, slice_get, slice_index_or, option_map, option_copied}
+use Rattle.std.specs.Prelude.{◌≡◌, ℕ, [], length, replicate, Some, slice_get, slice_index_or, option_map, option_copied}
 use Rattle.lu_types.specs.declared.term.TermInfo.{TermInfo}
-use Rattle.term_dict.specs.Dictionary.{Dictionary}
 use Rattle.term_index.specs.Seeking.{AreChecked}
 use Rattle.lu_types.specs.Tables.{bits_at}
 use Rattle.lu_types.specs.Terms.{term_rules}

@@ -1,8 +1,7 @@
 -- The files of a segment, in the order in which they are checked, and what they stand for (format page, "How a fault is found").
-use Rattle.std.specs.Prelude.{◌≡◌, ℕ, List, [], length, map, replicate, Option, Result, Ok, Err}
+use Rattle.std.specs.Prelude.{◌≡◌, ℕ, List, [], length, replicate, Result, Ok, Err}
 use Rattle.lu_types.specs.FilePlans.{FilePlan, stands, followed_by, StandFor, IsFaultAmong}
 use Rattle.lu_types.specs.Tables.{TableField}
-use Rattle.lu_types.specs.declared.stored.SharedStore.{SharedStore}
 use Rattle.lu_model.specs.Index.{FieldVector, Index}
 use Rattle.stored_fields.specs.Values.{Document}
 use Rattle.term_dict.specs.Dictionary.{Dictionary}
@@ -38,7 +37,7 @@ pub record Columns : Type 0 where
   pub deleted : List ℕ
   pub vectors : List (List (FieldVector ℕ))
 
--- the vectors of the documents
+-- the vectors of the documents: their files are not looked at yet, so there are none
 abbrev pub document_vectors : DocumentFiles → SegInfo → List TableField → FilePlan (List (List (FieldVector ℕ)))
 document_vectors files line fields = stands (replicate line.size [])
 

@@ -7,7 +7,6 @@ use Rattle.lu_types.specs.Names.{segment_name}
 use Rattle.lu_types.specs.Tables.{TableField}
 use Rattle.lu_types.specs.declared.stored.SharedStore.{SharedStore}
 use Rattle.lu_types.specs.declared.stored.Window.{Window}
-use Rattle.lu_model.specs.Index.{Index}
 use Rattle.field_infos.specs.Fnm.{fnm_plan}
 use Rattle.stored_fields.specs.Values.{Document}
 use Rattle.stored_fields.specs.Places.{fdx_plan}
@@ -15,7 +14,7 @@ use Rattle.stored_fields.specs.Documents.{fdt_plan}
 use Rattle.stored_fields.specs.Stores.{total_of, whole_store, windowed}
 use Rattle.term_dict.specs.Dictionary.{tis_plan}
 use Rattle.term_dict.specs.Index.{tii_plan}
-use Rattle.freq_skips.specs.Terms.{TermData, frq_plan}
+use Rattle.freq_skips.specs.Terms.{frq_plan}
 use Rattle.positions.specs.Terms.{prx_plan}
 use Rattle.doc_marks.specs.Norms.{nrm_plan}
 use Rattle.doc_marks.specs.Deletions.{del_plan}
@@ -26,9 +25,9 @@ use Rattle.check_index.specs.Files.{DocumentFiles, PartFiles, FolderFiles}
 use Rattle.check_index.specs.Locating.{packed_documents, packed_files}
 use Rattle.check_index.specs.Documents.{norm_fields, window_of}
 use Rattle.check_index.specs.Terms.{infos_of, listed_terms}
-use Rattle.check_index.specs.Positions.{TermOccurrences, no_positions}
+use Rattle.check_index.specs.Positions.{no_positions}
 use Rattle.check_index.specs.Norms.{FieldNorms, norm_count, norms_from, separate_files}
-use Rattle.check_index.specs.Segments.{Segment, Contents, Columns, document_vectors, segment_of}
+use Rattle.check_index.specs.Segments.{Segment, document_vectors, segment_of}
 
 -- the file is there, all of its bytes are the good records of the plan, and they stand for this
 abbrev pub Holds : {V R : Type 0} → Option (List ℕ) → (List ℕ → Plan V R) → V → Type 0

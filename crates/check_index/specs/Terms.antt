@@ -1,8 +1,8 @@
 -- The terms of a segment and their entries: `.tis`, `.tii` and `.frq` (format page, "Terms", "Term index", "Entries and skip data").
-use Rattle.std.specs.Prelude.{◌≡◌, ℕ, ◌<◌, List, [], length, map, All, Option, Some, slice_get, option_map}
+use Rattle.std.specs.Prelude.{ℕ, ◌<◌, List, [], length, map, All}
 use Rattle.lu_grammar.specs.Bytes.{Cursor, place_in}
 use Rattle.lu_grammar.specs.Reading.{value_or}
-use Rattle.lu_grammar.specs.Plans.{Plan, read_file}
+use Rattle.lu_grammar.specs.Plans.{read_file}
 use Rattle.lu_grammar.specs.Meaning.{ReadsTo}
 use Rattle.lu_types.specs.FilePlans.{FilePlan, stands, needs}
 use Rattle.lu_types.specs.Tables.{TableField}
@@ -11,7 +11,6 @@ use Rattle.lu_types.specs.declared.term.TermInfo.{TermInfo}
 use Rattle.term_dict.specs.Dictionary.{Dictionary, tis_plan}
 use Rattle.term_dict.specs.Index.{tii_plan}
 use Rattle.freq_skips.specs.declared.rules.RuledTerm.{RuledTerm}
-use Rattle.freq_skips.specs.Records.{Record}
 use Rattle.freq_skips.specs.Terms.{TermData, term_plan, terms_of, frq_plan, IsGoodTerm}
 use Rattle.check_index.specs.Files.{IndexFiles}
 use Rattle.check_index.specs.Turns.{HavePassed, AreTaken}

@@ -111,8 +111,8 @@ fn check_files<'a>(
     }
 }
 
-/// Checks the files of a segment (format page, "How a fault is found"): what they stand for together, or the first fault. `segment` is
-/// the segment's place in the list of the commit, and `info` its line there.
+/// Checks the files of a segment but those of vectors (format page, "How a fault is found"): what they stand for together, or the first
+/// fault. `segment` is the segment's place in the list of the commit, and `info` its line there.
 pub fn check_segment<'a>(
     alloc: Global,
     parts: Parts<'a>,

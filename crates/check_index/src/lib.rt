@@ -1,5 +1,5 @@
 //! The check of a whole segment: its files stand together for one index, or there is a first fault (format page, "How a fault is
-//! found").
+//! found"). The files of vectors are not looked at yet: the index of a segment is taken to have no vectors.
 #![tactic(auto)]
 
 mod deletions;

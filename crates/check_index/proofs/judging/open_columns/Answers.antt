@@ -1,4 +1,4 @@
-use Rattle.std.proofs.Common.{ℕ, List, refl}
+use Rattle.std.proofs.Common.{refl}
 use Rattle.doc_marks.specs.Lent.{Deletions}
 use Rattle.check_index.specs.declared.standing.OpenColumns.{OpenColumns}
 use Rattle.check_index.specs.Files.{folder_of}

@@ -1,5 +1,5 @@
 use Rattle.std.proofs.Common.{refl}
-use Rattle.lu_types.specs.FilePlans.{FilePlan, stands, followed_by}
+use Rattle.lu_types.specs.FilePlans.{stands, followed_by}
 use Rattle.lu_types.proofs.FileLaws.{followed_by-stand}
 use Rattle.check_index.specs.Files.{DocumentFiles, PartFiles, folder_of}
 use Rattle.check_index.specs.Locating.{own_parts, document_parts, document_files_of, part_files_of}

@@ -1,5 +1,5 @@
 use Rattle.std.proofs.Common.{◌<◌, length, sym, ◌∙◌, arith}
-use Rattle.check_index.proofs.NormLemmas.{count-more, count-same, count-few}
+use Rattle.check_index.proofs.NormLemmas.{count-more, count-same}
 use Rattle.check_index.proofs.norms.count_norms.Goals as goal
 use Rattle.check_index.proofs.norms.count_norms.Goals.{then-has_norms, else-has_norms}
 

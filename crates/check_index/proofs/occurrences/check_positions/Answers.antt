@@ -1,4 +1,4 @@
-use Rattle.std.proofs.Common.{◌≡◌, ℕ, ◌<◌, ◌≤◌, List, length, Some, None, sym, ap, subst, ◌∙◌, arith, refl}
+use Rattle.std.proofs.Common.{◌≡◌, ℕ, ◌≤◌, List, length, Some, None, sym, ap, subst, ◌∙◌, refl}
 use Rattle.std.specs.Prelude.{slice_get, option_map}
 use Rattle.lu_types.specs.Judging.{IsFirstFault}
 use Rattle.lu_types.specs.Tables.{TableField, bits_at}
@@ -12,7 +12,7 @@ use Rattle.term_dict.specs.Terms.{DictionaryTerm}
 use Rattle.term_dict.specs.Walk.{TermWalk}
 use Rattle.term_dict.specs.Dictionary.{Dictionary}
 use Rattle.positions.specs.Terms.{prx_plan}
-use Rattle.check_index.specs.Terms.{infos_of, lists_in, IsListed}
+use Rattle.check_index.specs.Terms.{infos_of, lists_in}
 use Rattle.check_index.specs.Positions.{HavePassedPositions}
 use Rattle.check_index.proofs.TurnLemmas.{past_end}
 use Rattle.check_index.proofs.TermLemmas.{used_at, rules_for}

@@ -1,4 +1,4 @@
-use Rattle.std.proofs.Common.{◌≡◌, ℕ, ◌<◌, Some, sym, ap, subst, ◌∙◌, arith, refl}
+use Rattle.std.proofs.Common.{◌≡◌, ℕ, Some, sym, ap, subst, ◌∙◌, refl}
 use Rattle.std.specs.Prelude.{slice_get, option_map}
 use Rattle.lu_types.specs.Judging.{IsFirstFault}
 use Rattle.lu_types.specs.declared.fault.Spot.{Spot}
@@ -11,7 +11,7 @@ use Rattle.term_dict.specs.Walk.{TermWalk}
 use Rattle.term_dict.specs.Dictionary.{Dictionary}
 use Rattle.freq_skips.specs.Terms.{frq_plan}
 use Rattle.check_index.specs.Terms.{infos_of, HavePassedTerms}
-use Rattle.check_index.proofs.TurnLemmas.{element, past_end}
+use Rattle.check_index.proofs.TurnLemmas.{past_end}
 use Rattle.check_index.proofs.TermLemmas.{used_at, terms-none, terms-more, terms-fault, terms-trailing, terms-all}
 use Rattle.check_index.proofs.terms.check_entries.Goals as goal
 

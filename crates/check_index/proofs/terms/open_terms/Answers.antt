@@ -1,6 +1,6 @@
 use Rattle.std.proofs.Common.{refl}
 use Rattle.check_index.specs.declared.terms.OpenTerms.{OpenTerms}
-use Rattle.check_index.specs.Terms.{TermLists, listed_terms, lists_in}
+use Rattle.check_index.specs.Terms.{listed_terms, lists_in}
 use Rattle.check_index.specs.Locating.{index_files_of}
 use Rattle.check_index.proofs.TermLemmas.{terms_are_used}
 use Rattle.check_index.proofs.TermFiles.{entries-fault, entries-stand}

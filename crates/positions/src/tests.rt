@@ -122,7 +122,7 @@ fn reads(
             return false;
         };
         occurrences.open_doc(0, entry.freq);
-        for _ in 0..u64::from(entry.freq) + 1 {
+        for _ in 0..100 {
             let Some(occ) = occurrences.next() else {
                 break;
             };

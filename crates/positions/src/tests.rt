@@ -113,7 +113,7 @@ fn reads(
     };
     let mut steps: Steps<Read> = Steps::new();
     let mut entries = Entries::at(frq, info, rules);
-    let mut left = wanted.1.iter();
+    let mut read = 0usize;
     for _ in 0..passed {
         let _passed = entries.next(&mut steps);
     }
@@ -126,17 +126,18 @@ fn reads(
             let Some(occ) = occurrences.next() else {
                 break;
             };
-            match left.next() {
+            match wanted.1.get(read) {
                 None => return false,
                 Some((position, payload)) => {
                     if occ.position != *position || occ.payload != *payload {
                         return false;
                     }
+                    read = read.saturating_add(1);
                 }
             }
         }
     }
-    passed == wanted.0 && left.next().is_none()
+    passed == wanted.0 && read == wanted.1.len()
 }
 
 /// The payloads of the worked rows.

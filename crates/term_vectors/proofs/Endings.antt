@@ -1,0 +1,46 @@
+-- What the checks answer: a spot, and a value.
+use Rattle.std.proofs.Common.{◌≡◌, ℕ, ◌<◌, List, length, Result, Ok, Err, refl, sym, ap, subst, ◌∙◌}
+use Rattle.lu_types.specs.declared.kind.FileKind.{FileKind}
+use Rattle.lu_types.specs.declared.fault.Spot.{Spot}
+use Rattle.lu_types.specs.declared.fault.CodecFault.{CodecFault}
+use Rattle.lu_types.specs.declared.fault.CodecFault.TheVariants as faults
+use Rattle.lu_types.specs.Judging.{IsBroken, IsBrokenSo, IsFirstFault, IsFault}
+use Rattle.lu_grammar.specs.Bytes.{IsBytes, Cursor, start_of}
+use Rattle.lu_grammar.specs.Reading.{value_or}
+use Rattle.lu_grammar.specs.Plans.{Plan, Broken, read_plan, read_file}
+use Rattle.lu_grammar.specs.Meaning.{Reads, FirstFault}
+use Rattle.lu_grammar.proofs.Codecs.{ok_of, file-fault, file-left, file-read, read_file-Reads}
+
+abbrev pub spot_of : FileKind → ℕ → ℕ → Spot
+spot_of kind offset rule = record { kind = kind; offset = offset; rule = rule }
+
+-- what reading answers, as its spot says it
+pub spot-broken : {A : Type 0} (kind : FileKind) (offset rule : ℕ) (s : Spot) (expected : Result A Broken) → s ≡ spot_of kind offset rule → expected ≡ Err (record { offset = offset; rule = rule }) → IsBroken kind expected s
+spot-broken {A} kind offset rule s expected is e = (ap (λ (t : Spot). t.kind) is, e ∙ ap (λ (t : Spot). fault_of t.offset t.rule) (sym is))
+  where
+    fault_of : ℕ → ℕ → Result A Broken
+    fault_of o r = Err (record { offset = o; rule = r })
+
+-- a result that is some value is its value
+pub settled : {V E : Type 0} (other v : V) (r : Result V E) → r ≡ ok_of v → r ≡ Ok (value_or other r)
+settled other v r e = e ∙ ap ok_of (sym (ap (value_or other) e))
+
+-- what a plan answers from the start of a file is its first fault
+pub file-broken : {V R : Type 0} (kind : FileKind) (plan : Plan V R) (bytes : List ℕ) (s : Spot) → IsBytes bytes → IsBroken kind (read_plan plan (start_of bytes)) s → IsFirstFault kind plan bytes s
+file-broken kind plan bytes s fits (is, e) = (is, file-fault plan bytes s.offset s.rule fits e)
+
+pub file-broken_so : {V R : Type 0} (kind : FileKind) (plan : Plan V R) (bytes : List ℕ) (fault : CodecFault) → IsBytes bytes → IsBrokenSo kind (read_plan plan (start_of bytes)) fault → IsFault kind plan bytes fault
+file-broken_so kind plan bytes (faults.Spot s) fits b = file-broken kind plan bytes s fits b
+file-broken_so kind plan bytes faults.OutOfMemory fits b = tt
+
+-- bytes that are left are the first fault
+pub file-trailing : {V R : Type 0} (kind : FileKind) (plan : Plan V R) (bytes : List ℕ) (v : V) (d : Cursor) (s : Spot) → IsBytes bytes → read_plan plan (start_of bytes) ≡ Ok (v, d) → 0 < length d.rest → s ≡ spot_of kind d.place 6
+    → IsFirstFault kind plan bytes s
+file-trailing kind plan bytes v d s fits e some is =
+    (ap (λ (t : Spot). t.kind) is, subst (λ (t : Spot). FirstFault plan bytes t.offset t.rule) (sym is) (file-left plan bytes v d fits e some))
+
+-- where none are left the file stands for what is read
+pub file-whole : {V R : Type 0} (plan : Plan V R) (bytes : List ℕ) (other v : V) (d : Cursor) → IsBytes bytes → read_plan plan (start_of bytes) ≡ Ok (v, d) → length d.rest ≡ 0 → Reads plan bytes (value_or other (read_file plan bytes))
+file-whole plan bytes other v d fits e none =
+    let h = file-read plan bytes v d fits e none in
+    subst (Reads plan bytes) (sym (ap (value_or other) (read_file-Reads plan bytes v h))) h

@@ -1,0 +1,14 @@
+pub mod Format
+pub mod Places
+pub mod Fields
+pub mod Vectors
+pub mod Stores
+pub mod InnerAnswers
+pub mod InnerFields
+pub mod Pairs
+pub mod InnerTexts
+pub mod InnerVectors
+pub mod Walks
+pub mod InnerViews
+pub mod InnerTerms
+pub mod InnerSlots

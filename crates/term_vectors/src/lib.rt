@@ -1,0 +1,25 @@
+//! Term vectors: `.tvx`, `.tvd` and `.tvf`, written, checked through a window, and read as borrowed values.
+#![tactic(auto)]
+
+mod checking;
+mod document;
+mod fields;
+pub mod laws;
+mod layout;
+mod occurrences;
+mod places;
+mod terms;
+mod texts;
+mod vectors;
+mod view;
+
+pub use document::{VectorDoc, VectorField};
+pub use fields::{StorePart, check_fields};
+pub use layout::DocumentPlaces;
+pub use occurrences::Pair;
+pub use places::check_places;
+pub use terms::VectorTerms;
+pub use view::VectorView;
+
+#[cfg(test)]
+mod tests;

@@ -140,7 +140,7 @@ documents_stand tvd fits i (at ∷ places) c all d on e =
 
 -- ---- a store
 
-tvf_was : (documents : List (List VectorPlace)) (tvf : List ℕ) (all : List (List Vector)) → read_file (tvf_plan documents) tvf ≡ ok_of all → (4 ≤ length tvf) × ((d : Cursor) × (reads_all documents (place_in tvf 4) ≡ Ok (all, d)))
+pub tvf_was : (documents : List (List VectorPlace)) (tvf : List ℕ) (all : List (List Vector)) → read_file (tvf_plan documents) tvf ≡ ok_of all → (4 ≤ length tvf) × ((d : Cursor) × (reads_all documents (place_in tvf 4) ≡ Ok (all, d)))
 tvf_was documents tvf all e =
     let file = file_was (tvf_plan documents) tvf all e in
     let head = due_was (format_shape format) (λ _ r. format_conditions r) (λ _ _. all_plan documents) (start_of tvf) (all, file.0) file.1 in

@@ -1,7 +1,7 @@
 //! The vectors of a segment: checked once, and then lent (format page, "Term vectors").
-ghost use Rattle.std.specs.Prelude.{◌≡◌, ◌+◌, ◌≤◌, ◌<◌, [], length, get_or, IfOk, Some};
+ghost use Rattle.std.specs.Prelude.{◌≡◌, ◌+◌, ◌≤◌, ◌<◌, ◌^◌, [], length, get_or, All, IfOk, Some};
 ghost use Rattle.lu_types.specs.FilePlans.{Judges};
-ghost use Rattle.term_vectors.specs.Stores.{whole_store, vector_files};
+ghost use Rattle.term_vectors.specs.Stores.{AreVectors, whole_store, vector_files};
 
 use crate::checking::check_vectors;
 use crate::document::VectorDoc;
@@ -57,6 +57,7 @@ impl<'a> VectorView<'a> {
         ensures files { Judges (λ view. view)
             (vector_files documents (whole_store documents) fields.now (Some tvx.entry.now) (Some tvd.entry.now) (Some tvf.entry.now)) result }
         ensures count { IfOk result (λ view. length view ≡ documents) }
+        ensures valid { length tvf.entry.now < 2 ^ 31 → IfOk result (λ view. All (AreVectors fields.now) view) }
     {
         let window = Window {
             offset: 0,
@@ -83,6 +84,7 @@ impl<'a> VectorView<'a> {
         ensures files { Judges (λ view. view)
             (vector_files total window fields.now (Some tvx.entry.now) (Some tvd.entry.now) (Some tvf.entry.now)) result }
         ensures count { IfOk result (λ view. length view ≡ window.count) }
+        ensures valid { length tvf.entry.now < 2 ^ 31 → IfOk result (λ view. All (AreVectors fields.now) view) }
     {
         if let Err(spot) = check_places(tvx, total) {
             return Err(CodecFault::Spot(spot));

@@ -12,9 +12,10 @@ use Rattle.std.proofs.Common.{ℕ, Some, Result, Err}
 use Rattle.term_vectors.specs.Places.{tvx_plan}
 use Rattle.term_vectors.specs.Fields.{tvd_plan}
 use Rattle.term_vectors.specs.Vectors.{Vector, tvf_plan}
-use Rattle.term_vectors.specs.Stores.{places_in, slots_in, vectors_in, vector_files}
+use Rattle.term_vectors.specs.Stores.{windowed, places_in, slots_in, vectors_in, vector_files}
 use Rattle.term_vectors.proofs.Unasked.{slots_file}
 use Rattle.term_vectors.proofs.StandLemmas.{windowed-many}
+use Rattle.term_vectors.proofs.ValidDocuments.{values_valid}
 use Rattle.term_vectors.specs.InnerViews.{HaveNoFault}
 use Rattle.term_vectors.proofs.view.VectorView.check_window.Goals as goal
 
@@ -68,3 +69,10 @@ returns-clause-count c =
       vectors = read_file-Reads (tvf_plan slots) c.args.tvf.now (vectors_in slots c.args.tvf.now) c.in_default-check_vectors.ensures;
     } in
     windowed-many c.args.total c.args.window c.args.tvx.now c.args.tvd.now c.args.tvf.now good
+
+pub returns-clause-valid : goal.returns-clause-valid
+returns-clause-valid c short =
+    let places = places_in c.args.total c.args.tvx.now in
+    let slots = slots_in places c.args.tvd.now in
+    values_valid c.args.total c.args.window c.args.fields.now c.args.tvx.now c.args.tvd.now c.args.tvf.now (windowed c.args.window (vectors_in slots c.args.tvf.now)) (λ i. (c.type_inv.tvd i).fits) (λ i. (c.type_inv.tvf i).fits) c.requires short
+    (places, c.in_default.ensures, (slots, c.in_default-check_fields.ensures, (vectors_in slots c.args.tvf.now, c.in_default-check_vectors.ensures, refl)))

@@ -15,6 +15,7 @@ use std::marker::Model;
 use stored_fields::StoredView;
 use term_dict::TermFile;
 use term_index::TermIndex;
+use term_vectors::VectorView;
 
 /// The field table, the stored documents and the terms of a segment.
 #[derive(Drop)]
@@ -26,11 +27,13 @@ pub struct OpenContents<'a> {
     pub prx: Option<&'a [u8]>,
 }
 
-/// The norms and the deletions of a segment.
+/// The norms, the deletions and the vectors of a segment.
 #[derive(Drop)]
 pub struct OpenColumns<'a> {
     pub norms: FieldNorms<'a>,
     pub live: Live<'a>,
+    /// The vectors, where a field has some and there are files of them.
+    pub vectors: Option<VectorView<'a>>,
 }
 
 /// A segment whose files were checked. Contracts see the index that they stand for, and what its file of terms says.

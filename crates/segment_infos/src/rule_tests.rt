@@ -93,256 +93,268 @@ fn a_header_keeps_its_rules(rt: HostRuntime) -> Result<(), Fail> {
     Ok(())
 }
 
+/// The line of a segment is no good record of a commit: this rule is broken first.
+fn breaks(alloc: Global, line: &[u8], rule: u16) -> Result<bool, OutOfMemory> {
+    let bytes = sealed(alloc, &[HEADER, line, NO_PAIRS, NO_PAIRS])?;
+    let spot = Spot {
+        kind: FileKind::Commit,
+        offset: 20,
+        rule,
+    };
+    Ok(read(alloc, bytes.as_slice()).err() == Some(CodecFault::Spot(spot)))
+}
+
 #[test]
-fn a_segment_keeps_its_rules(rt: HostRuntime) -> Result<(), Fail> {
-    let faults: [(&[u8], &[u8], &[u8], &[u8], u16); 39] = [
+fn a_segment_has_a_name(rt: HostRuntime) -> Result<(), Fail> {
+    for (line, rule) in [
         (
-            b"\x03_01\x00\x00\x00\x01\xff\xff\xff\xff\xff\xff\xff\xff",
-            OWN,
-            NORMS,
-            FLAGS,
+            b"\x03_01\x00\x00\x00\x01\xff\xff\xff\xff\xff\xff\xff\xff\xff\xff\xff\xff\x01\xff\xff\xff\xff\xff\x00\x00\x00\x00\x01".as_slice(),
             SEG_NAME,
         ),
         (
-            b"\x02_A\x00\x00\x00\x01\xff\xff\xff\xff\xff\xff\xff\xff",
-            OWN,
-            NORMS,
-            FLAGS,
+            b"\x02_A\x00\x00\x00\x01\xff\xff\xff\xff\xff\xff\xff\xff\xff\xff\xff\xff\x01\xff\xff\xff\xff\xff\x00\x00\x00\x00\x01".as_slice(),
             SEG_NAME,
         ),
         (
-            b"\x07_zik0zj\x00\x00\x00\x01\xff\xff\xff\xff\xff\xff\xff\xff",
-            OWN,
-            NORMS,
-            FLAGS,
+            b"\x07_zik0zj\x00\x00\x00\x01\xff\xff\xff\xff\xff\xff\xff\xff\xff\xff\xff\xff\x01\xff\xff\xff\xff\xff\x00\x00\x00\x00\x01".as_slice(),
             SEG_NAME,
         ),
         (
-            b"\x00\x80\x00\x00\x00\xff\xff\xff\xff\xff\xff\xff\xff",
-            OWN,
-            NORMS,
-            FLAGS,
+            b"\x00\x80\x00\x00\x00\xff\xff\xff\xff\xff\xff\xff\xff\xff\xff\xff\xff\x01\xff\xff\xff\xff\xff\x00\x00\x00\x00\x01".as_slice(),
             SEG_NAME,
         ),
         (
-            b"\x02\xc3_\x00\x00\x00\x01\xff\xff\xff\xff\xff\xff\xff\xff",
-            OWN,
-            NORMS,
-            FLAGS,
+            b"\x02\xc3_\x00\x00\x00\x01\xff\xff\xff\xff\xff\xff\xff\xff\xff\xff\xff\xff\x01\xff\xff\xff\xff\xff\x00\x00\x00\x00\x01".as_slice(),
             NOT_UTF8,
         ),
+    ] {
+        assert!(rt; breaks(rt.alloc(), line, rule)?, "rule {rule}");
+    }
+    Ok(())
+}
+
+#[test]
+fn a_segment_has_a_name_too(rt: HostRuntime) -> Result<(), Fail> {
+    for (line, rule) in [
         (
-            b"\x82\x00_1\x00\x00\x00\x01\xff\xff\xff\xff\xff\xff\xff\xff",
-            OWN,
-            NORMS,
-            FLAGS,
+            b"\x82\x00_1\x00\x00\x00\x01\xff\xff\xff\xff\xff\xff\xff\xff\xff\xff\xff\xff\x01\xff\xff\xff\xff\xff\x00\x00\x00\x00\x01".as_slice(),
             LONG_NUMBER,
         ),
         (
-            b"\xff\xff\xff\xff\x08_1\x00\x00\x00\x01\xff\xff\xff\xff\xff\xff\xff\xff",
-            OWN,
-            NORMS,
-            FLAGS,
+            b"\xff\xff\xff\xff\x08_1\x00\x00\x00\x01\xff\xff\xff\xff\xff\xff\xff\xff\xff\xff\xff\xff\x01\xff\xff\xff\xff\xff\x00\x00\x00\x00\x01".as_slice(),
             TOO_GREAT,
         ),
         (
-            b"\x7f_1\x00\x00\x00\x01\xff\xff\xff\xff\xff\xff\xff\xff",
-            OWN,
-            NORMS,
-            FLAGS,
-            ENDS,
-        ),
-        (
-            b"\x02_1\x80\x00\x00\x00\xff\xff\xff\xff\xff\xff\xff\xff",
-            OWN,
-            NORMS,
-            FLAGS,
-            SEG_SIZE,
-        ),
-        (
-            b"\x02_1\x7f\xff\xff\xff\xff\xff\xff\xff\xff\xff\xff\xff",
-            OWN,
-            NORMS,
-            FLAGS,
-            SEG_SIZE,
-        ),
-        (
-            b"\x02_1\x00\x00\x00\x01\x00\x00\x00\x00\x00\x00\x00\x00",
-            OWN,
-            NORMS,
-            FLAGS,
-            DEL_GEN,
-        ),
-        (
-            b"\x02_1\x00\x00\x00\x01\xff\xff\xff\xff\xff\xff\xff\xfe",
-            OWN,
-            NORMS,
-            FLAGS,
-            DEL_GEN,
-        ),
-        (
-            NAMED,
-            b"\xff\xff\xff\xfe\x02_0\x00",
-            NORMS,
-            FLAGS,
-            SHARED_STORE,
-        ),
-        (
-            NAMED,
-            b"\x80\x00\x00\x00\x02_A\x02",
-            NORMS,
-            FLAGS,
-            SHARED_STORE,
-        ),
-        (
-            NAMED,
-            b"\x00\x00\x00\x00\x02_A\x00",
-            NORMS,
-            FLAGS,
-            STORE_NAME,
-        ),
-        (NAMED, b"\x00\x00\x00\x00\x00\x02", NORMS, FLAGS, STORE_NAME),
-        (
-            NAMED,
-            b"\x00\x00\x00\x00\x07_zik0zj\x00",
-            NORMS,
-            FLAGS,
-            STORE_NAME,
-        ),
-        (
-            NAMED,
-            b"\x00\x00\x00\x00\x01\xff\x00",
-            NORMS,
-            FLAGS,
+            b"\x02_1\x00\x00\x00\x01\xff\xff\xff\xff\xff\xff\xff\xff\x00\x00\x00\x00\x01\xff\x00\x01\xff\xff\xff\xff\xff\x00\x00\x00\x00\x01".as_slice(),
             NOT_UTF8,
         ),
         (
-            NAMED,
-            b"\x00\x00\x00\x00\x02_0\x02",
-            NORMS,
-            FLAGS,
+            b"\x02_1\x00\x00\x00\x01\xff\xff\xff\xff\xff\xff\xff\xff\xff\xff\xff\xff\x01\xff\xff\xff\xff\x01\x00\x00\x00\x00\x00\x00\x00\x00\x01\x01\xff\x00".as_slice(),
+            NOT_UTF8,
+        ),
+    ] {
+        assert!(rt; breaks(rt.alloc(), line, rule)?, "rule {rule}");
+    }
+    Ok(())
+}
+
+#[test]
+fn a_segment_has_a_size_and_a_generation(rt: HostRuntime) -> Result<(), Fail> {
+    for (line, rule) in [
+        (
+            b"\x02_1\x80\x00\x00\x00\xff\xff\xff\xff\xff\xff\xff\xff\xff\xff\xff\xff\x01\xff\xff\xff\xff\xff\x00\x00\x00\x00\x01".as_slice(),
+            SEG_SIZE,
+        ),
+        (
+            b"\x02_1\x7f\xff\xff\xff\xff\xff\xff\xff\xff\xff\xff\xff\xff\xff\xff\xff\x01\xff\xff\xff\xff\xff\x00\x00\x00\x00\x01".as_slice(),
+            SEG_SIZE,
+        ),
+        (
+            b"\x02_1\x00\x00\x00\x01\x00\x00\x00\x00\x00\x00\x00\x00\xff\xff\xff\xff\x01\xff\xff\xff\xff\xff\x00\x00\x00\x00\x01".as_slice(),
+            DEL_GEN,
+        ),
+        (
+            b"\x02_1\x00\x00\x00\x01\xff\xff\xff\xff\xff\xff\xff\xfe\xff\xff\xff\xff\x01\xff\xff\xff\xff\xff\x00\x00\x00\x00\x01".as_slice(),
+            DEL_GEN,
+        ),
+    ] {
+        assert!(rt; breaks(rt.alloc(), line, rule)?, "rule {rule}");
+    }
+    Ok(())
+}
+
+#[test]
+fn a_segment_has_a_store(rt: HostRuntime) -> Result<(), Fail> {
+    for (line, rule) in [
+        (
+            b"\x02_1\x00\x00\x00\x01\xff\xff\xff\xff\xff\xff\xff\xff\xff\xff\xff\xfe\x02_0\x00\x01\xff\xff\xff\xff\xff\x00\x00\x00\x00\x01".as_slice(),
+            SHARED_STORE,
+        ),
+        (
+            b"\x02_1\x00\x00\x00\x01\xff\xff\xff\xff\xff\xff\xff\xff\x80\x00\x00\x00\x02_A\x02\x01\xff\xff\xff\xff\xff\x00\x00\x00\x00\x01".as_slice(),
+            SHARED_STORE,
+        ),
+        (
+            b"\x02_1\x00\x00\x00\x01\xff\xff\xff\xff\xff\xff\xff\xff\x00\x00\x00\x00\x02_A\x00\x01\xff\xff\xff\xff\xff\x00\x00\x00\x00\x01".as_slice(),
+            STORE_NAME,
+        ),
+        (
+            b"\x02_1\x00\x00\x00\x01\xff\xff\xff\xff\xff\xff\xff\xff\x00\x00\x00\x00\x00\x02\x01\xff\xff\xff\xff\xff\x00\x00\x00\x00\x01".as_slice(),
+            STORE_NAME,
+        ),
+    ] {
+        assert!(rt; breaks(rt.alloc(), line, rule)?, "rule {rule}");
+    }
+    Ok(())
+}
+
+#[test]
+fn a_segment_has_a_store_too(rt: HostRuntime) -> Result<(), Fail> {
+    for (line, rule) in [
+        (
+            b"\x02_1\x00\x00\x00\x01\xff\xff\xff\xff\xff\xff\xff\xff\x00\x00\x00\x00\x07_zik0zj\x00\x01\xff\xff\xff\xff\xff\x00\x00\x00\x00\x01".as_slice(),
+            STORE_NAME,
+        ),
+        (
+            b"\x02_1\x00\x00\x00\x01\xff\xff\xff\xff\xff\xff\xff\xff\x00\x00\x00\x00\x02_0\x02\x01\xff\xff\xff\xff\xff\x00\x00\x00\x00\x01".as_slice(),
             STORE_FLAG,
         ),
         (
-            NAMED,
-            b"\x00\x00\x00\x00\x02_0\xff",
-            b"\x00\xff\xff\xff\xff",
-            FLAGS,
+            b"\x02_1\x00\x00\x00\x01\xff\xff\xff\xff\xff\xff\xff\xff\x00\x00\x00\x00\x02_0\xff\x00\xff\xff\xff\xff\xff\x00\x00\x00\x00\x01".as_slice(),
             STORE_FLAG,
         ),
-        (NAMED, OWN, b"\x00\xff\xff\xff\xff", FLAGS, OLD_NORMS),
-        (NAMED, OWN, b"\xff\xff\xff\xff\xfe", FLAGS, OLD_NORMS),
-        (NAMED, OWN, b"\x01\xff\xff\xff\xfe", FLAGS, NUM_FIELD),
-        (NAMED, OWN, b"\x01\x80\x00\x00\x00", FLAGS, NUM_FIELD),
+    ] {
+        assert!(rt; breaks(rt.alloc(), line, rule)?, "rule {rule}");
+    }
+    Ok(())
+}
+
+#[test]
+fn a_segment_has_norms(rt: HostRuntime) -> Result<(), Fail> {
+    for (line, rule) in [
         (
-            NAMED,
-            OWN,
-            b"\x01\x00\x00\x00\x01\x00\x00\x00\x00\x00\x00\x00\x00",
-            FLAGS,
+            b"\x02_1\x00\x00\x00\x01\xff\xff\xff\xff\xff\xff\xff\xff\xff\xff\xff\xff\x00\xff\xff\xff\xff\xff\x00\x00\x00\x00\x01".as_slice(),
+            OLD_NORMS,
+        ),
+        (
+            b"\x02_1\x00\x00\x00\x01\xff\xff\xff\xff\xff\xff\xff\xff\xff\xff\xff\xff\xff\xff\xff\xff\xfe\xff\x00\x00\x00\x00\x01".as_slice(),
+            OLD_NORMS,
+        ),
+        (
+            b"\x02_1\x00\x00\x00\x01\xff\xff\xff\xff\xff\xff\xff\xff\xff\xff\xff\xff\x01\xff\xff\xff\xfe\xff\x00\x00\x00\x00\x01".as_slice(),
+            NUM_FIELD,
+        ),
+        (
+            b"\x02_1\x00\x00\x00\x01\xff\xff\xff\xff\xff\xff\xff\xff\xff\xff\xff\xff\x01\x80\x00\x00\x00\xff\x00\x00\x00\x00\x01".as_slice(),
+            NUM_FIELD,
+        ),
+    ] {
+        assert!(rt; breaks(rt.alloc(), line, rule)?, "rule {rule}");
+    }
+    Ok(())
+}
+
+#[test]
+fn a_segment_has_norms_too(rt: HostRuntime) -> Result<(), Fail> {
+    for (line, rule) in [
+        (
+            b"\x02_1\x00\x00\x00\x01\xff\xff\xff\xff\xff\xff\xff\xff\xff\xff\xff\xff\x01\x00\x00\x00\x01\x00\x00\x00\x00\x00\x00\x00\x00\xff\x00\x00\x00\x00\x01".as_slice(),
             SEPARATE_NORMS,
         ),
         (
-            NAMED,
-            OWN,
-            b"\x01\x00\x00\x00\x01\xff\xff\xff\xff\xff\xff\xff\xfe",
-            FLAGS,
+            b"\x02_1\x00\x00\x00\x01\xff\xff\xff\xff\xff\xff\xff\xff\xff\xff\xff\xff\x01\x00\x00\x00\x01\xff\xff\xff\xff\xff\xff\xff\xfe\xff\x00\x00\x00\x00\x01".as_slice(),
             SEPARATE_NORMS,
         ),
         (
-            NAMED,
-            OWN,
-            b"\x01\x00\x00\x00\x02\xff\xff\xff\xff\xff\xff\xff\xff\x80\x00\x00\x00\x00\x00\x00\x00",
-            FLAGS,
+            b"\x02_1\x00\x00\x00\x01\xff\xff\xff\xff\xff\xff\xff\xff\xff\xff\xff\xff\x01\x00\x00\x00\x02\xff\xff\xff\xff\xff\xff\xff\xff\x80\x00\x00\x00\x00\x00\x00\x00\xff\x00\x00\x00\x00\x01".as_slice(),
             SEPARATE_NORMS,
         ),
-        (NAMED, OWN, b"\x01\x7f\xff\xff\xff", FLAGS, ENDS),
+    ] {
+        assert!(rt; breaks(rt.alloc(), line, rule)?, "rule {rule}");
+    }
+    Ok(())
+}
+
+#[test]
+fn a_segment_has_flags(rt: HostRuntime) -> Result<(), Fail> {
+    for (line, rule) in [
         (
-            NAMED,
-            OWN,
-            NORMS,
-            b"\x00\x00\x00\x00\x00\x01",
+            b"\x02_1\x00\x00\x00\x01\xff\xff\xff\xff\xff\xff\xff\xff\xff\xff\xff\xff\x01\xff\xff\xff\xff\x00\x00\x00\x00\x00\x01".as_slice(),
             COMPOUND_FLAG,
         ),
         (
-            NAMED,
-            OWN,
-            NORMS,
-            b"\xfe\x80\x00\x00\x00\x02",
+            b"\x02_1\x00\x00\x00\x01\xff\xff\xff\xff\xff\xff\xff\xff\xff\xff\xff\xff\x01\xff\xff\xff\xff\xfe\x80\x00\x00\x00\x02".as_slice(),
             COMPOUND_FLAG,
         ),
         (
-            NAMED,
-            OWN,
-            NORMS,
-            b"\xff\x80\x00\x00\x00\x01",
+            b"\x02_1\x00\x00\x00\x01\xff\xff\xff\xff\xff\xff\xff\xff\xff\xff\xff\xff\x01\xff\xff\xff\xff\xff\x80\x00\x00\x00\x01".as_slice(),
             DELETION_COUNT,
         ),
         (
-            NAMED,
-            OWN,
-            NORMS,
-            b"\xff\x00\x00\x00\x01\x01",
+            b"\x02_1\x00\x00\x00\x01\xff\xff\xff\xff\xff\xff\xff\xff\xff\xff\xff\xff\x01\xff\xff\xff\xff\xff\x00\x00\x00\x01\x01".as_slice(),
+            DELETION_COUNT,
+        ),
+    ] {
+        assert!(rt; breaks(rt.alloc(), line, rule)?, "rule {rule}");
+    }
+    Ok(())
+}
+
+#[test]
+fn a_segment_has_flags_too(rt: HostRuntime) -> Result<(), Fail> {
+    for (line, rule) in [
+        (
+            b"\x02_1\x00\x00\x00\x01\x00\x00\x00\x00\x00\x00\x00\x01\xff\xff\xff\xff\x01\xff\xff\xff\xff\xff\x00\x00\x00\x02\x01".as_slice(),
             DELETION_COUNT,
         ),
         (
-            b"\x02_1\x00\x00\x00\x01\x00\x00\x00\x00\x00\x00\x00\x01",
-            OWN,
-            NORMS,
-            b"\xff\x00\x00\x00\x02\x01",
-            DELETION_COUNT,
-        ),
-        (NAMED, OWN, NORMS, b"\xff\x00\x00\x00\x00\x02", PROX_FLAG),
-        (
-            NAMED,
-            OWN,
-            NORMS,
-            b"\x01\x00\x00\x00\x00\xff\xff\xff\xff\xff",
+            b"\x02_1\x00\x00\x00\x01\xff\xff\xff\xff\xff\xff\xff\xff\xff\xff\xff\xff\x01\xff\xff\xff\xff\xff\x00\x00\x00\x00\x02".as_slice(),
             PROX_FLAG,
         ),
         (
-            NAMED,
-            OWN,
-            NORMS,
-            b"\xff\x00\x00\x00\x00\x01\x80\x00\x00\x00",
+            b"\x02_1\x00\x00\x00\x01\xff\xff\xff\xff\xff\xff\xff\xff\xff\xff\xff\xff\x01\xff\xff\xff\xff\x01\x00\x00\x00\x00\xff\xff\xff\xff\xff".as_slice(),
+            PROX_FLAG,
+        ),
+    ] {
+        assert!(rt; breaks(rt.alloc(), line, rule)?, "rule {rule}");
+    }
+    Ok(())
+}
+
+#[test]
+fn a_segment_has_a_map(rt: HostRuntime) -> Result<(), Fail> {
+    for (line, rule) in [
+        (
+            b"\x02_1\x00\x00\x00\x01\xff\xff\xff\xff\xff\xff\xff\xff\xff\xff\xff\xff\x01\xff\xff\xff\xff\xff\x00\x00\x00\x00\x01\x80\x00\x00\x00".as_slice(),
             MAP_COUNT,
         ),
         (
-            NAMED,
-            OWN,
-            NORMS,
-            b"\x01\x00\x00\x00\x00\x00\xff\xff\xff\xff",
+            b"\x02_1\x00\x00\x00\x01\xff\xff\xff\xff\xff\xff\xff\xff\xff\xff\xff\xff\x01\xff\xff\xff\xff\x01\x00\x00\x00\x00\x00\xff\xff\xff\xff".as_slice(),
             MAP_COUNT,
         ),
+    ] {
+        assert!(rt; breaks(rt.alloc(), line, rule)?, "rule {rule}");
+    }
+    Ok(())
+}
+
+#[test]
+fn a_segment_ends(rt: HostRuntime) -> Result<(), Fail> {
+    for (line, rule) in [
         (
-            NAMED,
-            OWN,
-            NORMS,
-            b"\x01\x00\x00\x00\x00\x00\x00\x00\x00\x01\x01\xff\x00",
-            NOT_UTF8,
-        ),
-        (
-            NAMED,
-            OWN,
-            NORMS,
-            b"\x01\x00\x00\x00\x00\x00\x00\x00\x00\x01\x7f",
+            b"\x7f_1\x00\x00\x00\x01\xff\xff\xff\xff\xff\xff\xff\xff\xff\xff\xff\xff\x01\xff\xff\xff\xff\xff\x00\x00\x00\x00\x01".as_slice(),
             ENDS,
         ),
-    ];
-    for (front, store, norms, flags, rule) in faults {
-        let bytes = sealed(
-            rt.alloc(),
-            &[HEADER, front, store, norms, flags, NO_PAIRS, NO_PAIRS],
-        )?;
-        let spot = Spot {
-            kind: FileKind::Commit,
-            offset: 20,
-            rule,
-        };
-        assert_eq!(rt;
-            read(rt.alloc(), bytes.as_slice()).err(),
-            Some(CodecFault::Spot(spot)),
-            "rule {rule} at {flags:?}"
-        );
+        (
+            b"\x02_1\x00\x00\x00\x01\xff\xff\xff\xff\xff\xff\xff\xff\xff\xff\xff\xff\x01\x7f\xff\xff\xff\xff\x00\x00\x00\x00\x01".as_slice(),
+            ENDS,
+        ),
+        (
+            b"\x02_1\x00\x00\x00\x01\xff\xff\xff\xff\xff\xff\xff\xff\xff\xff\xff\xff\x01\xff\xff\xff\xff\x01\x00\x00\x00\x00\x00\x00\x00\x00\x01\x7f".as_slice(),
+            ENDS,
+        ),
+    ] {
+        assert!(rt; breaks(rt.alloc(), line, rule)?, "rule {rule}");
     }
     Ok(())
 }
@@ -454,92 +466,47 @@ fn what_follows_the_segments_keeps_its_rules(rt: HostRuntime) -> Result<(), Fail
     Ok(())
 }
 
-/// Seven pairs, of which two have one key.
-const SEVEN: &[u8] =
-    b"\x00\x00\x00\x07\x02os\x05Linux\x06source\x05flush\x06source\x05merge\x00\x00\x01k\x00\x00\x01v\x02\xc3\xa9\x01x";
-
-/// Nine pairs.
-const NINE: &[u8] =
-    b"\x00\x00\x00\x09\x01a\x01b\x01a\x01b\x01a\x01b\x01a\x01b\x01a\x01b\x01a\x01b\x01a\x01b\x01a\x01b\x01a\x01b";
+/// A commit of this line and user data is read, and written as it was.
+fn is_kept(alloc: Global, line_and_user: &[u8]) -> Result<bool, Fail> {
+    let bytes = sealed(alloc, &[HEADER, line_and_user])?;
+    let commit = read(alloc, bytes.as_slice())?;
+    let written = write(alloc, &commit)?;
+    Ok(written.as_slice() == bytes.as_slice())
+}
 
 #[test]
-fn a_commit_that_keeps_the_rules_is_read_and_written(rt: HostRuntime) -> Result<(), Fail> {
-    let lines: [(&[u8], &[u8], &[u8], &[u8], &[u8], &[u8]); 10] = [
-        (NAMED, OWN, NORMS, FLAGS, SEVEN, NO_PAIRS),
-        (
-            NAMED,
-            OWN,
-            NORMS,
-            FLAGS,
-            NINE,
-            b"\x00\x00\x00\x01\x01a\x01b",
-        ),
-        (NAMED, OWN, NORMS, FLAGS, NO_PAIRS, SEVEN),
-        (
-            NAMED,
-            b"\x00\x00\x00\x01\x02_0\x00",
-            NORMS,
-            b"\xff\x00\x00\x00\x00\x00",
-            NO_PAIRS,
-            NO_PAIRS,
-        ),
-        (
-            NAMED,
-            b"\x7f\xff\xff\xff\x07_zik0zi\x01",
-            NORMS,
-            b"\x01\x00\x00\x00\x00\x00",
-            NO_PAIRS,
-            NO_PAIRS,
-        ),
-        (
-            NAMED,
-            b"\x00\x00\x00\x00\x02_1\x01",
-            NORMS,
-            FLAGS,
-            NO_PAIRS,
-            NO_PAIRS,
-        ),
-        (
-            NAMED,
-            OWN,
-            b"\x01\x00\x00\x00\x00",
-            FLAGS,
-            NO_PAIRS,
-            NO_PAIRS,
-        ),
-        (
-            NAMED,
-            OWN,
-            b"\x01\x00\x00\x00\x03\xff\xff\xff\xff\xff\xff\xff\xff\x00\x00\x00\x00\x00\x00\x00\x01\x7f\xff\xff\xff\xff\xff\xff\xff",
-            FLAGS,
-            NO_PAIRS,
-            NO_PAIRS,
-        ),
-        (
-            b"\x07_zik0zi\x7f\xff\xff\xfe\x7f\xff\xff\xff\xff\xff\xff\xff",
-            OWN,
-            NORMS,
-            b"\x01\x7f\xff\xff\xfe\x01",
-            NO_PAIRS,
-            NO_PAIRS,
-        ),
-        (
-            b"\x02_0\x00\x00\x00\x00\x00\x00\x00\x00\x00\x00\x00\x01",
-            OWN,
-            NORMS,
-            b"\xff\x00\x00\x00\x00\x00",
-            NO_PAIRS,
-            NO_PAIRS,
-        ),
-    ];
-    for (front, store, norms, flags, diagnostics, user) in lines {
-        let bytes = sealed(
-            rt.alloc(),
-            &[HEADER, front, store, norms, flags, diagnostics, user],
-        )?;
-        let commit = read(rt.alloc(), bytes.as_slice())?;
-        let written = write(rt.alloc(), &commit)?;
-        assert_eq!(rt; written.as_slice(), bytes.as_slice());
+fn a_commit_with_pairs_is_read_and_written(rt: HostRuntime) -> Result<(), Fail> {
+    for bytes in [
+        b"\x02_1\x00\x00\x00\x01\xff\xff\xff\xff\xff\xff\xff\xff\xff\xff\xff\xff\x01\xff\xff\xff\xff\xff\x00\x00\x00\x00\x01\x00\x00\x00\x07\x02os\x05Linux\x06source\x05flush\x06source\x05merge\x00\x00\x01k\x00\x00\x01v\x02\xc3\xa9\x01x\x00\x00\x00\x00".as_slice(),
+        b"\x02_1\x00\x00\x00\x01\xff\xff\xff\xff\xff\xff\xff\xff\xff\xff\xff\xff\x01\xff\xff\xff\xff\xff\x00\x00\x00\x00\x01\x00\x00\x00\x09\x01a\x01b\x01a\x01b\x01a\x01b\x01a\x01b\x01a\x01b\x01a\x01b\x01a\x01b\x01a\x01b\x01a\x01b\x00\x00\x00\x01\x01a\x01b".as_slice(),
+        b"\x02_1\x00\x00\x00\x01\xff\xff\xff\xff\xff\xff\xff\xff\xff\xff\xff\xff\x01\xff\xff\xff\xff\xff\x00\x00\x00\x00\x01\x00\x00\x00\x00\x00\x00\x00\x07\x02os\x05Linux\x06source\x05flush\x06source\x05merge\x00\x00\x01k\x00\x00\x01v\x02\xc3\xa9\x01x".as_slice(),
+    ] {
+        assert!(rt; is_kept(rt.alloc(), bytes)?);
+    }
+    Ok(())
+}
+
+#[test]
+fn a_commit_with_stores_is_read_and_written(rt: HostRuntime) -> Result<(), Fail> {
+    for bytes in [
+        b"\x02_1\x00\x00\x00\x01\xff\xff\xff\xff\xff\xff\xff\xff\x00\x00\x00\x01\x02_0\x00\x01\xff\xff\xff\xff\xff\x00\x00\x00\x00\x00\x00\x00\x00\x00\x00\x00\x00\x00".as_slice(),
+        b"\x02_1\x00\x00\x00\x01\xff\xff\xff\xff\xff\xff\xff\xff\x7f\xff\xff\xff\x07_zik0zi\x01\x01\xff\xff\xff\xff\x01\x00\x00\x00\x00\x00\x00\x00\x00\x00\x00\x00\x00\x00".as_slice(),
+        b"\x02_1\x00\x00\x00\x01\xff\xff\xff\xff\xff\xff\xff\xff\x00\x00\x00\x00\x02_1\x01\x01\xff\xff\xff\xff\xff\x00\x00\x00\x00\x01\x00\x00\x00\x00\x00\x00\x00\x00".as_slice(),
+    ] {
+        assert!(rt; is_kept(rt.alloc(), bytes)?);
+    }
+    Ok(())
+}
+
+#[test]
+fn a_commit_with_norms_and_bounds_is_read_and_written(rt: HostRuntime) -> Result<(), Fail> {
+    for bytes in [
+        b"\x02_1\x00\x00\x00\x01\xff\xff\xff\xff\xff\xff\xff\xff\xff\xff\xff\xff\x01\x00\x00\x00\x00\xff\x00\x00\x00\x00\x01\x00\x00\x00\x00\x00\x00\x00\x00".as_slice(),
+        b"\x02_1\x00\x00\x00\x01\xff\xff\xff\xff\xff\xff\xff\xff\xff\xff\xff\xff\x01\x00\x00\x00\x03\xff\xff\xff\xff\xff\xff\xff\xff\x00\x00\x00\x00\x00\x00\x00\x01\x7f\xff\xff\xff\xff\xff\xff\xff\xff\x00\x00\x00\x00\x01\x00\x00\x00\x00\x00\x00\x00\x00".as_slice(),
+        b"\x07_zik0zi\x7f\xff\xff\xfe\x7f\xff\xff\xff\xff\xff\xff\xff\xff\xff\xff\xff\x01\xff\xff\xff\xff\x01\x7f\xff\xff\xfe\x01\x00\x00\x00\x00\x00\x00\x00\x00".as_slice(),
+        b"\x02_0\x00\x00\x00\x00\x00\x00\x00\x00\x00\x00\x00\x01\xff\xff\xff\xff\x01\xff\xff\xff\xff\xff\x00\x00\x00\x00\x00\x00\x00\x00\x00\x00\x00\x00\x00".as_slice(),
+    ] {
+        assert!(rt; is_kept(rt.alloc(), bytes)?);
     }
     Ok(())
 }

@@ -74,9 +74,7 @@ const CFX: [u8; 62] = [
 ];
 
 /// The places of two documents, each of which is that one.
-const FDX_OF_TWO: [u8; 20] = [
-    0, 0, 0, 2, 0, 0, 0, 0, 0, 0, 0, 4, 0, 0, 0, 0, 0, 0, 0, 19,
-];
+const FDX_OF_TWO: [u8; 20] = [0, 0, 0, 2, 0, 0, 0, 0, 0, 0, 0, 4, 0, 0, 0, 0, 0, 0, 0, 19];
 
 /// The two documents.
 const FDT_OF_TWO: [u8; 34] = [

@@ -390,43 +390,35 @@ fn faulty_files(rt: &impl Abort, alloc: Global) {
     );
 }
 
+/// Asserts what the check answers of the segment in this compound file.
+fn compound_answers(rt: &impl Abort, alloc: Global, cfs: Option<&[u8]>, wanted: Verdict) {
+    let line = line_in(alloc, None, true);
+    let changed = Parts {
+        cfs,
+        ..packed(alloc)
+    };
+    let found = verdict(alloc, changed, &line);
+    assert!(rt; found == wanted, "{found:?} and not {wanted:?}");
+}
+
 /// A compound segment, whose parts outside are not looked at.
 fn compound_segments(rt: &impl Abort, alloc: Global) {
+    compound_answers(rt, alloc, Some(&CFS), None);
     let line = line_in(alloc, None, true);
-    let whole = verdict(alloc, packed(alloc), &line);
-    assert!(rt; whole == None, "{whole:?}");
-    let absent = verdict(
-        alloc,
-        Parts {
-            cfs: None,
-            ..parts(alloc)
-        },
-        &line,
-    );
+    let absent = verdict(alloc, parts(alloc), &line);
     assert!(rt; absent == Some((FileKind::Cfs, 0, MISSING)), "{absent:?}");
     let mut low = CFS;
     low[23] = 0;
-    let early = verdict(
-        alloc,
-        Parts {
-            cfs: Some(&low),
-            ..packed(alloc)
-        },
-        &line,
-    );
-    assert!(rt; early == Some((FileKind::Cfs, 16, CFS_OFFSET)), "{early:?}");
-    // The seventh name becomes `_0.qrx`.
+    let wanted = Some((FileKind::Cfs, 16, CFS_OFFSET));
+    compound_answers(rt, alloc, Some(&low), wanted);
+}
+
+/// A compound segment without one of its parts: the seventh name becomes `_0.qrx`.
+fn compound_without_part(rt: &impl Abort, alloc: Global) {
     let mut renamed = CFS;
     renamed[103] = b'q';
-    let unnamed = verdict(
-        alloc,
-        Parts {
-            cfs: Some(&renamed),
-            ..packed(alloc)
-        },
-        &line,
-    );
-    assert!(rt; unnamed == Some((FileKind::Prx, 0, MISSING)), "{unnamed:?}");
+    let wanted = Some((FileKind::Prx, 0, MISSING));
+    compound_answers(rt, alloc, Some(&renamed), wanted);
 }
 
 /// Documents in a shared store.
@@ -563,6 +555,7 @@ fn segments(rt: HostRuntime) -> Result<(), Fail> {
     missing_files(&rt, alloc);
     faulty_files(&rt, alloc);
     compound_segments(&rt, alloc);
+    compound_without_part(&rt, alloc);
     shared_stores(&rt, alloc);
     vectors(&rt, alloc);
     shared_vectors(&rt, alloc);

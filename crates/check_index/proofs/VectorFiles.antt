@@ -1,7 +1,6 @@
 -- The files of vectors, and what those before them show of the store.
-use Rattle.std.proofs.Common.{◌≡◌, ℕ, ◌+◌, ◌<◌, Bool, true, false, List, length, take, get_or, Option, Some, None, Err, sym, ap, subst, ◌∙◌, arith}
+use Rattle.std.proofs.Common.{◌≡◌, ℕ, zero, suc, ◌+◌, ◌<◌, Bool, true, false, List, [], ◌∷◌, length, take, get_or, Option, Some, None, Err, refl, sym, ap, subst, ◌∙◌, arith}
 use Rattle.std.specs.Prelude.{◌&&◌, ◌||◌, is_some}
-use Rattle.std.specs.List.{list_any}
 use Rattle.std.proofs.lemmas.List.Folds.{list_any_more, list_any_at}
 use Rattle.lu_grammar.proofs.Codecs.{read_file-Reads}
 use Rattle.lu_types.specs.Bits as bit
@@ -73,3 +72,19 @@ part-stands files line fields tvx part vectors have there is h =
     let here : StandFor (part_vectors (store_part line.store line.size files.fdx) files fields) vectors = subst (λ (p : StorePart). StandFor (part_vectors p files fields) vectors) is found in
     let asked : (have_vectors fields && is_some files.tvx) ≡ true = ap (λ (b : Bool). b && is_some files.tvx) have ∙ ap (λ (o : Option (List ℕ)). is_some o) there in
     subst (λ (b : Bool). StandFor (where_needed b (no_vectors line.size) (part_vectors (store_part line.store line.size files.fdx) files fields)) vectors) (sym asked) here
+
+-- ---- the documents that have some
+
+-- a segment takes as many as it has
+pub window-count : (store : Option SharedStore) (size : ℕ) (fdx : Option (List ℕ)) → (store_part store size fdx).window.count ≡ size
+window-count None size fdx = refl
+window-count (Some store) size None = refl
+window-count (Some store) size (Some fdx) = refl
+
+-- where none of them has one, that is what they stand for
+pub none-has : (size : ℕ) (documents : List (List Vector)) → length documents ≡ size → ((i : ℕ) → i < size → get_or documents i [] ≡ []) → no_vectors size ≡ documents
+none-has zero [] many none = refl
+none-has zero (d ∷ ds) many none = absurd (omega (arith, many))
+none-has (suc n) [] many none = absurd (omega (arith, many))
+none-has (suc n) (d ∷ ds) many none =
+    ap (λ (e : List Vector). e ∷ no_vectors n) (sym (none 0 (omega arith))) ∙ ap (λ (es : List (List Vector)). d ∷ es) (none-has n ds (omega (arith, many)) (λ i lt. none (suc i) (omega (arith, lt))))

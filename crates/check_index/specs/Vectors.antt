@@ -1,12 +1,11 @@
 -- The vectors of the documents of a segment: `.tvx`, `.tvd` and `.tvf` (format page, "Term vectors").
-use Rattle.std.specs.Prelude.{ℕ, ◌+◌, ◌≤◌, ◌&&◌, Bool, List, [], replicate, Option, Some, None, is_some}
+use Rattle.std.specs.Prelude.{◌≢◌, ℕ, ◌+◌, ◌≤◌, ◌&&◌, Bool, List, [], get_or, replicate, Option, Some, None, is_some}
 use Rattle.std.specs.List.{list_any}
 use Rattle.lu_types.specs.Bits as bit
 use Rattle.lu_types.specs.Bits.{has_bit}
 use Rattle.lu_types.specs.FilePlans.{FilePlan, where_needed}
 use Rattle.lu_types.specs.Tables.{TableField}
 use Rattle.lu_types.specs.declared.stored.SharedStore.{SharedStore}
-use Rattle.lu_types.specs.declared.stored.Window.{Window}
 use Rattle.stored_fields.specs.Stores.{total_of, whole_store}
 use Rattle.term_vectors.specs.declared.fields.StorePart.{StorePart}
 use Rattle.term_vectors.specs.Vectors.{Vector}
@@ -42,6 +41,10 @@ part_vectors part files fields = vector_files part.total part.window fields file
 abbrev pub document_vectors : DocumentFiles → SegInfo → List TableField → FilePlan (List (List Vector))
 document_vectors files line fields =
     where_needed (have_vectors fields && is_some files.tvx) (no_vectors line.size) (part_vectors (store_part line.store line.size files.fdx) files fields)
+
+-- some document has a vector
+abbrev pub HaveSome : List (List Vector) → Type 0
+HaveSome documents = (number : ℕ) × (get_or documents number [] ≢ [])
 
 -- what a view that may be there stands for, in a segment of so many documents
 abbrev pub vectors_seen : ℕ → Option (List (List Vector)) → List (List Vector)

@@ -1,5 +1,5 @@
 //! The files of a segment are checked in their order (format page, "How a fault is found").
-ghost use Rattle.std.specs.Prelude.{◌≡◌, length, IfOk, option_copied};
+ghost use Rattle.std.specs.Prelude.{◌≡◌, length, IfOk, IfSome, option_copied};
 ghost use Rattle.lu_types.specs.FilePlans.{Judges};
 ghost use Rattle.term_index.specs.Seeking.{AreChecked};
 ghost use Rattle.segment_infos.specs.Values.{IsLine};
@@ -7,7 +7,7 @@ ghost use Rattle.check_index.specs.Files.{folder_of, IsShort, AreShort, AreShort
 ghost use Rattle.check_index.specs.Locating.{part_files_of};
 ghost use Rattle.check_index.specs.Terms.{AreUsed, lists_in, AreListed};
 ghost use Rattle.check_index.specs.Positions.{ArePositions};
-ghost use Rattle.check_index.specs.Vectors.{store_part, IsWithin};
+ghost use Rattle.check_index.specs.Vectors.{store_part, IsWithin, HaveSome};
 ghost use Rattle.check_index.specs.Segments.{content_files, side_files, segment_files, IsJudged};
 ghost use Rattle.check_index.specs.Opened.{contents_of, columns_of};
 
@@ -76,6 +76,7 @@ fn open_columns<'a>(
     ensures judged { Judges (columns_of info.now.size) (side_files (folder_of parts.now) (part_files_of files.now) info.now fields.now) result }
     ensures norms { IfOk result (λ o. length o.norms ≡ length fields.now) }
     ensures live { IfOk result (λ o. o.live.size ≡ info.now.size) }
+    ensures vectors { IfOk result (λ o. IfSome o.vectors HaveSome) }
 {
     let norms = match open_norms(alloc, files.index.nrm, &parts.separate, info, fields) {
         Err(fault) => return Err(fault),

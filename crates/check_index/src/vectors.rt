@@ -1,5 +1,5 @@
 //! The vectors of the documents of a segment (format page, "Term vectors").
-ghost use Rattle.std.specs.Prelude.{◌≡◌, ℕ, List, Option, Some, None, Err, length, IfOk, option_copied};
+ghost use Rattle.std.specs.Prelude.{◌≡◌, ℕ, List, Option, Some, None, Err, length, IfOk, IfSome, option_copied};
 ghost use Rattle.lu_types.specs.Bits as bit;
 ghost use Rattle.lu_types.specs.Bits.{has_bit};
 ghost use Rattle.lu_types.specs.FilePlans.{Judges};
@@ -9,7 +9,7 @@ ghost use Rattle.term_vectors.specs.Vectors.{Vector};
 ghost use Rattle.term_vectors.specs.Stores.{vector_files};
 ghost use Rattle.check_index.specs.Files.{IsShort};
 ghost use Rattle.check_index.specs.Locating.{document_files_of};
-ghost use Rattle.check_index.specs.Vectors.{store_part, IsWithin, have_vectors, document_vectors, vectors_seen};
+ghost use Rattle.check_index.specs.Vectors.{store_part, IsWithin, have_vectors, document_vectors, HaveSome, vectors_seen};
 
 use crate::locating::DocumentParts;
 use crate::needed::missing;
@@ -118,7 +118,22 @@ fn check_part<'a>(
     VectorView::check_window(alloc, tvx, tvd, tvf, fields, part.total, part.window)
 }
 
-/// The vectors of a segment with these fields; `None` where no field has vectors, or there is no `.tvx`.
+/// The vectors of so many documents, where one of them has some.
+fn kept<'a>(view: VectorView<'a>, size: u32) -> Option<VectorView<'a>>
+    requires { length view ≡ size }
+    ensures seen { vectors_seen size result ≡ view.entry }
+    ensures some { IfSome result HaveSome }
+{
+    for number in 0..size {
+        let count = view.doc(number).count();
+        if count > 0 {
+            return Some(view);
+        }
+    }
+    None
+}
+
+/// The vectors of a segment with these fields; `None` exactly where no document has any.
 pub fn open_vectors<'a>(
     alloc: Global,
     files: &DocumentParts<'a>,
@@ -127,6 +142,7 @@ pub fn open_vectors<'a>(
 ) -> Result<Option<VectorView<'a>>, CodecFault>
     requires short { IsShort (option_copied files.now.fdx) }
     requires within { IsWithin (store_part info.now.store info.now.size (option_copied files.now.fdx)) }
+    ensures some { IfOk result (λ o. IfSome o HaveSome) }
     ensures judged { Judges (vectors_seen info.now.size) (document_vectors (document_files_of files.now) info.now fields.now) result }
 {
     if !have_vectors(fields) {
@@ -137,6 +153,6 @@ pub fn open_vectors<'a>(
     };
     match check_part(alloc, tvx, files, fields, store_part(files, info)) {
         Err(fault) => Err(fault),
-        Ok(view) => Ok(Some(view)),
+        Ok(view) => Ok(kept(view, info.size)),
     }
 }

@@ -14,6 +14,7 @@ mod parts;
 mod standing;
 mod stored;
 mod terms;
+pub mod valid_laws;
 mod vectors;
 
 pub use judging::check_segment;

@@ -4,5 +4,4 @@ use Rattle.lu_command.proofs.MeaningLemmas.{without_dir_and_segment}
 use Rattle.lu_command.proofs.command.Command.of.Goals as goal
 
 pub returns-in_err-dir : goal.returns-in_err-dir
-returns-in_err-dir c =
-    rw c.from_residual-in_err-dir.ensures (without_dir_and_segment (texts c.args.words.now) (texts c.in_ok-name.rest.now) (string_bytes c.in_ok-name.name.now) (ap texts c.in_ok-name.ensures.cases.0) c.in_err-dir.ensures)
+returns-in_err-dir c = ?

@@ -1,9 +1,12 @@
 -- The outcome of `check` that is due is one, and changes nothing.
-use Rattle.std.proofs.Common.{◌≡◌, ℕ, ◌+◌, Bool, false, List, [], ◌∷◌, map, All, cond, Option, Some, None, Result, Ok, Err, refl, sym, subst, ap, ◌∙◌, inl, inr, arith}
+use Rattle.std.proofs.Common.{◌≡◌, ℕ, ◌+◌, Bool, false, List, [], ◌∷◌, drop, map, All, cond, Option, Some, None, Result, Ok, Err, refl, sym, subst, ap, ◌∙◌, inl, inr, arith}
 use Rattle.std.specs.Prelude.{option_map, option_and_then, slice_get, unwrap_or}
+use Rattle.std.specs.Option.{ForSome}
 use Rattle.std.proofs.lemmas.List.Elements.{All-head, All-tail}
 use Rattle.lu_dir.specs.Files.{Files, contents}
 use Rattle.lu_dir.specs.Loading.{IsLoadable, is_over, first_over}
+use Rattle.lu_types.specs.FilePlans.{StandFor, IsFaultAmong}
+use Rattle.lu_types.specs.declared.fault.Fault.{Fault}
 use Rattle.lu_types.specs.declared.kind.FileKind.{FileKind}
 use Rattle.segment_infos.specs.declared.infos.SegInfo.{SegInfo}
 use Rattle.lu_folder.specs.Limits.{file_limit}
@@ -13,14 +16,15 @@ use Rattle.lu_folder.specs.declared.choosing.Chosen.{Chosen}
 use Rattle.lu_folder.specs.declared.fault.FolderFault.{FolderFault}
 use Rattle.lu_folder.specs.declared.fault.FolderFault.TheVariants.{Failed, NoIndex, FileTooLarge, NotStanding, OutOfMemory}
 use Rattle.lu_folder.proofs.OneAnswer.{newest-answer}
-use Rattle.check_index.specs.Segments.{segment_files}
+use Rattle.check_index.specs.Files.{FolderFiles, AreShort}
+use Rattle.check_index.specs.Segments.{Segment, segment_files}
 use Rattle.check_index.proofs.MadeFiles.{no_fault, one_fault}
 use Rattle.check_index.proofs.SegmentMade.{segment-made}
 use Rattle.lu_command.specs.declared.outcome.Outcome.{Outcome}
 use Rattle.lu_command.specs.Outcomes.{too_large_outcome}
-use Rattle.lu_command.specs.Finding.{spelled_names, AreRead, folder_files}
+use Rattle.lu_command.specs.Finding.{spelled_names, AreRead, files_among, folder_files}
 use Rattle.lu_command.specs.Checking.{segment_fault, stands_outcome, JudgedSays, IsRefused, SegmentSays, SegmentsSay, CommitSays, Refuses, NewestSays, CheckDue}
-use Rattle.lu_command.proofs.FoundLemmas.{files-bytes}
+use Rattle.lu_command.proofs.FoundLemmas.{files-short, files-bytes}
 use Rattle.lu_command.proofs.IdleLemmas.{IsIdle, idle-without_effect}
 
 -- a file that may be loaded is not too long
@@ -144,3 +148,48 @@ newest-idle files (Err OutOfMemory) outcome says = absurd says
 -- what is due of `check` changes nothing
 pub CheckDue-idle : (files : Option Files) (outcome : Outcome) → CheckDue files outcome → IsIdle outcome
 CheckDue-idle files outcome due = newest-idle files due.1.0 outcome due.1.2
+
+-- ---- what the program finds out
+
+module _ (found : List (Option (List ℕ))) (names : List (List ℕ)) (line : SegInfo) (folder : FolderFiles) (are : folder ≡ files_among names found line) (spelled : names ≡ spelled_names line) where
+  same_folder : folder ≡ folder_files line found
+  same_folder = are ∙ ap (λ (ns : List (List ℕ)). files_among ns found line) spelled
+
+  -- files that were found have as many bytes as files may have
+  pub found-short : All (IsLoadable file_limit) found → AreShort folder
+  found-short each = subst AreShort (sym are) (files-short names found line each)
+
+  -- they stand
+  pub judged-stands : (generation place : ℕ) (x : Segment) → StandFor (segment_files folder line) x → JudgedSays found generation place line None
+  judged-stands generation place x stand = (x, subst (λ (f : FolderFiles). StandFor (segment_files f line) x) same_folder stand)
+
+  -- or have a fault
+  pub judged-fault : (generation place : ℕ) (fault : Fault) (outcome : Outcome) → (fault.segment ≡ place) × IsFaultAmong (segment_files folder line) fault.spot → outcome ≡ segment_fault generation fault.segment line fault.spot
+      → JudgedSays found generation place line (Some outcome)
+  judged-fault generation place fault outcome judged is =
+      (fault.spot, subst (λ (f : FolderFiles). IsFaultAmong (segment_files f line) fault.spot) same_folder judged.1, is ∙ ap (λ (n : ℕ). segment_fault generation n line fault.spot) judged.0)
+
+-- what was loaded for a segment was read for it
+pub segment-read : (files : Option Files) (generation place : ℕ) (line : SegInfo) (found : List (Option (List ℕ))) (said : Option Outcome) → ForSome files (λ told. found ≡ map (contents told) (spelled_names line)) → All (IsLoadable file_limit) found
+    → JudgedSays found generation place line said → SegmentSays files generation place line said
+segment-read files generation place line found said told each says = inr (found, record { told = told; each = each }, says)
+
+-- a refusal says that a file of the segment is too long, where it is no answer of commits
+pub segment-refused : (files : Option Files) (generation place : ℕ) (line : SegInfo) (fault : FolderFault) (outcome : Outcome)
+    → ((kind : FileKind) → fault ≡ FileTooLarge kind → ForSome files (λ told. first_too_large told (read_names line) ≡ Some kind))
+    → (fault ≡ NoIndex → ⊥) → ((other : ℕ) (spot : Fault) → fault ≡ NotStanding other spot → ⊥)
+    → Refuses fault outcome → SegmentSays files generation place line (Some outcome)
+segment-refused files generation place line NoIndex outcome large none not refuses = absurd (none refl)
+segment-refused files generation place line (FileTooLarge kind) outcome large none not refuses = inl (kind, large kind refl, refuses)
+segment-refused files generation place line (NotStanding other spot) outcome large none not refuses = absurd (not other spot refl)
+segment-refused files generation place line Failed outcome large none not refuses = absurd refuses
+segment-refused files generation place line OutOfMemory outcome large none not refuses = absurd refuses
+
+module _ (files : Option Files) (generation : ℕ) (lines : List SegInfo) (place : ℕ) (line : SegInfo) (rest : List SegInfo) (split : drop place lines ≡ line ∷ rest) where
+  -- the first segment of those that are left is one of which something is said
+  pub say-here : (outcome : Outcome) → SegmentSays files generation place line (Some outcome) → SegmentsSay files generation place (drop place lines) (Some outcome)
+  say-here outcome says = subst (λ (ls : List SegInfo). SegmentsSay files generation place ls (Some outcome)) (sym split) (inl (outcome, says, refl))
+
+  -- or it stands, and the next are left
+  pub say-later : (said : Option Outcome) → SegmentSays files generation place line None → SegmentsSay files generation (place + 1) rest said → SegmentsSay files generation place (drop place lines) said
+  say-later said stands later = subst (λ (ls : List SegInfo). SegmentsSay files generation place ls said) (sym split) (inr (stands, later))

@@ -9,5 +9,6 @@ pub mod LoadLemmas
 pub mod CauseLemmas
 pub mod FilesSayLemmas
 pub mod FoundLemmas
+pub mod SegmentLemmas
 pub mod CheckLemmas
 pub mod DueLemmas

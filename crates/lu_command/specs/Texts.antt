@@ -49,7 +49,7 @@ no_index_text = line (codes "no index")
 -- the line of a commit that stands: the name of its file, and how many segments, documents and deleted documents it has
 abbrev pub stands_text : List ℕ → ℕ → ℕ → ℕ → List ℕ
 stands_text name segments documents deleted =
-    name ++ codes " stands: " ++ decimal segments ++ codes " segments, " ++ decimal documents ++ codes " documents, " ++ decimal deleted ++ codes " deleted\n"
+    name ++ (codes " stands: " ++ (decimal segments ++ (codes " segments, " ++ (decimal documents ++ (codes " documents, " ++ (decimal deleted ++ codes " deleted\n"))))))
 
 -- the line of a file that is too long
 abbrev pub too_large_text : FileKind → List ℕ

@@ -13,12 +13,12 @@ pub(crate) fn dir_alone(words: &[String]) -> Option<&str>
         ((dir : List ℕ) → ¬ HasDir (texts words.now) dir)
         (λ dir. HasDir (texts words.now) dir.now) }
 {
-    let (before, after) = around_end(words);
-    if has_option(before) {
+    let (ahead, behind) = around_end(words);
+    if has_option(ahead) {
         return None;
     }
-    let first = word_at(before, after, 0)?;
-    match word_at(before, after, 1) {
+    let first = word_at(ahead, behind, 0)?;
+    match word_at(ahead, behind, 1) {
         Some(_) => None,
         None => Some(first),
     }

@@ -1,4 +1,4 @@
-use Rattle.std.proofs.Common.{List, Option, Result, Ok, subst, ◌∙◌}
+use Rattle.std.proofs.Common.{List, Option, Result, Ok, ap, subst, ◌∙◌}
 use Rattle.std.specs.Option.{ForSome}
 use Rattle.std.proofs.lemmas.Result.{IfOk-weaker}
 use Rattle.lu_dir.specs.Files.{Files}
@@ -18,6 +18,6 @@ returns-in-Ok-newest-clause-due g c =
       answer,
       subst (λ (files : Option Files). ForSome files (λ told. AnswersNewest told answer)) c.in-Ok.ensures.files c.in-Ok-newest.ensures.told,
       subst (λ (files : Option Files). CommitSays files chosen.generation chosen.commit.segments outcome) (c.in-Ok-newest.ensures.files ∙ c.in-Ok.ensures.files)
-      (subst (λ (segments : List SegInfo). CommitSays (g.D.Dir.files c.newest.new.dir) chosen.generation segments outcome) c.as_slice.ensures says),
+      (subst (λ (segments : List SegInfo). CommitSays (g.D.Dir.files c.newest.new.dir) chosen.generation segments outcome) (c.as_slice.ensures ∙ ap (λ (chosen : Chosen). chosen.commit.segments) c.chosen.view_is) says),
     )))
     c.commit_outcome.ensures.says

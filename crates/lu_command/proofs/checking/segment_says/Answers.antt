@@ -1,4 +1,4 @@
-use Rattle.std.proofs.Common.{◌≡◌, Result, Err, List, ℕ, Option, sym, subst, ap, ◌∙◌, map}
+use Rattle.std.proofs.Common.{Result, Err, ap}
 use Rattle.lu_dir.specs.Loading.{Loading}
 use Rattle.lu_folder.specs.declared.fault.FolderFault.{FolderFault}
 use Rattle.lu_command.proofs.CheckLemmas.{segment-read, segment-refused}

@@ -1,4 +1,4 @@
-use Rattle.std.proofs.Common.{◌≡◌, ◌+◌, ◌<◌, ℕ, length, drop, Option, Some, None, subst, sym, ◌∙◌, arith}
+use Rattle.std.proofs.Common.{Option, Some, None, subst, ◌∙◌, arith}
 use Rattle.lu_dir.specs.Files.{Files}
 use Rattle.lu_command.specs.declared.outcome.Outcome.{Outcome}
 use Rattle.lu_command.specs.Checking.{SegmentSays}

@@ -1,6 +1,6 @@
 use Rattle.std.proofs.Common.{string_bytes, sym, ◌∙◌}
 use Rattle.lu_dir.specs.Loading.{texts}
-use Rattle.lu_command.proofs.WordLemmas.{some_option, all_arguments, is_single, no_first, has_second}
+use Rattle.lu_command.proofs.WordLemmas.{some_option, all_arguments, is_single, has_second}
 use Rattle.lu_command.proofs.words.dir_alone.Goals as goal
 
 pub returns-then-has_option : goal.returns-then-has_option

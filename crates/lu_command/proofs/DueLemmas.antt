@@ -7,7 +7,7 @@ use Rattle.lu_types.specs.Names.{part_name}
 use Rattle.lu_types.specs.declared.kind.FileKind.{FileKind}
 use Rattle.lu_command.specs.declared.status.Status.{Status}
 use Rattle.lu_command.specs.declared.outcome.Outcome.{Outcome}
-use Rattle.lu_command.specs.Commands.{Meaning, docs, fields}
+use Rattle.lu_command.specs.Commands.{Meaning, docs, fields, check}
 use Rattle.lu_command.specs.Files.{file_limit, first_too_long, part_names, AreFound, file_at}
 use Rattle.lu_command.specs.Needs.{fields_kinds, docs_kinds, table_files, document_files}
 use Rattle.lu_command.specs.Texts.{field_lines, doc_lines}
@@ -18,6 +18,8 @@ use Rattle.lu_command.specs.Asking.{GaveUp, IsAnswered, Completes}
 use Rattle.lu_command.proofs.AnswerLemmas.{IsAnswered-answers}
 use Rattle.lu_command.proofs.MeaningLemmas.{only_meaning}
 use Rattle.lu_command.proofs.FilesSayLemmas.{FieldsSay-one, DocsSay-one}
+use Rattle.lu_command.proofs.CheckLemmas.{CheckDue-one, CheckDue-idle}
+use Rattle.lu_command.specs.Checking.{CheckDue}
 use Rattle.lu_command.proofs.IdleLemmas.{IsIdle, idle-without_effect, FilesSay-idle}
 
 -- a file that may be loaded is not too long
@@ -61,6 +63,7 @@ module _ (files : Files) where
       FilesDue-one files segment docs_kinds (DocsSay segment) one other (λ found. DocsSay-one segment found one other) first (subst (λ m. MeaningDue m (Some files) other) (sym same) second)
   MeaningDue-one (fields dir segment) another same one other first second =
       FilesDue-one files segment fields_kinds (FieldsSay segment) one other (λ found. FieldsSay-one segment found one other) first (subst (λ m. MeaningDue m (Some files) other) (sym same) second)
+  MeaningDue-one (check dir) another same one other first second = CheckDue-one files one other first (subst (λ m. MeaningDue m (Some files) other) (sym same) second)
 
   -- the outcome that is due is one
   pub Due-one : (words : List (List ℕ)) (one other : Outcome) → Due words (Some files) one → Due words (Some files) other → one ≡ other
@@ -79,6 +82,7 @@ FilesDue-idle segment kinds Say files outcome idle (inr a) = idle a.0 a.2
 pub MeaningDue-idle : (meaning : Meaning) (files : Option Files) (outcome : Outcome) → MeaningDue meaning files outcome → IsIdle outcome
 MeaningDue-idle (fields dir segment) files outcome due = FilesDue-idle segment fields_kinds (FieldsSay segment) files outcome (λ found. FilesSay-idle segment (table_files (file_at found 0)) (field_lines 0) outcome) due
 MeaningDue-idle (docs dir segment) files outcome due = FilesDue-idle segment docs_kinds (DocsSay segment) files outcome (λ found. FilesSay-idle segment (document_files (file_at found 0) (file_at found 1) (file_at found 2)) (doc_lines 0) outcome) due
+MeaningDue-idle (check dir) files outcome due = CheckDue-idle files outcome due
 
 -- nor does what is due of words
 pub Due-idle : (words : List (List ℕ)) (files : Option Files) (outcome : Outcome) → Due words files outcome → IsIdle outcome

@@ -37,7 +37,7 @@ file_at-loadable (file ∷ found) zero each = All-head (IsLoadable file_limit) f
 file_at-loadable (file ∷ found) (suc place) each = file_at-loadable found place (All-tail (IsLoadable file_limit) file found each)
 
 -- what may be loaded is made of bytes
-held : (file : Option (List ℕ)) → IsLoadable file_limit file → ForSome file IsBytes
+pub held : (file : Option (List ℕ)) → IsLoadable file_limit file → ForSome file IsBytes
 held file loadable bytes is = let P : Option (List ℕ) → Type 0 = λ there. IfSome there IsBytes in subst P is loadable.bytes
 
 -- the files that `fields` needs are made of bytes

@@ -8,4 +8,7 @@ pub mod IdleLemmas
 pub mod LoadLemmas
 pub mod CauseLemmas
 pub mod FilesSayLemmas
+pub mod FoundLemmas
+pub mod SegmentLemmas
+pub mod CheckLemmas
 pub mod DueLemmas

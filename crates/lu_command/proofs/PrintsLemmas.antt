@@ -19,6 +19,7 @@ module _ (IsDue : Outcome → Type 0) (proper : (outcome : Outcome) → IsDue ou
   whole_text outcome due took statuses.Usage same is = (outcome, due, same, took)
   whole_text outcome due took (statuses.NotStanding generation fault) same is = (outcome, due, same, took)
   whole_text outcome due took (statuses.Refused refusal) same is = (outcome, due, same, took)
+  whole_text outcome due took statuses.NoIndex same is = (outcome, due, same, took)
   whole_text outcome due took (statuses.Device which) same is = absurd is
   whole_text outcome due took statuses.NoMemory same is = absurd is
 

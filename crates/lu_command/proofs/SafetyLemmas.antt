@@ -25,9 +25,13 @@ module _ (IsDue : Outcome → Type 0) (proper : (outcome : Outcome) → IsDue ou
   usage-not_ok : statuses.Usage ≢ statuses.Ok
   usage-not_ok e = cc
 
+  no_index-not_ok : statuses.NoIndex ≢ statuses.Ok
+  no_index-not_ok e = cc
+
   done-safe : (outcome : Outcome) → IsDue outcome → (answer : Status) → outcome.status ≡ answer → IsAnswer answer → IsSafe IsDue answer old (standing outcome.effect old)
   done-safe outcome due statuses.Ok same is = (outcome, due, same, refl)
   done-safe outcome due statuses.Usage same is = idle outcome due (λ ok. usage-not_ok (sym same ∙ ok))
+  done-safe outcome due statuses.NoIndex same is = idle outcome due (λ ok. no_index-not_ok (sym same ∙ ok))
   done-safe outcome due (statuses.NotStanding generation fault) same is = idle outcome due (λ ok. faulty-not_ok (sym same ∙ ok))
     where
       faulty-not_ok : statuses.NotStanding generation fault ≢ statuses.Ok

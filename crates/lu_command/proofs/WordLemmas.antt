@@ -102,3 +102,21 @@ pub has_third : {X : Type 0} (xs : List X) (x y z : X) → slice_get xs 2 ≡ So
 has_third xs x y z third pair =
     let none : slice_get xs 2 ≡ None = ap (λ zs. slice_get zs 2) pair in
     absurd (cc)
+
+-- a list with one element and no second is this one
+pub is_single : {X : Type 0} (xs : List X) (x : X) → slice_get xs 0 ≡ Some x → slice_get xs 1 ≡ None → xs ≡ x ∷ []
+is_single [] x first second = absurd (cc)
+is_single (x' ∷ []) x first second = cc
+is_single (x' ∷ y ∷ ys) x first second = absurd (cc)
+
+-- a list without a first element is no single one
+pub no_first : {X : Type 0} (xs : List X) (x : X) → slice_get xs 0 ≡ None → xs ≢ x ∷ []
+no_first xs x none single =
+    let some : slice_get xs 0 ≡ Some x = ap (λ zs. slice_get zs 0) single in
+    absurd (cc)
+
+-- a list with a second element is no single one
+pub has_second : {X : Type 0} (xs : List X) (x y : X) → slice_get xs 1 ≡ Some y → xs ≢ x ∷ []
+has_second xs x y second single =
+    let none : slice_get xs 1 ≡ None = ap (λ zs. slice_get zs 1) single in
+    absurd (cc)

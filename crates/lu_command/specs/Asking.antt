@@ -10,7 +10,7 @@ use Rattle.lu_command.specs.declared.status.Status.{Status}
 use Rattle.lu_command.specs.declared.status.Status.TheVariants.{Device, NoMemory}
 use Rattle.lu_command.specs.declared.status.Which.TheVariants.{Dir, Sink}
 use Rattle.lu_command.specs.declared.outcome.Outcome.{Outcome}
-use Rattle.lu_command.specs.Commands.{Meaning, fields, docs, Means}
+use Rattle.lu_command.specs.Commands.{Meaning, fields, docs, check, Means}
 use Rattle.lu_command.specs.Due.{Due}
 
 -- the answer to a failure of the folder
@@ -30,6 +30,7 @@ AsksFor path asked status = status ≢ NoMemory → asked ≡ Some path
 abbrev pub folder_of : Meaning → List ℕ
 folder_of (fields dir segment) = dir
 folder_of (docs dir segment) = dir
+folder_of (check dir) = dir
 
 -- unless memory ended, words with a meaning ask for its folder, and words without one ask for none
 pub record Asks (words : List (List ℕ)) (before after : Option (List ℕ)) (status : Status) : Type 0 where

@@ -11,3 +11,4 @@ code_of statuses.Usage = 2
 code_of (statuses.Refused refusal) = 3
 code_of (statuses.Device which) = 4
 code_of statuses.NoMemory = 5
+code_of statuses.NoIndex = 6

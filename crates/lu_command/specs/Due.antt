@@ -6,10 +6,11 @@ use Rattle.lu_types.specs.FilePlans.{FilePlan, StandFor, IsFaultAmong}
 use Rattle.lu_types.specs.declared.kind.FileKind.{FileKind}
 use Rattle.lu_types.specs.declared.fault.Spot.{Spot}
 use Rattle.lu_command.specs.declared.outcome.Outcome.{Outcome}
-use Rattle.lu_command.specs.Commands.{Meaning, fields, docs, Means}
+use Rattle.lu_command.specs.Commands.{Meaning, fields, docs, check, Means}
 use Rattle.lu_command.specs.Files.{AreFound, file_at, first_too_long}
 use Rattle.lu_command.specs.Needs.{fields_kinds, docs_kinds, table_files, document_files}
 use Rattle.lu_command.specs.Texts.{field_lines, doc_lines}
+use Rattle.lu_command.specs.Checking.{CheckDue}
 use Rattle.lu_command.specs.Outcomes.{printing, usage_outcome, faulty_outcome, too_large_outcome}
 
 -- what a command comes to by the segment's files that it needs: the lines of what they stand for, or their first fault
@@ -36,6 +37,7 @@ FilesDue segment kinds Say files outcome =
 abbrev pub MeaningDue : Meaning → Option Files → Outcome → Type 0
 MeaningDue (fields dir segment) files outcome = FilesDue segment fields_kinds (FieldsSay segment) files outcome
 MeaningDue (docs dir segment) files outcome = FilesDue segment docs_kinds (DocsSay segment) files outcome
+MeaningDue (check dir) files outcome = CheckDue files outcome
 
 -- the outcome of words that is due
 abbrev pub Due : List (List ℕ) → Option Files → Outcome → Type 0

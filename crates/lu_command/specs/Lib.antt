@@ -1,10 +1,13 @@
 pub mod Answers
 pub mod Asking
+pub mod Checking
 pub mod Codes
 pub mod Commands
 pub mod Due
 pub mod Files
+pub mod Finding
 pub mod Meanings
+pub mod Naming
 pub mod Needs
 pub mod Outcomes
 pub mod Printing

@@ -34,9 +34,22 @@ hex_byte b = digit_char (b / 16) ∷ digit_char (b % 16) ∷ []
 abbrev pub usage_text : List ℕ
 usage_text = line (codes "usage: lucene3 COMMAND [DIR] [ARGUMENTS]")
 
--- the line of a fault of a segment's file: its name, the offset, the rule and the rule's name
+-- the line of a fault: the file's name, the offset, the rule and the rule's name
+abbrev pub spot_text : List ℕ → Spot → List ℕ
+spot_text name spot = line (codes "fault" ▹ name ▹ decimal spot.offset ▹ decimal spot.rule ▹ unwrap_or (name_of_rule spot.rule) [])
+
+-- the line of a fault of a segment's file, which is named by its extension
 abbrev pub fault_text : List ℕ → Spot → List ℕ
-fault_text segment spot = line (codes "fault" ▹ part_name segment spot.kind ▹ decimal spot.offset ▹ decimal spot.rule ▹ unwrap_or (name_of_rule spot.rule) [])
+fault_text segment spot = spot_text (part_name segment spot.kind) spot
+
+-- the line of a folder without commits
+abbrev pub no_index_text : List ℕ
+no_index_text = line (codes "no index")
+
+-- the line of a commit that stands: the name of its file, and how many segments, documents and deleted documents it has
+abbrev pub stands_text : List ℕ → ℕ → ℕ → ℕ → List ℕ
+stands_text name segments documents deleted =
+    name ++ (codes " stands: " ++ (decimal segments ++ (codes " segments, " ++ (decimal documents ++ (codes " documents, " ++ (decimal deleted ++ codes " deleted\n"))))))
 
 -- the line of a file that is too long
 abbrev pub too_large_text : FileKind → List ℕ

@@ -20,6 +20,11 @@ options_in words = filter is_option (before_first ends_options words)
 abbrev pub arguments_in : List (List ℕ) → List (List ℕ)
 arguments_in words = filter (λ word. not (is_option word)) (before_first ends_options words) ++ after_first ends_options words
 
+-- the words after the name of a command are a folder, and no options
+pub record HasDir (words : List (List ℕ)) (dir : List ℕ) : Type 0 where
+  pub no_options : options_in words ≡ []
+  pub arguments : arguments_in words ≡ dir ∷ []
+
 -- the words after the name of a command are a folder and a segment, and no options
 pub record HasDirAndSegment (words : List (List ℕ)) (dir segment : List ℕ) : Type 0 where
   pub no_options : options_in words ≡ []

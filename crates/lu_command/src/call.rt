@@ -1,7 +1,8 @@
 //! The call that answers the words of the program.
 ghost use Rattle.std.specs.Prelude.{◌≡◌, IfOk, IsErrOf};
 ghost use Rattle.lu_dir.specs.Faults.{IsCaused};
-ghost use Rattle.lu_dir.specs.Files.{Leaves};
+ghost use Rattle.std.specs.Option.{ForSome};
+ghost use Rattle.lu_dir.specs.Files.{Leaves, AreMadeOfBytes};
 ghost use Rattle.lu_dir.specs.Loading.{texts};
 ghost use Rattle.lu_command.specs.Commands.{Meaning};
 ghost use Rattle.lu_command.specs.Meanings.{meaning_of};
@@ -11,6 +12,7 @@ ghost use Rattle.lu_command.specs.Answers.{IsGivenUp, Answers};
 ghost use Rattle.lu_command.specs.Asking.{AsksFor, Asks, Completes, folder_of, status_of};
 ghost use Rattle.lu_command.specs.Safety.{IsSafe};
 
+use crate::checking::check_outcome;
 use crate::command::Command;
 use crate::outcome::Outcome;
 use crate::reading::{docs_outcome, fields_outcome};
@@ -32,6 +34,7 @@ fn given_up(fail: DirFail) -> Status
 
 /// What a command comes to in the folder that was entered.
 fn outcome_of<D: Dir>(alloc: Global, command: Command<'_>, dir: &mut D) -> Result<Outcome, DirFail>
+    requires { ForSome (D.files dir.old) AreMadeOfBytes }
     ensures due { IfOk result (λ outcome. MeaningDue (meaning_of command.entry) (D.files dir.old) outcome) }
     ensures files { D.files dir.new ≡ D.files dir.old }
     ensures asked { D.asked dir.new ≡ D.asked dir.old }
@@ -40,6 +43,7 @@ fn outcome_of<D: Dir>(alloc: Global, command: Command<'_>, dir: &mut D) -> Resul
     match command {
         Command::Fields { segment, .. } => fields_outcome(alloc, segment, dir),
         Command::Docs { segment, .. } => docs_outcome(alloc, segment, dir),
+        Command::Check { .. } => check_outcome(alloc, dir),
     }
 }
 
@@ -50,6 +54,7 @@ fn conclude<D: Dir, K: Sink>(
     dir: &mut D,
     out: &mut K,
 ) -> Status
+    requires { ForSome (D.files dir.old) AreMadeOfBytes }
     ensures answers { Answers (MeaningDue (meaning_of command.entry) (D.files dir.old))
         (record { files = D.files dir.old; taken = K.taken out.old }) (record { files = D.files dir.new; taken = K.taken out.new }) result }
     ensures asked { D.asked dir.new ≡ D.asked dir.old }

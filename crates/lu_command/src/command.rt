@@ -5,7 +5,7 @@ ghost use Rattle.lu_command.specs.Commands.{Meaning, Means};
 ghost use Rattle.lu_command.specs.Asking.{folder_of};
 ghost use Rattle.lu_command.specs.Meanings.{meaning_of};
 
-use crate::words::dir_and_segment;
+use crate::words::{dir_and_segment, dir_alone};
 
 /// What the words of a call ask for.
 #[derive(Clone, Copy, Debug, PartialEq, Eq)]
@@ -14,6 +14,8 @@ pub enum Command<'a> {
     Fields { dir: &'a str, segment: &'a str },
     /// Print the stored documents of the segment in the folder.
     Docs { dir: &'a str, segment: &'a str },
+    /// Say whether the newest commit of the folder stands.
+    Check { dir: &'a str },
 }
 
 impl<'a> Command<'a> {
@@ -24,6 +26,10 @@ impl<'a> Command<'a> {
             (λ command. Means (texts words.now) (meaning_of command)) }
     {
         let (name, rest) = words.split_first()?;
+        if name.as_str() == "check" {
+            let dir = dir_alone(rest)?;
+            return Some(Command::Check { dir });
+        }
         let (dir, segment) = dir_and_segment(rest)?;
         match name.as_str() {
             "fields" => Some(Command::Fields { dir, segment }),
@@ -39,6 +45,7 @@ impl<'a> Command<'a> {
         match self {
             Command::Fields { dir, .. } => dir,
             Command::Docs { dir, .. } => dir,
+            Command::Check { dir } => dir,
         }
     }
 }

@@ -2,10 +2,13 @@
 #![tactic(auto)]
 
 mod call;
+mod checking;
 mod command;
+mod finding;
 mod judging;
 pub mod laws;
 mod limits;
+mod naming;
 mod outcome;
 mod reading;
 mod status;
@@ -19,6 +22,8 @@ pub use limits::FILE_LIMIT;
 pub use outcome::{Effect, Outcome};
 pub use status::{Refusal, Status, Which};
 
+#[cfg(test)]
+mod check_tests;
 #[cfg(test)]
 mod docs_tests;
 #[cfg(test)]

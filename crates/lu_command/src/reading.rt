@@ -21,7 +21,7 @@ use std::alloc::Global;
 const DOCS_FILES: [FileKind; 3] = [FileKind::Fnm, FileKind::Fdx, FileKind::Fdt];
 
 /// The outcome where the first file that is too long is of this kind.
-fn too_large(alloc: Global, kind: FileKind) -> Result<Outcome, OutOfMemory>
+pub fn too_large(alloc: Global, kind: FileKind) -> Result<Outcome, OutOfMemory>
     ensures { IfOk result (λ outcome. outcome ≡ too_large_outcome kind) }
 {
     let text = too_large_text(alloc, kind)?;

@@ -38,6 +38,8 @@ pub enum Status {
     Device(Which),
     /// There was no memory.
     NoMemory,
+    /// The folder has no commit.
+    NoIndex,
 }
 
 impl Status {
@@ -52,6 +54,7 @@ impl Status {
             Status::Refused(_) => 3,
             Status::Device(_) => 4,
             Status::NoMemory => 5,
+            Status::NoIndex => 6,
         }
     }
 }

@@ -26,6 +26,11 @@ fn words_have_their_meaning(rt: HostRuntime) -> Result<(), Fail> {
         ("docs d _01", None),
         ("docs d", None),
         ("docs d _0 x", None),
+        ("check d", Some("d")),
+        ("check -- --x", Some("--x")),
+        ("check d _0", None),
+        ("check", None),
+        ("check --x", None),
         ("doc d _0", None),
         ("fields d _01", None),
         ("fields d", None),
@@ -46,6 +51,7 @@ fn words_have_their_meaning(rt: HostRuntime) -> Result<(), Fail> {
         let found = match Command::of(words.as_slice()) {
             Some(Command::Docs { dir, .. }) => Some(dir),
             Some(Command::Fields { dir, .. }) => Some(dir),
+            Some(Command::Check { dir }) => Some(dir),
             None => None,
         };
         assert_eq!(rt; found, dir, "{line}");

@@ -5,7 +5,7 @@ ghost use Rattle.std.specs.Char.{digit_char};
 ghost use Rattle.lu_types.specs.Fields.{table_field};
 ghost use Rattle.lu_types.specs.Names.{IsPart};
 ghost use Rattle.stored_fields.specs.Entries.{lent_field, value_of};
-ghost use Rattle.lu_command.specs.Texts.{hex_byte, field_line, field_lines, fault_text, too_large_text, usage_text, value_text, flag_digit as digit_of_flag, stored_line, doc_text as text_of_doc, doc_lines};
+ghost use Rattle.lu_command.specs.Texts.{hex_byte, field_line, field_lines, spot_text, fault_text, stands_text, no_index_text, too_large_text, usage_text, value_text, flag_digit as digit_of_flag, stored_line, doc_text as text_of_doc, doc_lines};
 
 use lu_prims::{OutOfMemory, quoted};
 use lu_types::rules::rule_name;
@@ -15,6 +15,9 @@ use stored_fields::{StoredDoc, StoredRef, StoredView, ValueRef};
 
 /// The line of words that have no meaning.
 pub const USAGE: &str = "usage: lucene3 COMMAND [DIR] [ARGUMENTS]\n";
+
+/// The line of a folder without commits.
+pub const NO_INDEX: &str = "no index\n";
 
 /// A hexadecimal digit in lower case.
 fn hex_digit(value: u8) -> u8
@@ -77,16 +80,37 @@ pub fn fields_text(
     Ok(())
 }
 
+/// The line of a fault of the file with this name.
+pub fn spot_text(alloc: Global, file: &str, spot: &Spot) -> Result<String, OutOfMemory>
+    ensures { IfOk result (λ text. string_bytes text ≡ spot_text file.now spot.now) }
+{
+    let offset = spot.offset;
+    let rule = spot.rule;
+    let name = rule_name(rule).unwrap_or("");
+    Ok(format!(in alloc; "fault {file} {offset} {rule} {name}\n")?)
+}
+
 /// The line of a fault of a file of the segment.
 pub fn fault_text(alloc: Global, segment: &str, spot: &Spot) -> Result<String, OutOfMemory>
     requires { IsPart spot.now.kind }
     ensures { IfOk result (λ text. string_bytes text ≡ fault_text segment.now spot.now) }
 {
     let file = part_name(alloc, segment, spot.kind)?;
-    let offset = spot.offset;
-    let rule = spot.rule;
-    let name = rule_name(rule).unwrap_or("");
-    Ok(format!(in alloc; "fault {file} {offset} {rule} {name}\n")?)
+    spot_text(alloc, file.as_str(), spot)
+}
+
+/// The line of a commit that stands.
+pub fn stands_text(
+    alloc: Global,
+    name: &str,
+    segments: usize,
+    documents: u64,
+    deleted: u64,
+) -> Result<String, OutOfMemory>
+    ensures { IfOk result (λ text. string_bytes text ≡ stands_text name.now segments documents deleted) }
+{
+    let text = format!(in alloc; "{name} stands: {segments} segments, {documents} documents, {deleted} deleted\n")?;
+    Ok(text)
 }
 
 /// The line of a file that is too long.

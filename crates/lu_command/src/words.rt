@@ -3,9 +3,26 @@ ghost use Rattle.std.specs.Prelude.{◌≡◌, ◌≢◌, List, ℕ, [], ◌∷�
 ghost use Rattle.std.specs.Option.{option_copied};
 ghost use Rattle.std.specs.List.{before_first, after_first, list_any, position};
 ghost use Rattle.lu_dir.specs.Loading.{texts};
-ghost use Rattle.lu_command.specs.Words.{ends_options, is_option, options_in, arguments_in, HasDirAndSegment};
+ghost use Rattle.lu_command.specs.Words.{ends_options, is_option, options_in, arguments_in, HasDir, HasDirAndSegment};
 
 use lu_types::segment_number;
+
+/// The argument of a command that takes a folder, and no options, from the words after its name.
+pub(crate) fn dir_alone(words: &[String]) -> Option<&str>
+    ensures { MatchOption result
+        ((dir : List ℕ) → ¬ HasDir (texts words.now) dir)
+        (λ dir. HasDir (texts words.now) dir.now) }
+{
+    let (ahead, behind) = around_end(words);
+    if has_option(ahead) {
+        return None;
+    }
+    let first = word_at(ahead, behind, 0)?;
+    match word_at(ahead, behind, 1) {
+        Some(_) => None,
+        None => Some(first),
+    }
+}
 
 /// The arguments of a command that takes a folder and a segment, and no options, from the words after its name.
 pub(crate) fn dir_and_segment(words: &[String]) -> Option<(&str, &str)>

@@ -193,3 +193,10 @@ module _ (files : Option Files) (generation : ℕ) (lines : List SegInfo) (place
   -- or it stands, and the next are left
   pub say-later : (said : Option Outcome) → SegmentSays files generation place line None → SegmentsSay files generation (place + 1) rest said → SegmentsSay files generation place (drop place lines) said
   say-later said stands later = subst (λ (ls : List SegInfo). SegmentsSay files generation place ls said) (sym split) (inr (stands, later))
+
+-- what a commit comes to that was chosen
+pub says-chosen : (files : Option Files) (generation : ℕ) (segments : List SegInfo) (viewed chosen : Chosen) (outcome : Outcome) → generation ≡ viewed.generation → segments ≡ viewed.commit.segments → viewed ≡ chosen
+    → CommitSays files generation segments outcome → CommitSays files chosen.generation chosen.commit.segments outcome
+says-chosen files generation segments viewed chosen outcome same listed is says =
+    subst (λ (c : Chosen). CommitSays files c.generation c.commit.segments outcome) is
+    (subst (λ (n : ℕ). CommitSays files n viewed.commit.segments outcome) same (subst (λ (ss : List SegInfo). CommitSays files generation ss outcome) listed says))

@@ -264,7 +264,9 @@ fn reads_back(rt: &impl Abort, alloc: Global) -> Result<(), Fail> {
     let Ok(view) = VectorView::check(alloc, &TVX, &TVD, &tvf, &fields, 1) else {
         panic!(rt; "the files have a fault");
     };
-    let mut terms = view.doc(0).terms(alloc, 0)?;
+    let doc = view.doc(0);
+    assert!(rt; doc.count() > 0);
+    let mut terms = doc.terms(alloc, 0)?;
     assert!(rt; terms.next());
     assert!(rt; terms.offset() == Some(Pair { start: 0, end: 2 }));
     assert!(rt; terms.position() == Some(0));

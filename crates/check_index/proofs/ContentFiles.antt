@@ -13,7 +13,8 @@ use Rattle.check_index.specs.Documents.{field_files, stored_files, deletion_file
 use Rattle.check_index.specs.Terms.{TermLists, term_files}
 use Rattle.check_index.specs.Positions.{TermOccurrences, position_files}
 use Rattle.check_index.specs.Norms.{FieldNorms, norm_files}
-use Rattle.check_index.specs.Segments.{Segment, Contents, Columns, document_vectors, content_files, side_files, segment_of, segment_files}
+use Rattle.check_index.specs.Vectors.{document_vectors}
+use Rattle.check_index.specs.Segments.{Segment, Contents, Columns, content_files, side_files, segment_of, segment_files}
 
 -- ---- the field table, the stored documents and the terms
 

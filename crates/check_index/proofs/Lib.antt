@@ -7,6 +7,7 @@ pub mod PartLemmas
 pub mod LocatedLemmas
 pub mod TermFiles
 pub mod ContentFiles
+pub mod VectorFiles
 pub mod MadeFiles
 pub mod SegmentMade
 pub mod PositionLemmas

@@ -67,7 +67,7 @@ norms-next : (i column : ℕ) (columns : List (List ℕ)) (fields : List TableFi
 norms-next i column columns fields lt = norms-suc i column columns fields lt ∙ ap (λ (n : ℕ). given_by (has_norms (bits_at fields i)) column columns (drop n fields)) (sym (add-one i))
 
 -- the bits of a field that is there
-bits-at : (i : ℕ) (fields : List TableField) (d : TableField) → i < length fields → bits_at fields i ≡ (get_or fields i d).bits
+pub bits-at : (i : ℕ) (fields : List TableField) (d : TableField) → i < length fields → bits_at fields i ≡ (get_or fields i d).bits
 bits-at i [] d lt = absurd (omega (arith, lt))
 bits-at zero (field ∷ fields) d lt = refl
 bits-at (suc i) (field ∷ fields) d lt = bits-at i fields d (omega (arith, lt))
@@ -77,7 +77,7 @@ abbrev one_if : TableField → ℕ
 one_if field = cond (has_norms field.bits) 1 0
 
 -- no field
-abbrev no_field : TableField
+abbrev pub no_field : TableField
 no_field = record { name = []; bits = 0 }
 
 count-next : (i : ℕ) (fields : List TableField) → i < length fields → norm_count (drop i fields) ≡ cond (has_norms (bits_at fields i)) 1 0 + norm_count (drop (i + 1) fields)

@@ -1,7 +1,7 @@
 -- The files that a segment needs are made of bytes where those of its folder are.
 use Rattle.std.proofs.Common.{ℕ, Bool, true, false, nat_lt, List, [], length, map, Option, Some, None, sym, subst}
 use Rattle.std.specs.Option.{ForSome}
-use Rattle.std.specs.Prelude.{slice_set, is_some}
+use Rattle.std.specs.Prelude.{◌&&◌, slice_set, is_some}
 use Rattle.std.specs.List.{range_with_len}
 use Rattle.lu_grammar.specs.Bytes.{IsBytes}
 use Rattle.lu_types.specs.FilePlans.{FilePlan, stands, needs, followed_by, where_needed, StandFor}
@@ -23,6 +23,11 @@ use Rattle.doc_marks.specs.Norms.{nrm_plan, separate_plan}
 use Rattle.doc_marks.specs.Deletions.{del_plan}
 use Rattle.compound_file.specs.Entries.{NamedPart}
 use Rattle.compound_file.specs.Cfs.{cfs_plan}
+use Rattle.term_vectors.specs.declared.layout.DocumentPlaces.{DocumentPlaces}
+use Rattle.term_vectors.specs.Places.{tvx_plan}
+use Rattle.term_vectors.specs.Fields.{VectorPlace, tvd_plan}
+use Rattle.term_vectors.specs.Vectors.{tvf_plan}
+use Rattle.term_vectors.specs.Stores.{windowed as windowed_vectors}
 use Rattle.segment_infos.specs.declared.infos.SegInfo.{SegInfo}
 use Rattle.check_index.specs.Files.{DocumentFiles, IndexFiles, PartFiles, FolderFiles, file_at, AreDocumentBytes, AreIndexBytes, AreBytes}
 use Rattle.check_index.specs.Locating.{packed_part, packed_documents, packed_index, packed_files, compound_files, own_parts, document_parts, located_parts}
@@ -31,6 +36,7 @@ use Rattle.check_index.specs.Terms.{TermLists, infos_of, listed_terms, term_file
 use Rattle.positions.specs.Terms.{prx_plan}
 use Rattle.check_index.specs.Positions.{no_positions, position_files}
 use Rattle.check_index.specs.Norms.{norm_count, norms_from, column_files, is_separate, needed_file, separate_file, separate_files, norm_files}
+use Rattle.check_index.specs.Vectors.{store_part, have_vectors, no_vectors, part_vectors, document_vectors}
 use Rattle.check_index.specs.Segments.{content_files, side_files, segment_files}
 use Rattle.check_index.proofs.ReadBytes.{read-bytes}
 use Rattle.check_index.proofs.PartLemmas.{file-within, named-bytes}
@@ -154,6 +160,16 @@ module _ (folder : FolderFiles) (line : SegInfo) (made : AreBytes folder) where
       asked-made (is_some line.del_gen) [] (needs Del folder.del (λ _. del_plan line.size line.deleted) (λ _ documents. stands documents))
       (needed-made Del folder.del (λ _. del_plan line.size line.deleted) (λ _ documents. stands documents) made.del (λ bytes v reads. tt))
 
+  vectors-made : (files : DocumentFiles) (fields : List TableField) → AreDocumentBytes files → AreMade (document_vectors files line fields)
+  vectors-made files fields held =
+      let part = store_part line.store line.size files.fdx in
+      let last = λ (slots : List (List VectorPlace)). needs Tvf files.tvf (λ _. tvf_plan slots) (λ _ all. stands (windowed_vectors part.window all)) in
+      let next = λ (places : List DocumentPlaces). needs Tvd files.tvd (λ _. tvd_plan fields part.window places) (λ _ slots. last slots) in
+      asked-made (have_vectors fields && is_some files.tvx) (no_vectors line.size) (part_vectors part files fields)
+      (needed-made Tvx files.tvx (λ _. tvx_plan part.total) (λ _ places. next places) held.tvx
+      (λ tvx places reads. needed-made Tvd files.tvd (λ _. tvd_plan fields part.window places) (λ _ slots. last slots) held.tvd
+      (λ tvd slots also. needed-made Tvf files.tvf (λ _. tvf_plan slots) (λ _ all. stands (windowed_vectors part.window all)) held.tvf (λ tvf all too. tt))))
+
   contents-made : (files : PartFiles) → ArePartBytes files → AreMade (content_files files line)
   contents-made files held =
       followed-made (field_files files.index line) _ (needed-made Fnm files.index.fnm (λ _. fnm_plan line.has_prox (norm_fields line)) (λ _ fields. stands fields) held.0.fnm (λ bytes v reads. tt))
@@ -167,7 +183,8 @@ module _ (folder : FolderFiles) (line : SegInfo) (made : AreBytes folder) where
   sides-made : (files : PartFiles) (fields : List TableField) → ArePartBytes files → AreMade (side_files folder files line fields)
   sides-made files fields held =
       followed-made (norm_files files.index.nrm folder.separate line fields) _ (norms-made files.index.nrm fields held.0.nrm)
-      (λ norms stand. followed-made (deletion_files folder.del line) _ deletions-made (λ deleted also. tt))
+      (λ norms stand. followed-made (deletion_files folder.del line) _ deletions-made
+      (λ deleted also. followed-made (document_vectors files.documents line fields) (λ vectors. stands (record { norms = norms; deleted = deleted; vectors = vectors })) (vectors-made files.documents fields held.1) (λ vectors too. tt)))
 
   -- all files of a segment
   pub segment-made : AreMade (segment_files folder line)

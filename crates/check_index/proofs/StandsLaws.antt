@@ -25,10 +25,11 @@ use Rattle.check_index.specs.Documents.{norm_fields, field_files, window_of, sto
 use Rattle.check_index.specs.Terms.{TermLists, infos_of, listed_terms, term_files}
 use Rattle.check_index.specs.Positions.{TermOccurrences, no_positions, position_files}
 use Rattle.check_index.specs.Norms.{FieldNorms, norm_count, norms_from, column_files, separate_files, norm_files}
-use Rattle.check_index.specs.Segments.{Segment, Contents, Columns, document_vectors, content_files, side_files, segment_of, segment_files}
+use Rattle.check_index.specs.Vectors.{document_vectors}
+use Rattle.check_index.specs.Segments.{Segment, Contents, Columns, content_files, side_files, segment_of, segment_files}
 use Rattle.check_index.specs.Stands.{Holds, AreOwn, AreShared, AreDocuments, HoldStored, Either, HoldColumns, SegmentStands}
 use Rattle.check_index.proofs.LocatedLemmas.{with_documents}
-use Rattle.check_index.proofs.StandsLemmas.{holds-was, holds-stand, either-was, either-stand, store-was, store-stand}
+use Rattle.check_index.proofs.StandsLemmas.{holds-was, holds-stand, either-was, either-stand, store-was, store-stand, vectors-was, vectors-stand}
 
 -- ---- where the parts are
 
@@ -130,7 +131,7 @@ module _ (folder : FolderFiles) (line : SegInfo) where
       (followed_by-stand (position_files files.index line fields terms) (λ occurrences. stands (contents_by fields x.index.stored terms occurrences)) x.occurrences contents positions refl))) in
       let all_columns = followed_by-stand (norm_files files.index.nrm folder.separate line fields) (after_norms files fields) x.index.norms columns norms
       (followed_by-stand (deletion_files folder.del line) (after_deletions files fields x.index.norms) x.index.deleted columns deleted
-      (followed_by-stand (document_vectors files.documents line fields) (λ vectors. stands (columns_by x.index.norms x.index.deleted vectors)) x.index.vectors columns s.vectors refl)) in
+      (followed_by-stand (document_vectors files.documents line fields) (λ vectors. stands (columns_by x.index.norms x.index.deleted vectors)) x.index.vectors columns (vectors-stand line fields s.documents x.index.vectors s.vectors) refl)) in
       followed_by-stand (located_parts folder line) after_located files x located
       (followed_by-stand (content_files files line) (after_contents files) contents x all_contents
       (followed_by-stand (side_files folder files line fields) (λ columns. stands (segment_of line.size contents columns)) columns x all_columns s.value))
@@ -234,6 +235,6 @@ module _ (folder : FolderFiles) (line : SegInfo) where
         nrm = s.nrm;
         separate = s.separate;
         del = s.del;
-        vectors = s.vectors;
+        vectors = vectors-was line contents.fields documents columns.vectors s.vectors;
         value = refl;
       })

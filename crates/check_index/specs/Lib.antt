@@ -4,6 +4,7 @@ pub mod Turns
 pub mod Terms
 pub mod Documents
 pub mod Norms
+pub mod Vectors
 pub mod Positions
 pub mod Indexed
 pub mod Segments

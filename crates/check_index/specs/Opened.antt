@@ -1,5 +1,5 @@
 -- What the parts of a segment that was checked stand for, and how they belong together (format page, "Indexes").
-use Rattle.std.specs.Prelude.{◌≡◌, ℕ, [], length, replicate, Some, slice_get, slice_index_or, option_map, option_copied}
+use Rattle.std.specs.Prelude.{◌≡◌, ℕ, [], length, Some, IfSome, slice_get, slice_index_or, option_map, option_copied}
 use Rattle.lu_types.specs.declared.term.TermInfo.{TermInfo}
 use Rattle.term_index.specs.Seeking.{AreChecked}
 use Rattle.lu_types.specs.Tables.{bits_at}
@@ -11,6 +11,7 @@ use Rattle.check_index.specs.declared.standing.OpenContents.{OpenContents}
 use Rattle.check_index.specs.declared.standing.OpenColumns.{OpenColumns}
 use Rattle.check_index.specs.Terms.{AreUsed, listed_terms, lists_in, AreListed}
 use Rattle.check_index.specs.Positions.{occurrences_in, ArePositions}
+use Rattle.check_index.specs.Vectors.{HaveSome, vectors_seen}
 use Rattle.check_index.specs.Segments.{Contents, Columns, Segment}
 
 -- what the open files of a segment of so many documents stand for
@@ -23,7 +24,7 @@ contents_of size o = record {
 }
 
 abbrev pub columns_of : ℕ → OpenColumns → Columns
-columns_of size o = record { norms = o.norms; deleted = o.live.documents; vectors = replicate size [] }
+columns_of size o = record { norms = o.norms; deleted = o.live.documents; vectors = vectors_seen size o.vectors }
 
 -- they belong together
 pub record IsTied (size : ℕ) (contents : OpenContents) (columns : OpenColumns) : Type 0 where
@@ -34,6 +35,7 @@ pub record IsTied (size : ℕ) (contents : OpenContents) (columns : OpenColumns)
   pub posted : ArePositions contents.fields size contents.terms.terms (lists_in contents.fields size contents.terms.terms contents.terms.frq.now) (option_copied contents.prx)
   pub norms : length columns.norms ≡ length contents.fields
   pub live : columns.live.size ≡ size
+  pub vectors : IfSome columns.vectors HaveSome
 
 -- the dictionary says this of the term with a number
 abbrev pub IsTermOf : Segment → ℕ → TermInfo → Type 0

@@ -1,5 +1,5 @@
 -- The files of a segment, in the order in which they are checked, and what they stand for (format page, "How a fault is found").
-use Rattle.std.specs.Prelude.{◌≡◌, ℕ, List, [], length, replicate, Result, Ok, Err}
+use Rattle.std.specs.Prelude.{◌≡◌, ℕ, List, length, Result, Ok, Err}
 use Rattle.lu_types.specs.FilePlans.{FilePlan, stands, followed_by, StandFor, IsFaultAmong}
 use Rattle.lu_types.specs.Tables.{TableField}
 use Rattle.lu_model.specs.Index.{FieldVector, Index}
@@ -9,13 +9,14 @@ use Rattle.freq_skips.specs.Terms.{TermData}
 use Rattle.segment_infos.specs.declared.infos.SegInfo.{SegInfo}
 use Rattle.check_index.specs.declared.parts.CheckFault.{CheckFault}
 use Rattle.check_index.specs.declared.parts.CheckFault.TheVariants as faults
-use Rattle.check_index.specs.Files.{DocumentFiles, PartFiles, FolderFiles}
+use Rattle.check_index.specs.Files.{PartFiles, FolderFiles}
 use Rattle.check_index.specs.Locating.{located_parts}
 use Rattle.check_index.specs.Documents.{field_files, stored_files, deletion_files}
 use Rattle.check_index.specs.Terms.{TermLists, term_files}
 use Rattle.check_index.specs.Positions.{TermOccurrences, position_files}
 use Rattle.check_index.specs.Indexed.{indexed_terms}
 use Rattle.check_index.specs.Norms.{FieldNorms, norm_files}
+use Rattle.check_index.specs.Vectors.{document_vectors}
 
 -- what the files of a segment stand for: an index, and, term by term, what the files of terms, entries and positions say
 pub record Segment : Type 0 where
@@ -36,10 +37,6 @@ pub record Columns : Type 0 where
   pub norms : FieldNorms
   pub deleted : List ℕ
   pub vectors : List (List (FieldVector ℕ))
-
--- the vectors of the documents: their files are not looked at yet, so there are none
-abbrev pub document_vectors : DocumentFiles → SegInfo → List TableField → FilePlan (List (List (FieldVector ℕ)))
-document_vectors files line fields = stands (replicate line.size [])
 
 -- the field table, the stored documents, and the terms with their entries and positions
 abbrev pub content_files : PartFiles → SegInfo → FilePlan Contents

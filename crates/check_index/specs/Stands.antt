@@ -1,5 +1,5 @@
 -- That the files of a segment stand for an index, said file by file (format page, "How a fault is found").
-use Rattle.std.specs.Prelude.{◌≡◌, ℕ, Bool, true, false, ℤ, nat_lt, List, [], length, map, Option, Some, None, is_some}
+use Rattle.std.specs.Prelude.{◌≡◌, ℕ, Bool, true, false, ◌&&◌, ℤ, nat_lt, List, [], length, map, Option, Some, None, is_some}
 use Rattle.lu_grammar.specs.Plans.{Plan}
 use Rattle.lu_grammar.specs.Meaning.{Reads}
 use Rattle.lu_types.specs.FilePlans.{StandFor}
@@ -20,6 +20,12 @@ use Rattle.doc_marks.specs.Norms.{nrm_plan}
 use Rattle.doc_marks.specs.Deletions.{del_plan}
 use Rattle.compound_file.specs.Entries.{NamedPart}
 use Rattle.compound_file.specs.Cfs.{cfs_plan}
+use Rattle.term_vectors.specs.declared.fields.StorePart.{StorePart}
+use Rattle.term_vectors.specs.declared.layout.DocumentPlaces.{DocumentPlaces}
+use Rattle.term_vectors.specs.Places.{tvx_plan}
+use Rattle.term_vectors.specs.Fields.{VectorPlace, tvd_plan}
+use Rattle.term_vectors.specs.Vectors.{Vector, tvf_plan}
+use Rattle.term_vectors.specs.Stores.{windowed as windowed_vectors}
 use Rattle.segment_infos.specs.declared.infos.SegInfo.{SegInfo}
 use Rattle.check_index.specs.Files.{DocumentFiles, PartFiles, FolderFiles}
 use Rattle.check_index.specs.Locating.{packed_documents, packed_files}
@@ -27,7 +33,8 @@ use Rattle.check_index.specs.Documents.{norm_fields, window_of}
 use Rattle.check_index.specs.Terms.{infos_of, listed_terms}
 use Rattle.check_index.specs.Positions.{no_positions}
 use Rattle.check_index.specs.Norms.{FieldNorms, norm_count, norms_from, separate_files}
-use Rattle.check_index.specs.Segments.{Segment, document_vectors, segment_of}
+use Rattle.check_index.specs.Vectors.{store_part, have_vectors, no_vectors}
+use Rattle.check_index.specs.Segments.{Segment, segment_of}
 
 -- the file is there, all of its bytes are the good records of the plan, and they stand for this
 abbrev pub Holds : {V R : Type 0} → Option (List ℕ) → (List ℕ → Plan V R) → V → Type 0
@@ -76,6 +83,21 @@ abbrev pub HoldColumns : ℕ → List TableField → Option (List ℕ) → Field
 HoldColumns size fields nrm norms =
     Either (nat_lt 0 (norm_count fields)) ((columns : List (List ℕ)) × Holds nrm (λ _. nrm_plan (norm_count fields) size) columns × (norms ≡ norms_from 0 columns fields)) norms (map (λ _. None) fields)
 
+-- the vectors are those of a store that the segment's part has
+pub record AreVectors (part : StorePart) (fields : List TableField) (files : DocumentFiles) (vectors : List (List Vector)) : Type 0 where
+  pub places : List DocumentPlaces
+  pub places_held : Holds files.tvx (λ _. tvx_plan part.total) places
+  pub slots : List (List VectorPlace)
+  pub slots_held : Holds files.tvd (λ _. tvd_plan fields part.window places) slots
+  pub all : List (List Vector)
+  pub vectors_held : Holds files.tvf (λ _. tvf_plan slots) all
+  pub windowed_is : vectors ≡ windowed_vectors part.window all
+
+-- they are where some field has vectors and there is a `.tvx`; otherwise no document has vectors
+abbrev pub HoldVectors : SegInfo → List TableField → DocumentFiles → List (List Vector) → Type 0
+HoldVectors line fields files vectors =
+    Either (have_vectors fields && is_some files.tvx) (AreVectors (store_part line.store line.size files.fdx) fields files vectors) vectors (no_vectors line.size)
+
 -- the files of a segment stand for this
 pub record SegmentStands (folder : FolderFiles) (line : SegInfo) (x : Segment) : Type 0 where
   pub own : PartFiles
@@ -92,7 +114,7 @@ pub record SegmentStands (folder : FolderFiles) (line : SegInfo) (x : Segment) :
   pub nrm : HoldColumns line.size x.index.fields own.index.nrm columns
   pub separate : StandFor (separate_files line.norm_gens x.index.fields line.size folder.separate (length x.index.fields) columns) x.index.norms
   pub del : Either (is_some line.del_gen) (Holds folder.del (λ _. del_plan line.size line.deleted) x.index.deleted) x.index.deleted []
-  pub vectors : StandFor (document_vectors documents line x.index.fields) x.index.vectors
+  pub vectors : HoldVectors line x.index.fields documents x.index.vectors
   pub value : x ≡ segment_of line.size
       (record { fields = x.index.fields; stored = x.index.stored; terms = listed_terms x.dictionary x.lists; occurrences = x.occurrences })
       (record { norms = x.index.norms; deleted = x.index.deleted; vectors = x.index.vectors })

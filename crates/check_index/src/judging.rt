@@ -1,12 +1,13 @@
 //! The files of a segment are checked in their order (format page, "How a fault is found").
-ghost use Rattle.std.specs.Prelude.{◌≡◌, length, IfOk, option_copied};
+ghost use Rattle.std.specs.Prelude.{◌≡◌, length, IfOk, IfSome, option_copied};
 ghost use Rattle.lu_types.specs.FilePlans.{Judges};
 ghost use Rattle.term_index.specs.Seeking.{AreChecked};
 ghost use Rattle.segment_infos.specs.Values.{IsLine};
-ghost use Rattle.check_index.specs.Files.{folder_of, AreShort, AreShortParts};
+ghost use Rattle.check_index.specs.Files.{folder_of, IsShort, AreShort, AreShortParts};
 ghost use Rattle.check_index.specs.Locating.{part_files_of};
 ghost use Rattle.check_index.specs.Terms.{AreUsed, lists_in, AreListed};
 ghost use Rattle.check_index.specs.Positions.{ArePositions};
+ghost use Rattle.check_index.specs.Vectors.{store_part, IsWithin, HaveSome};
 ghost use Rattle.check_index.specs.Segments.{content_files, side_files, segment_files, IsJudged};
 ghost use Rattle.check_index.specs.Opened.{contents_of, columns_of};
 
@@ -19,6 +20,7 @@ use crate::parts::{CheckFault, Parts};
 use crate::standing::{OpenColumns, OpenContents, Standing};
 use crate::stored::open_stored;
 use crate::terms::open_terms;
+use crate::vectors::open_vectors;
 use lu_types::{CodecFault, Fault, FieldTable};
 use segment_infos::SegInfo;
 use std::alloc::Global;
@@ -61,7 +63,7 @@ fn open_contents<'a>(
     }
 }
 
-/// The norms and the deletions of a segment with these fields.
+/// The norms, the deletions and the vectors of a segment with these fields.
 fn open_columns<'a>(
     alloc: Global,
     parts: &Parts<'a>,
@@ -69,17 +71,28 @@ fn open_columns<'a>(
     info: &SegInfo,
     fields: &FieldTable<'_>,
 ) -> Result<OpenColumns<'a>, CodecFault>
+    requires short { IsShort (option_copied files.now.documents.fdx) }
+    requires within { IsWithin (store_part info.now.store info.now.size (option_copied files.now.documents.fdx)) }
     ensures judged { Judges (columns_of info.now.size) (side_files (folder_of parts.now) (part_files_of files.now) info.now fields.now) result }
     ensures norms { IfOk result (λ o. length o.norms ≡ length fields.now) }
     ensures live { IfOk result (λ o. o.live.size ≡ info.now.size) }
+    ensures vectors { IfOk result (λ o. IfSome o.vectors HaveSome) }
 {
     let norms = match open_norms(alloc, files.index.nrm, &parts.separate, info, fields) {
         Err(fault) => return Err(fault),
         Ok(norms) => norms,
     };
-    match open_deletions(parts.del, info) {
+    let live = match open_deletions(parts.del, info) {
+        Err(fault) => return Err(fault),
+        Ok(live) => live,
+    };
+    match open_vectors(alloc, &files.documents, info, fields) {
         Err(fault) => Err(fault),
-        Ok(live) => Ok(OpenColumns { norms, live }),
+        Ok(vectors) => Ok(OpenColumns {
+            norms,
+            live,
+            vectors,
+        }),
     }
 }
 
@@ -111,8 +124,7 @@ fn check_files<'a>(
     }
 }
 
-/// Checks the files of a segment but those of vectors (format page, "How a fault is found"): what they stand for together, or the first
-/// fault. `segment` is the segment's place in the list of the commit, and `info` its line there.
+/// Checks the files of a segment (format page, "How a fault is found"): what they stand for together, or the first fault. `segment` is the segment's place in the list of the commit, and `info` its line there.
 pub fn check_segment<'a>(
     alloc: Global,
     parts: Parts<'a>,

@@ -18,7 +18,7 @@ pub fn segments_are_judged()
 {}
 
 /// The files of a segment stand for an index exactly where they do so file by file: each needed file is there, all of its bytes are the
-/// good records of its plan, and their values are the parts of the index. The files of vectors are not looked at yet.
+/// good records of its plan, and their values are the parts of the index.
 pub fn segments_stand_by_files()
     ensures { (folder : FolderFiles) (line : SegInfo) (x : Segment) → StandFor (segment_files folder line) x ↔ SegmentStands folder line x }
 {}

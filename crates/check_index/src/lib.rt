@@ -1,5 +1,5 @@
 //! The check of a whole segment: its files stand together for one index, or there is a first fault (format page, "How a fault is
-//! found"). The files of vectors are not looked at yet: the index of a segment is taken to have no vectors.
+//! found").
 #![tactic(auto)]
 
 mod deletions;
@@ -14,6 +14,7 @@ mod parts;
 mod standing;
 mod stored;
 mod terms;
+mod vectors;
 
 pub use judging::check_segment;
 pub use parts::{CheckFault, Parts, SepFiles};

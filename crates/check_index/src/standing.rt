@@ -1,7 +1,8 @@
 //! A segment whose files stand together (format page, "Indexes").
-ghost use Rattle.std.specs.Prelude.{◌≡◌, ℕ, IfOk, option_copied};
+ghost use Rattle.std.specs.Prelude.{◌≡◌, ℕ, IfOk, IfSome, option_copied};
 ghost use Rattle.term_index.specs.Seeking.{searched, names_of};
 ghost use Rattle.check_index.specs.Files.{file_at};
+ghost use Rattle.check_index.specs.Vectors.{HaveSome, vectors_seen};
 ghost use Rattle.check_index.specs.Opened.{IsTermOf, entries_of};
 
 use crate::norms::FieldNorms;
@@ -15,6 +16,7 @@ use std::marker::Model;
 use stored_fields::StoredView;
 use term_dict::TermFile;
 use term_index::TermIndex;
+use term_vectors::VectorView;
 
 /// The field table, the stored documents and the terms of a segment.
 #[derive(Drop)]
@@ -26,11 +28,13 @@ pub struct OpenContents<'a> {
     pub prx: Option<&'a [u8]>,
 }
 
-/// The norms and the deletions of a segment.
+/// The norms, the deletions and the vectors of a segment.
 #[derive(Drop)]
 pub struct OpenColumns<'a> {
     pub norms: FieldNorms<'a>,
     pub live: Live<'a>,
+    /// The vectors, where a document has some.
+    pub vectors: Option<VectorView<'a>>,
 }
 
 /// A segment whose files were checked. Contracts see the index that they stand for, and what its file of terms says.
@@ -87,6 +91,17 @@ impl<'a> Standing<'a> {
         ensures { option_copied result ≡ file_at self.now.index.norms field }
     {
         self.columns.norms.column(field)
+    }
+
+    /// The vectors of the segment's documents; `None` exactly where no document has any. Takes no memory.
+    pub fn vectors(&self) -> Option<VectorView<'a>>
+        ensures seen { vectors_seen self.now.index.size result ≡ self.now.index.vectors }
+        ensures some { IfSome result HaveSome }
+    {
+        match &self.columns.vectors {
+            Some(view) => Some(view.again()),
+            None => None,
+        }
     }
 
     /// How many documents the segment has.

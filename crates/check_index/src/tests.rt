@@ -6,7 +6,7 @@ use super::*;
 use lu_prims::OutOfMemory;
 use lu_types::rules::{
     CFS_OFFSET, DOC_FREQ, DOC_RANGE, ENDS, FDX_FORMAT, MISSING, NORM_HEADER, STORE_RANGE,
-    TII_PLACE, TRAILING,
+    TII_PLACE, TRAILING, TVX_FORMAT, VECTOR_BITS, VECTOR_FIELD,
 };
 use lu_types::{FileKind, Items, SharedStore};
 use segment_infos::SegInfo;
@@ -71,6 +71,42 @@ const CFX: [u8; 62] = [
     2, 0, 0, 0, 0, 0, 0, 0, 31, 6, 95, 55, 46, 102, 100, 120, 0, 0, 0, 0, 0, 0, 0, 43, 6, 95, 55,
     46, 102, 100, 116, 0, 0, 0, 2, 0, 0, 0, 0, 0, 0, 0, 4, 0, 0, 0, 2, 1, 0, 1, 11, 104, 101, 108,
     108, 111, 32, 119, 111, 114, 108, 100,
+];
+
+/// The places of two documents, each of which is that one.
+const FDX_OF_TWO: [u8; 20] = [0, 0, 0, 2, 0, 0, 0, 0, 0, 0, 0, 4, 0, 0, 0, 0, 0, 0, 0, 19];
+
+/// The two documents.
+const FDT_OF_TWO: [u8; 34] = [
+    0, 0, 0, 2, 1, 0, 1, 11, 104, 101, 108, 108, 111, 32, 119, 111, 114, 108, 100, 1, 0, 1, 11,
+    104, 101, 108, 108, 111, 32, 119, 111, 114, 108, 100,
+];
+
+/// The places of the vectors of document 0.
+const TVX: [u8; 20] = [0, 0, 0, 4, 0, 0, 0, 0, 0, 0, 0, 4, 0, 0, 0, 0, 0, 0, 0, 4];
+
+/// It has one, of field 1.
+const TVD: [u8; 6] = [0, 0, 0, 4, 1, 1];
+
+/// Its terms are `hello` and `world`.
+const TVF: [u8; 28] = [
+    0, 0, 0, 4, 2, 3, 0, 5, 104, 101, 108, 108, 111, 1, 0, 0, 5, 0, 5, 119, 111, 114, 108, 100, 1,
+    1, 6, 5,
+];
+
+/// The places of the vectors of two documents.
+const TVX_OF_TWO: [u8; 36] = [
+    0, 0, 0, 4, 0, 0, 0, 0, 0, 0, 0, 4, 0, 0, 0, 0, 0, 0, 0, 4, 0, 0, 0, 0, 0, 0, 0, 6, 0, 0, 0, 0,
+    0, 0, 0, 28,
+];
+
+/// The first has one of field 0, which has no vectors, and the second one of field 1.
+const TVD_OF_TWO: [u8; 8] = [0, 0, 0, 4, 1, 0, 1, 1];
+
+/// The second has the term `a`.
+const TVF_OF_TWO: [u8; 34] = [
+    0, 0, 0, 4, 2, 3, 0, 5, 104, 101, 108, 108, 111, 1, 0, 0, 5, 0, 5, 119, 111, 114, 108, 100, 1,
+    1, 6, 5, 1, 0, 0, 1, 97, 1,
 ];
 
 /// The segment of one document with two terms.
@@ -354,43 +390,35 @@ fn faulty_files(rt: &impl Abort, alloc: Global) {
     );
 }
 
+/// Asserts what the check answers of the segment in this compound file.
+fn compound_answers(rt: &impl Abort, alloc: Global, cfs: Option<&[u8]>, wanted: Verdict) {
+    let line = line_in(alloc, None, true);
+    let changed = Parts {
+        cfs,
+        ..packed(alloc)
+    };
+    let found = verdict(alloc, changed, &line);
+    assert!(rt; found == wanted, "{found:?} and not {wanted:?}");
+}
+
 /// A compound segment, whose parts outside are not looked at.
 fn compound_segments(rt: &impl Abort, alloc: Global) {
+    compound_answers(rt, alloc, Some(&CFS), None);
     let line = line_in(alloc, None, true);
-    let whole = verdict(alloc, packed(alloc), &line);
-    assert!(rt; whole == None, "{whole:?}");
-    let absent = verdict(
-        alloc,
-        Parts {
-            cfs: None,
-            ..parts(alloc)
-        },
-        &line,
-    );
+    let absent = verdict(alloc, parts(alloc), &line);
     assert!(rt; absent == Some((FileKind::Cfs, 0, MISSING)), "{absent:?}");
     let mut low = CFS;
     low[23] = 0;
-    let early = verdict(
-        alloc,
-        Parts {
-            cfs: Some(&low),
-            ..packed(alloc)
-        },
-        &line,
-    );
-    assert!(rt; early == Some((FileKind::Cfs, 16, CFS_OFFSET)), "{early:?}");
-    // The seventh name becomes `_0.qrx`.
+    let wanted = Some((FileKind::Cfs, 16, CFS_OFFSET));
+    compound_answers(rt, alloc, Some(&low), wanted);
+}
+
+/// A compound segment without one of its parts: the seventh name becomes `_0.qrx`.
+fn compound_without_part(rt: &impl Abort, alloc: Global) {
     let mut renamed = CFS;
     renamed[103] = b'q';
-    let unnamed = verdict(
-        alloc,
-        Parts {
-            cfs: Some(&renamed),
-            ..packed(alloc)
-        },
-        &line,
-    );
-    assert!(rt; unnamed == Some((FileKind::Prx, 0, MISSING)), "{unnamed:?}");
+    let wanted = Some((FileKind::Prx, 0, MISSING));
+    compound_answers(rt, alloc, Some(&renamed), wanted);
 }
 
 /// Documents in a shared store.
@@ -461,12 +489,75 @@ fn separate_norms(rt: &impl Abort, alloc: Global) -> Result<(), Fail> {
     Ok(())
 }
 
+/// Files of vectors that are there or not, and faults of them.
+fn vectors(rt: &impl Abort, alloc: Global) {
+    let tvx: Option<&[u8]> = Some(&TVX);
+    let tvd: Option<&[u8]> = Some(&TVD);
+    let tvf: Option<&[u8]> = Some(&TVF);
+    let other_tvx: Option<&[u8]> = Some(&[0, 0, 0, 5]);
+    let other_tvd: Option<&[u8]> = Some(&[0, 0, 0, 4, 1, 0]);
+    let other_tvf: Option<&[u8]> = Some(&[0, 0, 0, 4, 2, 7]);
+    let cases: [(Option<&[u8]>, Option<&[u8]>, Option<&[u8]>, Verdict); 8] = [
+        (tvx, tvd, tvf, None),
+        (None, tvd, tvf, None),
+        (None, None, other_tvf, None),
+        (tvx, None, tvf, Some((FileKind::Tvd, 0, MISSING))),
+        (tvx, tvd, None, Some((FileKind::Tvf, 0, MISSING))),
+        (other_tvx, None, tvf, Some((FileKind::Tvx, 0, TVX_FORMAT))),
+        (tvx, other_tvd, None, Some((FileKind::Tvd, 5, VECTOR_FIELD))),
+        (tvx, tvd, other_tvf, Some((FileKind::Tvf, 4, VECTOR_BITS))),
+    ];
+    for (tvx, tvd, tvf, wanted) in cases {
+        let changed = Parts {
+            tvx,
+            tvd,
+            tvf,
+            ..parts(alloc)
+        };
+        answers(rt, alloc, changed, wanted);
+    }
+}
+
+/// Vectors in a shared store of two documents: fields are asked of those of the segment alone.
+fn shared_vectors(rt: &impl Abort, alloc: Global) {
+    let two: &[u8] = &TVX_OF_TWO;
+    let one: &[u8] = &TVX;
+    let cases: [(bool, &[u8], Verdict); 3] = [
+        (false, two, None),
+        (true, two, Some((FileKind::Tvd, 5, VECTOR_FIELD))),
+        (false, one, Some((FileKind::Tvx, 20, ENDS))),
+    ];
+    for (first, tvx, wanted) in cases {
+        let store = SharedStore {
+            offset: if first { 0 } else { 1 },
+            number: 7,
+            compound: false,
+        };
+        let found = verdict(
+            alloc,
+            Parts {
+                fdx: Some(&FDX_OF_TWO),
+                fdt: Some(&FDT_OF_TWO),
+                tvx: Some(tvx),
+                tvd: Some(&TVD_OF_TWO),
+                tvf: Some(&TVF_OF_TWO),
+                ..parts(alloc)
+            },
+            &line_in(alloc, Some(store), false),
+        );
+        assert!(rt; found == wanted, "{found:?} and not {wanted:?}");
+    }
+}
+
 #[test]
 fn segments(rt: HostRuntime) -> Result<(), Fail> {
     let alloc = rt.alloc();
     missing_files(&rt, alloc);
     faulty_files(&rt, alloc);
     compound_segments(&rt, alloc);
+    compound_without_part(&rt, alloc);
     shared_stores(&rt, alloc);
+    vectors(&rt, alloc);
+    shared_vectors(&rt, alloc);
     separate_norms(&rt, alloc)
 }

@@ -5,10 +5,18 @@ use Rattle.check_index.specs.Segments.{Segment, segment_of}
 use Rattle.check_index.specs.Opened.{contents_of, columns_of}
 use Rattle.check_index.proofs.LocatedLemmas.{located-short}
 use Rattle.check_index.proofs.ContentFiles.{located-fault, contents-fault, columns-fault, segment-stands}
+use Rattle.check_index.proofs.VectorFiles.{contents-within}
 use Rattle.check_index.proofs.judging.check_files.Goals as goal
 
 pub open_contents-requires-clause-short : goal.open_contents-requires-clause-short
 open_contents-requires-clause-short c = located-short (folder_of c.args.parts.now) c.args.info.now (part_files_of c.in-Ok.files) c.requires.short c.in-Ok.ensures
+
+pub open_columns-requires-clause-short : goal.open_columns-requires-clause-short
+open_columns-requires-clause-short c = (located-short (folder_of c.args.parts.now) c.args.info.now (part_files_of c.in-Ok.files) c.requires.short c.in-Ok.ensures).fdx
+
+pub open_columns-requires-clause-within : goal.open_columns-requires-clause-within
+open_columns-requires-clause-within c =
+    contents-within (part_files_of c.in-Ok.files) c.args.info.now (contents_of c.args.info.now.size c.in-Ok-open_contents.contents) c.in-Ok-open_contents.ensures.judged
 
 pub returns-in-Err-open_contents : goal.returns-in-Err-open_contents
 returns-in-Err-open_contents c =

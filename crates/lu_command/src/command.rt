@@ -5,7 +5,7 @@ ghost use Rattle.lu_command.specs.Commands.{Meaning, Means};
 ghost use Rattle.lu_command.specs.Asking.{folder_of};
 ghost use Rattle.lu_command.specs.Meanings.{meaning_of};
 
-use crate::words::{dir_and_segment, dir_alone};
+use crate::words::{dir_alone, dir_and_segment};
 
 /// What the words of a call ask for.
 #[derive(Clone, Copy, Debug, PartialEq, Eq)]

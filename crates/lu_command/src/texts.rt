@@ -109,7 +109,9 @@ pub fn stands_text(
 ) -> Result<String, OutOfMemory>
     ensures { IfOk result (λ text. string_bytes text ≡ stands_text name.now segments documents deleted) }
 {
-    let text = format!(in alloc; "{name} stands: {segments} segments, {documents} documents, {deleted} deleted\n")?;
+    let text = format!(in alloc;
+        "{name} stands: {segments} segments, {documents} documents, {deleted} deleted\n"
+    )?;
     Ok(text)
 }
 

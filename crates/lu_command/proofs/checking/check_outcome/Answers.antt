@@ -14,10 +14,13 @@ returns-in-Ok-newest-clause-due g c =
     let chosen = c.in-Ok-newest.chosen in
     let answer : Result Chosen FolderFault = Ok chosen in
     IfOk-weaker c.commit_outcome.result (λ outcome. CommitSays (g.D.Dir.files c.newest.new.dir) c.chosen.inside.0.0 c.as_slice.result.now outcome) _
-    (λ outcome says. (c.requires, (
-      answer,
-      subst (λ (files : Option Files). ForSome files (λ told. AnswersNewest told answer)) c.in-Ok.ensures.files c.in-Ok-newest.ensures.told,
-      subst (λ (files : Option Files). CommitSays files chosen.generation chosen.commit.segments outcome) (c.in-Ok-newest.ensures.files ∙ c.in-Ok.ensures.files)
-      (says-chosen (g.D.Dir.files c.newest.new.dir) c.chosen.inside.0.0 c.as_slice.result.now _ chosen outcome refl c.as_slice.ensures c.chosen.view_is says),
-    )))
+    (λ outcome says. (
+      c.requires,
+      (
+        answer,
+        subst (λ (files : Option Files). ForSome files (λ told. AnswersNewest told answer)) c.in-Ok.ensures.files c.in-Ok-newest.ensures.told,
+        subst (λ (files : Option Files). CommitSays files chosen.generation chosen.commit.segments outcome) (c.in-Ok-newest.ensures.files ∙ c.in-Ok.ensures.files)
+            (says-chosen (g.D.Dir.files c.newest.new.dir) c.chosen.inside.0.0 c.as_slice.result.now _ chosen outcome refl c.as_slice.ensures c.chosen.view_is says),
+      ),
+    ))
     c.commit_outcome.ensures.says

@@ -9,6 +9,8 @@ pub mod OffsetPairs
 pub mod InnerTexts
 pub mod InnerVectors
 pub mod Walks
+pub mod VectorBytes
+pub mod Writable
 pub mod InnerViews
 pub mod InnerTerms
 pub mod InnerSlots

@@ -16,7 +16,7 @@ use Rattle.term_vectors.specs.VectorBytes.{vector_terms_bytes, vector_positions_
 use Rattle.segment_files.specs.declared.options.WriteOptions.{WriteOptions}
 use Rattle.segment_files.specs.declared.options.SegmentFiles.{SegmentFiles}
 use Rattle.segment_files.specs.Postings.{PostingParts, parts_of, kept_term}
-use Rattle.segment_files.specs.Written.{canonical_files, too_large}
+use Rattle.segment_files.specs.Written.{canonical_files, too_large_file}
 
 -- options of the program, with this greatest length of a file
 options : Bool → (n : ℕ) → n ≤ 100 → WriteOptions
@@ -95,10 +95,10 @@ hello_world_files = refl
 -- which of its files is the first that is too large, where a file may have so many bytes: `.fnm` has 19, `.fdt` 19, `.tis` 46, and all in one more
 too_large_by_limit : List (Option FileKind)
 too_large_by_limit =
-    too_large (options false 18 (omega arith)) hello_world
-    ∷ too_large (options false 19 (omega arith)) hello_world
-    ∷ too_large (options false 46 (omega arith)) hello_world
-    ∷ too_large (options true 46 (omega arith)) hello_world ∷ []
+    too_large_file (options false 18 (omega arith)) hello_world
+    ∷ too_large_file (options false 19 (omega arith)) hello_world
+    ∷ too_large_file (options false 46 (omega arith)) hello_world
+    ∷ too_large_file (options true 46 (omega arith)) hello_world ∷ []
 
 limits_pass : too_large_by_limit ≡ Some Fnm ∷ Some Tis ∷ None ∷ Some Cfs ∷ []
 unfolding too_large_by_limit options groups shared skip_bytes data_with child_pointer greatest_power occurrences_bytes vector_terms_bytes vector_positions_bytes vector_spans_bytes shared_length differences_bytes written_places

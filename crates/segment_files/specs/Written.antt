@@ -76,5 +76,5 @@ first_past limit [] = None
 first_past limit (file ∷ files) = cond (nat_lt limit (length file.bytes)) (Some file.kind) (first_past limit files)
 
 -- the first file of an index that passes the limit, in the order in which they are written
-abbrev pub too_large : WriteOptions → Index → Option FileKind
-too_large options index = first_past options.limits.file_bytes (all_written options.compound options.number (canonical_parts_of (intervals_of options) index))
+abbrev pub too_large_file : WriteOptions → Index → Option FileKind
+too_large_file options index = first_past options.limits.file_bytes (all_written options.compound options.number (canonical_parts_of (intervals_of options) index))

@@ -10,6 +10,7 @@ use Rattle.lu_types.specs.declared.kind.FileKind.{FileKind}
 use Rattle.lu_types.specs.declared.kind.FileKind.TheVariants.{Cfs, Cfx, Fnm, Fdx, Fdt, Tis, Tii, Frq, Prx, Nrm, Tvx, Tvd, Tvf}
 use Rattle.lu_types.specs.declared.named_file.NamedFile.{NamedFile}
 use Rattle.lu_model.proofs.Words.{Each}
+use Rattle.lu_model.proofs.Each.{all-from_each}
 use Rattle.compound_file.specs.Entries.{NamedPart, part_named}
 use Rattle.compound_file.specs.Cfs.{cfs_plan}
 use Rattle.compound_file.specs.Packing.{part_kinds, is_same, file_of, packed_in, packed_parts, cfs_bytes}
@@ -68,6 +69,25 @@ found-own b false false false = refl
 
 -- ---- packed into one
 
+-- the file is made of bytes, where it is there
+abbrev pub IfThere : Option (List ℕ) → Type 0
+IfThere None = Unit {0}
+IfThere (Some bytes) = IsBytes bytes
+
+-- so is each part
+pub record AreBytesThere (parts : PartFiles) : Type 0 where
+  pub fnm : IfThere parts.index.fnm
+  pub fdx : IfThere parts.documents.fdx
+  pub fdt : IfThere parts.documents.fdt
+  pub tis : IfThere parts.index.tis
+  pub tii : IfThere parts.index.tii
+  pub frq : IfThere parts.index.frq
+  pub prx : IfThere parts.index.prx
+  pub nrm : IfThere parts.index.nrm
+  pub tvx : IfThere parts.documents.tvx
+  pub tvd : IfThere parts.documents.tvd
+  pub tvf : IfThere parts.documents.tvf
+
 -- what is so of each file is so of one that is found
 found-holds : (P : NamedFile → Type 0) (files : List NamedFile) (kind : FileKind) (f : NamedFile) → Each P files → file_of files kind ≡ Some f → P f
 found-holds P [] kind f h is = cc
@@ -102,13 +122,75 @@ module _ (number : ℕ) (files : List NamedFile) where
   part-found : (kind : FileKind) → IsPart kind → packed_part (segment_name number) packed_here kind ≡ bytes_among files kind
   part-found kind part = part_named-file_of files (segment_name number) kind part
 
+  -- what is found of a kind
+  abbrev got : FileKind → Option (List ℕ)
+  got kind = packed_part (segment_name number) packed_here kind
+
   documents-found : packed_documents (segment_name number) packed_here ≡ (folder_with files).parts.documents
   documents-found =
-      ap (λ (x : Option (List ℕ)). documents_made x (packed_part (segment_name number) packed_here Fdt) (packed_part (segment_name number) packed_here Tvx) (packed_part (segment_name number) packed_here Tvd) (packed_part (segment_name number) packed_here Tvf)) (part-found Fdx tt)
-      ∙ ap (λ (x : Option (List ℕ)). documents_made (bytes_among files Fdx) x (packed_part (segment_name number) packed_here Tvx) (packed_part (segment_name number) packed_here Tvd) (packed_part (segment_name number) packed_here Tvf)) (part-found Fdt tt)
-      ∙ ap (λ (x : Option (List ℕ)). documents_made (bytes_among files Fdx) (bytes_among files Fdt) x (packed_part (segment_name number) packed_here Tvd) (packed_part (segment_name number) packed_here Tvf)) (part-found Tvx tt)
-      ∙ ap (λ (x : Option (List ℕ)). documents_made (bytes_among files Fdx) (bytes_among files Fdt) (bytes_among files Tvx) x (packed_part (segment_name number) packed_here Tvf)) (part-found Tvd tt)
-      ∙ ap (λ (x : Option (List ℕ)). documents_made (bytes_among files Fdx) (bytes_among files Fdt) (bytes_among files Tvx) (bytes_among files Tvd) x) (part-found Tvf tt)
+      ap (λ (x : Option (List ℕ)). made x (got Fdt) (got Tvx) (got Tvd) (got Tvf)) (part-found Fdx tt)
+      ∙ ap (λ (x : Option (List ℕ)). made (bytes_among files Fdx) x (got Tvx) (got Tvd) (got Tvf)) (part-found Fdt tt)
+      ∙ ap (λ (x : Option (List ℕ)). made (bytes_among files Fdx) (bytes_among files Fdt) x (got Tvd) (got Tvf)) (part-found Tvx tt)
+      ∙ ap (λ (x : Option (List ℕ)). made (bytes_among files Fdx) (bytes_among files Fdt) (bytes_among files Tvx) x (got Tvf)) (part-found Tvd tt)
+      ∙ ap (λ (x : Option (List ℕ)). made (bytes_among files Fdx) (bytes_among files Fdt) (bytes_among files Tvx) (bytes_among files Tvd) x) (part-found Tvf tt)
     where
-      documents_made : Option (List ℕ) → Option (List ℕ) → Option (List ℕ) → Option (List ℕ) → Option (List ℕ) → DocumentFiles
-      documents_made fdx fdt tvx tvd tvf = record { fdx = fdx; fdt = fdt; tvx = tvx; tvd = tvd; tvf = tvf }
+      made : Option (List ℕ) → Option (List ℕ) → Option (List ℕ) → Option (List ℕ) → Option (List ℕ) → DocumentFiles
+      made fdx fdt tvx tvd tvf = record { fdx = fdx; fdt = fdt; tvx = tvx; tvd = tvd; tvf = tvf }
+
+  index-found : packed_index (segment_name number) packed_here ≡ (folder_with files).parts.index
+  index-found =
+      ap (λ (x : Option (List ℕ)). made x (got Tis) (got Tii) (got Frq) (got Prx) (got Nrm)) (part-found Fnm tt)
+      ∙ ap (λ (x : Option (List ℕ)). made (bytes_among files Fnm) x (got Tii) (got Frq) (got Prx) (got Nrm)) (part-found Tis tt)
+      ∙ ap (λ (x : Option (List ℕ)). made (bytes_among files Fnm) (bytes_among files Tis) x (got Frq) (got Prx) (got Nrm)) (part-found Tii tt)
+      ∙ ap (λ (x : Option (List ℕ)). made (bytes_among files Fnm) (bytes_among files Tis) (bytes_among files Tii) x (got Prx) (got Nrm)) (part-found Frq tt)
+      ∙ ap (λ (x : Option (List ℕ)). made (bytes_among files Fnm) (bytes_among files Tis) (bytes_among files Tii) (bytes_among files Frq) x (got Nrm)) (part-found Prx tt)
+      ∙ ap (λ (x : Option (List ℕ)). made (bytes_among files Fnm) (bytes_among files Tis) (bytes_among files Tii) (bytes_among files Frq) (bytes_among files Prx) x) (part-found Nrm tt)
+    where
+      made : Option (List ℕ) → Option (List ℕ) → Option (List ℕ) → Option (List ℕ) → Option (List ℕ) → Option (List ℕ) → IndexFiles
+      made fnm tis tii frq prx nrm = record { fnm = fnm; tis = tis; tii = tii; frq = frq; prx = prx; nrm = nrm }
+
+  packed-found : packed_files (segment_name number) packed_here ≡ (folder_with files).parts
+  packed-found =
+      ap (λ (x : IndexFiles). made x (packed_documents (segment_name number) packed_here)) index-found ∙ ap (λ (x : DocumentFiles). made (folder_with files).parts.index x) documents-found
+    where
+      made : IndexFiles → DocumentFiles → PartFiles
+      made index documents = record { index = index; documents = documents }
+
+-- ---- the parts of a segment
+
+file-bytes : (kind : FileKind) (file : Option (List ℕ)) → IfThere file → Each HoldsBytes (file_if_there kind file)
+file-bytes kind None h = tt
+file-bytes kind (Some bytes) h = (h, tt)
+
+each-join : {X : Type 0} (P : X → Type 0) (xs ys : List X) → Each P xs → Each P ys → Each P (xs ++ ys)
+each-join P [] ys h k = k
+each-join P (x ∷ xs) ys h k = (h.0, each-join P xs ys h.1 k)
+
+files-bytes : (parts : PartFiles) → AreBytesThere parts → Each HoldsBytes (checked_in_order parts)
+files-bytes parts h =
+    let P = HoldsBytes in
+    let i = parts.index in
+    let d = parts.documents in
+    let to_fdx = each-join P (file_if_there Fnm i.fnm) (file_if_there Fdx d.fdx) (file-bytes Fnm i.fnm h.fnm) (file-bytes Fdx d.fdx h.fdx) in
+    let to_fdt = each-join P _ (file_if_there Fdt d.fdt) to_fdx (file-bytes Fdt d.fdt h.fdt) in
+    let to_tis = each-join P _ (file_if_there Tis i.tis) to_fdt (file-bytes Tis i.tis h.tis) in
+    let to_tii = each-join P _ (file_if_there Tii i.tii) to_tis (file-bytes Tii i.tii h.tii) in
+    let to_frq = each-join P _ (file_if_there Frq i.frq) to_tii (file-bytes Frq i.frq h.frq) in
+    let to_prx = each-join P _ (file_if_there Prx i.prx) to_frq (file-bytes Prx i.prx h.prx) in
+    let to_nrm = each-join P _ (file_if_there Nrm i.nrm) to_prx (file-bytes Nrm i.nrm h.nrm) in
+    let to_tvx = each-join P _ (file_if_there Tvx d.tvx) to_nrm (file-bytes Tvx d.tvx h.tvx) in
+    let to_tvd = each-join P _ (file_if_there Tvd d.tvd) to_tvx (file-bytes Tvd d.tvd h.tvd) in
+    each-join P _ (file_if_there Tvf d.tvf) to_tvd (file-bytes Tvf d.tvf h.tvf)
+
+module _ (number : ℕ) (b : PartBytes) (prox norms vectors : Bool) where
+  abbrev parts : PartFiles
+  parts = parts_with b prox norms vectors
+
+  pub own-parts : (compound : Bool) → number < 2 ^ 31 → AreBytesThere parts → (compound ≡ true → length (packed_file number parts).bytes < 2 ^ 31) → AreOwn compound (folder_with (packed_if compound number parts)) number parts
+  own-parts false few fits small = sym (found-own b prox norms vectors)
+  own-parts true few fits small =
+      let files = checked_in_order parts in
+      let held = packed_parts number files in
+      let all = parts-bytes (segment_name number) (filter_map (file_of files) part_kinds) (all-found files part_kinds (files-bytes parts fits)) in
+      let are = packed-parts files number few (all-from_each (λ (p : NamedPart). IsBytes p.bytes) held all) in
+      (held, cfs-reads held are (let short = small refl in omega (arith, short)), sym (packed-found number files ∙ found-own b prox norms vectors))

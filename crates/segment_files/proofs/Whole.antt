@@ -1,0 +1,141 @@
+-- The canonical files of an index stand for it.
+use Rattle.std.proofs.Common.{◌≡◌, ℕ, ◌^◌, ◌<◌, ◌≤◌, Bool, true, false, cond, List, [], ◌∷◌, length, map, Option, Some, None, refl, sym, ap, subst, ◌∙◌, arith}
+use Rattle.std.specs.Prelude.{All, is_some}
+use Rattle.lu_grammar.specs.Bytes.{IsBytes}
+use Rattle.lu_grammar.specs.Meaning.{Reads}
+use Rattle.lu_types.specs.Bits as bit
+use Rattle.lu_types.specs.Bits.{has_bit}
+use Rattle.lu_types.specs.FilePlans.{StandFor}
+use Rattle.lu_types.specs.Tables.{TableField, bits_at}
+use Rattle.lu_model.specs.Index.{IndexedTerm, Index}
+use Rattle.lu_model.specs.Contents.{field_at}
+use Rattle.lu_model.specs.Valid.{IsIndexedTerm, IsVector, IsValid}
+use Rattle.lu_model.proofs.Words.{Each}
+use Rattle.lu_model.proofs.Each.{each-from_all}
+use Rattle.field_infos.specs.Fnm.{fnm_plan}
+use Rattle.field_infos.specs.Spelling.{fnm_spelling}
+use Rattle.stored_fields.specs.Values.{Document}
+use Rattle.stored_fields.specs.Stores.{whole_store}
+use Rattle.stored_fields.specs.Writing.{fdx_bytes, fdt_bytes}
+use Rattle.term_dict.specs.Dictionary.{Dictionary, tis_plan}
+use Rattle.term_dict.specs.Index.{tii_plan}
+use Rattle.term_dict.specs.Laws.{dictionary_written}
+use Rattle.term_dict.specs.Writing.{TermsWritten, AreIntervals}
+use Rattle.freq_skips.specs.Terms.{TermData, frq_plan}
+use Rattle.positions.specs.Terms.{prx_plan}
+use Rattle.doc_marks.specs.Norms.{nrm_spelling}
+use Rattle.term_vectors.specs.Vectors.{StoredVector}
+use Rattle.term_vectors.specs.VectorBytes.{tvx_bytes, tvd_bytes, tvf_bytes}
+use Rattle.segment_infos.specs.declared.infos.MapPair.{MapPair}
+use Rattle.segment_infos.specs.declared.infos.SegInfo.{SegInfo}
+use Rattle.check_index.specs.Files.{PartFiles, FolderFiles}
+use Rattle.check_index.specs.Terms.{infos_of, listed_terms}
+use Rattle.check_index.specs.Positions.{TermOccurrences, no_positions}
+use Rattle.check_index.specs.Indexed.{indexed_terms}
+use Rattle.check_index.specs.Norms.{FieldNorms}
+use Rattle.check_index.specs.Segments.{Segment, Contents, Columns, segment_of, segment_files}
+use Rattle.check_index.specs.Stands.{Holds, Either, AreStored, AreVectors, HoldColumns, SegmentStands}
+use Rattle.check_index.proofs.ReadBytes.{read-bytes}
+use Rattle.check_index.proofs.StandsLaws.{stands-from}
+use Rattle.segment_files.specs.declared.options.WriteOptions.{WriteOptions}
+use Rattle.segment_files.specs.Postings.{PostingIntervals, PostingParts, no_parts, prx_bytes, lines_written, tis_bytes, tii_bytes}
+use Rattle.segment_files.specs.Stores.{canonical_store}
+use Rattle.segment_files.specs.Parts.{keep_positions, have_norms, norm_columns, intervals_of, postings_of, canonical_parts_of}
+use Rattle.segment_files.specs.Written.{packed_file, packed_if, canonical_files, too_large_file}
+use Rattle.segment_files.specs.Lines.{new_line, folder_with}
+use Rattle.segment_files.proofs.Handing.{IsGoodEntry}
+use Rattle.segment_files.proofs.PrxBytes.{all-omitted, prx_bytes-omitted}
+use Rattle.segment_files.proofs.Reading.{numbers_for, CanStand}
+use Rattle.segment_files.proofs.TermsReading.{AreReadable, PostingsRead, postings-read}
+use Rattle.segment_files.proofs.Dictionary.{AreWritableTerms, tis-read, tii-read}
+use Rattle.segment_files.proofs.Writable.{writable-terms, can-stand}
+use Rattle.segment_files.proofs.Fields.{fnm-read, all-omit}
+use Rattle.segment_files.proofs.NormColumns.{columns-held}
+use Rattle.segment_files.proofs.Stored.{IsGoodValue, IsGoodDocument, stored-held}
+use Rattle.segment_files.proofs.Sides.{separate-stand, vectors-held}
+use Rattle.segment_files.proofs.Limits.{IsWithinLimit, ArePartsWithin, parts-within, packed-within}
+use Rattle.segment_files.proofs.Unposted.{nothing-added}
+use Rattle.segment_files.proofs.Folders.{PartBytes, IfThere, AreBytesThere, own-parts}
+
+module _ (options : WriteOptions) (index : Index) (v : IsValid index) (fit : too_large_file options index ≡ None) where
+  abbrev o : PostingIntervals
+  o = intervals_of options
+
+  abbrev limit : ℕ
+  limit = options.limits.file_bytes
+
+  abbrev parts : PartFiles
+  parts = canonical_parts_of o index
+
+  abbrev postings : PostingParts
+  postings = postings_of o index
+
+  abbrev written : TermsWritten
+  written = lines_written o postings.lines
+
+  abbrev dictionary : Dictionary
+  dictionary = dictionary_written written
+
+  small : limit < 2 ^ 31
+  small = let few = options.limits.few_bytes in omega (arith, few)
+
+  within : ArePartsWithin limit parts
+  within = parts-within limit options.compound options.number parts fit
+
+  frq-small : length postings.frq < 2 ^ 31
+  frq-small = let le = within.frq in omega (arith, le, small)
+
+  tis-small : length (tis_bytes written) < 2 ^ 31
+  tis-small = let le = within.tis in omega (arith, le, small)
+
+  fdt-small : length (fdt_bytes index.stored) < 2 ^ 31
+  fdt-small = let le = within.fdt in omega (arith, le, small)
+
+  writable : AreWritableTerms index.fields index.size o index.terms
+  writable = writable-terms index o v
+
+  -- where no field keeps positions, each term's field omits them
+  omit-all : keep_positions index.fields ≡ false → (ts : List IndexedTerm) → Each (λ (t : IndexedTerm). IsIndexedTerm index.size (field_at t.field index.fields).bits t) ts
+      → Each (λ (t : IndexedTerm). has_bit bit.omit_tf (bits_at index.fields t.field) ≡ true) ts
+  omit-all none [] h = tt
+  omit-all none (t ∷ ts) h = (all-omit index.fields t.field none h.0.indexed, omit-all none ts h.1)
+
+  terms-valid : Each (λ (t : IndexedTerm). IsIndexedTerm index.size (field_at t.field index.fields).bits t) index.terms
+  terms-valid = each-from_all (λ (t : IndexedTerm). IsIndexedTerm index.size (field_at t.field index.fields).bits t) index.terms v.terms
+
+  can : Each (CanStand index.fields index.size o (length index.terms)) index.terms
+  can = can-stand index.fields index.size o (length index.terms) index.terms writable.each
+
+  prx-small : length postings.prx < 2 ^ 31
+  prx-small = go (keep_positions index.fields) refl within.prx
+    where
+      go : (b : Bool) → keep_positions index.fields ≡ b → IsWithinLimit options.limits.file_bytes (cond b (Some (postings_of (intervals_of options) index).prx) None) → length (postings_of (intervals_of options) index).prx < 2 ^ 31
+      go true is le = let few = options.limits.few_bytes in omega (arith, le, few)
+      go false is le =
+          let none = nothing-added index.fields index.size (intervals_of options) (length index.terms) no_parts index.terms can (omit-all is index.terms terms-valid) in
+          omega (arith, ap length none)
+
+  read : PostingsRead index.fields index.size o (length index.terms) options.skip.0 v.small index.terms
+  read = postings-read index.fields index.size o (length index.terms) options.skip.0 v.small index.terms (record { can = can; frq = frq-small; prx = prx-small })
+
+  intervals : AreIntervals written
+  intervals = record { index_interval = options.index; skip_interval = options.skip; max_levels = options.levels }
+
+  -- the occurrences that are read: none of any term where no field keeps positions
+  occurrences : List TermOccurrences
+  occurrences = cond (keep_positions index.fields) read.occurrences (no_positions read.values)
+
+  again : indexed_terms index.fields postings.lines read.values occurrences ≡ index.terms
+  unfolding occurrences
+  again = go (keep_positions index.fields) refl
+    where
+      go : (b : Bool) → keep_positions index.fields ≡ b → indexed_terms index.fields (postings_of (intervals_of options) index).lines read.values (cond b read.occurrences (no_positions read.values)) ≡ index.terms
+      go true is = read.again
+      go false is = read.unposted (omit-all is index.terms terms-valid)
+
+  -- what the files stand for
+  contents : Contents
+  contents = record { fields = index.fields; stored = index.stored; terms = listed_terms dictionary read.values; occurrences = occurrences }
+
+  columns : Columns
+  columns = record { norms = index.norms; deleted = []; vectors = index.vectors }

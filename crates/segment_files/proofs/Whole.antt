@@ -9,7 +9,7 @@ use Rattle.lu_types.specs.FilePlans.{StandFor}
 use Rattle.lu_types.specs.Tables.{TableField, bits_at}
 use Rattle.lu_model.specs.Index.{IndexedTerm, Index}
 use Rattle.lu_model.specs.Contents.{field_at}
-use Rattle.lu_model.specs.Valid.{IsIndexedTerm, IsVector, IsValid}
+use Rattle.lu_model.specs.Valid.{IsSmall, IsIndexedTerm, IsVector, IsValid}
 use Rattle.lu_model.proofs.Words.{Each}
 use Rattle.lu_model.proofs.Each.{each-from_all}
 use Rattle.field_infos.specs.Fnm.{fnm_plan}
@@ -122,11 +122,10 @@ module _ (options : WriteOptions) (index : Index) (v : IsValid index) (fit : too
   intervals = record { index_interval = options.index; skip_interval = options.skip; max_levels = options.levels }
 
   -- the occurrences that are read: none of any term where no field keeps positions
-  occurrences : List TermOccurrences
+  abbrev occurrences : List TermOccurrences
   occurrences = cond (keep_positions index.fields) read.occurrences (no_positions read.values)
 
   again : indexed_terms index.fields postings.lines read.values occurrences ≡ index.terms
-  unfolding occurrences
   again = go (keep_positions index.fields) refl
     where
       go : (b : Bool) → keep_positions index.fields ≡ b → indexed_terms index.fields (postings_of (intervals_of options) index).lines read.values (cond b read.occurrences (no_positions read.values)) ≡ index.terms
@@ -134,8 +133,47 @@ module _ (options : WriteOptions) (index : Index) (v : IsValid index) (fit : too
       go false is = read.unposted (omit-all is index.terms terms-valid)
 
   -- what the files stand for
-  contents : Contents
+  abbrev contents : Contents
   contents = record { fields = index.fields; stored = index.stored; terms = listed_terms dictionary read.values; occurrences = occurrences }
 
-  columns : Columns
+  abbrev columns : Columns
   columns = record { norms = index.norms; deleted = []; vectors = index.vectors }
+
+  abbrev segment : Segment
+  segment = segment_of index.size contents columns
+
+  -- ---- file by file
+
+  fnm-held : Reads (fnm_plan (keep_positions index.fields) None) (fnm_spelling index.fields) index.fields
+  fnm-held = fnm-read index.fields v.fields v.names
+
+  good-documents : (documents : List Document) → Each (λ (values : Document). IsSmall (length values)) documents → Each (λ (values : Document). All (IsGoodValue (length index.fields)) values) documents → Each (IsGoodDocument (length index.fields)) documents
+  good-documents [] few values = tt
+  good-documents (d ∷ documents) few values = ((few.0, values.0), good-documents documents few.1 values.1)
+
+  store-held : AreStored (λ _. index.size) (whole_store index.size) (length index.fields) (Some (fdx_bytes index.stored)) (Some (fdt_bytes index.stored)) index.stored
+  store-held =
+      subst (λ (n : ℕ). AreStored (λ _. n) (whole_store n) (length index.fields) (Some (fdx_bytes index.stored)) (Some (fdt_bytes index.stored)) index.stored) v.stored
+      (stored-held (length index.fields) index.stored v.fields.few
+      (good-documents index.stored (each-from_all (λ (values : Document). IsSmall (length values)) index.stored v.few_values) (each-from_all (λ (values : Document). All (IsGoodValue (length index.fields)) values) index.stored v.values)) fdt-small)
+
+  dictionary-held : Reads (tis_plan index.fields index.size (length (tis_bytes written))) (tis_bytes written) dictionary
+  dictionary-held = tis-read index.fields index.size o index.terms intervals v.small writable frq-small prx-small
+
+  index-held : Reads (tii_plan dictionary) (tii_bytes written) tt
+  index-held = tii-read index.fields index.size o index.terms intervals v.small writable frq-small prx-small tis-small
+
+  entries-held : Reads (frq_plan index.fields dictionary.numbers index.size (infos_of dictionary)) postings.frq read.values
+  entries-held = read.entries
+
+  positions-held : Either (keep_positions index.fields) (Holds parts.index.prx (λ _. prx_plan index.fields dictionary.numbers index.size (infos_of dictionary) read.values) occurrences) occurrences (no_positions read.values)
+  positions-held = go (keep_positions index.fields)
+    where
+      go : (b : Bool) → Either b (Holds (cond b (Some (postings_of (intervals_of options) index).prx) None)
+          (λ _. prx_plan index.fields (dictionary_written (lines_written (intervals_of options) (postings_of (intervals_of options) index).lines)).numbers index.size (infos_of (dictionary_written (lines_written (intervals_of options) (postings_of (intervals_of options) index).lines))) read.values)
+          (cond b read.occurrences (no_positions read.values))) (cond b read.occurrences (no_positions read.values)) (no_positions read.values)
+      go true = read.positions
+      go false = refl
+
+  norms-held : HoldColumns index.size index.fields parts.index.nrm index.norms
+  norms-held = columns-held index.size index.fields index.norms v.norms

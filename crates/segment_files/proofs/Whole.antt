@@ -1,6 +1,6 @@
 -- The canonical files of an index stand for it.
 use Rattle.std.proofs.Common.{◌≡◌, ℕ, ◌^◌, ◌<◌, ◌≤◌, Bool, true, false, cond, List, [], ◌∷◌, length, map, Option, Some, None, refl, sym, ap, subst, ◌∙◌, arith}
-use Rattle.std.specs.Prelude.{All, is_some}
+use Rattle.std.specs.Prelude.{◌&&◌, All, is_some}
 use Rattle.lu_grammar.specs.Bytes.{IsBytes}
 use Rattle.lu_grammar.specs.Meaning.{Reads}
 use Rattle.lu_types.specs.Bits as bit
@@ -15,6 +15,8 @@ use Rattle.lu_model.proofs.Each.{each-from_all}
 use Rattle.field_infos.specs.Fnm.{fnm_plan}
 use Rattle.field_infos.specs.Spelling.{fnm_spelling}
 use Rattle.stored_fields.specs.Values.{Document}
+use Rattle.stored_fields.specs.Places.{fdx_plan}
+use Rattle.stored_fields.specs.Documents.{fdt_plan}
 use Rattle.stored_fields.specs.Stores.{whole_store}
 use Rattle.stored_fields.specs.Writing.{fdx_bytes, fdt_bytes}
 use Rattle.term_dict.specs.Dictionary.{Dictionary, tis_plan}
@@ -23,8 +25,10 @@ use Rattle.term_dict.specs.Laws.{dictionary_written}
 use Rattle.term_dict.specs.Writing.{TermsWritten, AreIntervals}
 use Rattle.freq_skips.specs.Terms.{TermData, frq_plan}
 use Rattle.positions.specs.Terms.{prx_plan}
-use Rattle.doc_marks.specs.Norms.{nrm_spelling}
-use Rattle.term_vectors.specs.Vectors.{StoredVector}
+use Rattle.doc_marks.specs.Norms.{nrm_plan, nrm_spelling}
+use Rattle.term_vectors.specs.Places.{tvx_plan}
+use Rattle.term_vectors.specs.Fields.{tvd_plan}
+use Rattle.term_vectors.specs.Vectors.{StoredVector, tvf_plan}
 use Rattle.term_vectors.specs.VectorBytes.{tvx_bytes, tvd_bytes, tvf_bytes}
 use Rattle.segment_infos.specs.declared.infos.MapPair.{MapPair}
 use Rattle.segment_infos.specs.declared.infos.SegInfo.{SegInfo}
@@ -32,16 +36,17 @@ use Rattle.check_index.specs.Files.{PartFiles, FolderFiles}
 use Rattle.check_index.specs.Terms.{infos_of, listed_terms}
 use Rattle.check_index.specs.Positions.{TermOccurrences, no_positions}
 use Rattle.check_index.specs.Indexed.{indexed_terms}
-use Rattle.check_index.specs.Norms.{FieldNorms}
+use Rattle.check_index.specs.Norms.{FieldNorms, norm_count, norms_from}
+use Rattle.check_index.specs.Vectors.{have_vectors, no_vectors}
 use Rattle.check_index.specs.Segments.{Segment, Contents, Columns, segment_of, segment_files}
-use Rattle.check_index.specs.Stands.{Holds, Either, AreStored, AreVectors, HoldColumns, SegmentStands}
+use Rattle.check_index.specs.Stands.{Holds, AreOwn, Either, AreStored, AreVectors, HoldColumns, HoldVectors, SegmentStands}
 use Rattle.check_index.proofs.ReadBytes.{read-bytes}
 use Rattle.check_index.proofs.StandsLaws.{stands-from}
 use Rattle.segment_files.specs.declared.options.WriteOptions.{WriteOptions}
 use Rattle.segment_files.specs.Postings.{PostingIntervals, PostingParts, no_parts, prx_bytes, lines_written, tis_bytes, tii_bytes}
 use Rattle.segment_files.specs.Stores.{canonical_store}
 use Rattle.segment_files.specs.Parts.{keep_positions, have_norms, norm_columns, intervals_of, postings_of, canonical_parts_of}
-use Rattle.segment_files.specs.Written.{packed_file, packed_if, canonical_files, too_large_file}
+use Rattle.segment_files.specs.Written.{packed_file, packed_if, canonical_files, all_written, first_past, too_large_file}
 use Rattle.segment_files.specs.Lines.{new_line, folder_with}
 use Rattle.segment_files.proofs.Handing.{IsGoodEntry}
 use Rattle.segment_files.proofs.PrxBytes.{all-omitted, prx_bytes-omitted}
@@ -177,3 +182,114 @@ module _ (options : WriteOptions) (index : Index) (v : IsValid index) (fit : too
 
   norms-held : HoldColumns index.size index.fields parts.index.nrm index.norms
   norms-held = columns-held index.size index.fields index.norms v.norms
+
+  -- the vectors' files stand for the vectors, where a field has vectors
+  abbrev pub HoldOwnVectors : Type 0
+  HoldOwnVectors = have_vectors index.fields ≡ true → AreVectors (record { total = length index.vectors; window = whole_store (length index.vectors) }) index.fields (canonical_store true index.stored index.vectors) index.vectors
+
+  module _ (own_vectors : HoldOwnVectors) (diagnostics : List MapPair) where
+    abbrev folder : FolderFiles
+    folder = folder_with (canonical_files options index).files
+
+    abbrev line : SegInfo
+    line = new_line options.number diagnostics (canonical_files options index)
+
+    good-vectors : (documents : List (List StoredVector)) → Each (λ (d : List StoredVector). All (IsVector index.fields) d) documents → Each (Each (IsVector index.fields)) documents
+    good-vectors [] h = tt
+    good-vectors (d ∷ documents) h = (each-from_all (IsVector index.fields) d h.0, good-vectors documents h.1)
+
+    vectors-stand : HoldVectors line index.fields parts.documents index.vectors
+    vectors-stand =
+        subst (λ (n : ℕ). Either (have_vectors index.fields && is_some parts.documents.tvx) (AreVectors (record { total = n; window = whole_store n }) index.fields parts.documents index.vectors) index.vectors (no_vectors n)) v.vectors
+        (vectors-held index.fields index.stored index.vectors (good-vectors index.vectors (each-from_all (λ (d : List StoredVector). All (IsVector index.fields) d) index.vectors v.vector_fields)) own_vectors)
+
+    vectors-there : (b : Bool) → (b ≡ true → AreVectors (record { total = length index.vectors; window = whole_store (length index.vectors) }) index.fields (canonical_store true index.stored index.vectors) index.vectors)
+        → IfThere (canonical_store b index.stored index.vectors).tvx × IfThere (canonical_store b index.stored index.vectors).tvd × IfThere (canonical_store b index.stored index.vectors).tvf
+    vectors-there true h =
+        let a = h refl in
+        (read-bytes (tvx_plan (length index.vectors)) (tvx_bytes index.vectors) a.places a.places_held,
+        read-bytes (tvd_plan index.fields (whole_store (length index.vectors)) a.places) (tvd_bytes index.vectors) a.slots a.slots_held,
+        read-bytes (tvf_plan a.slots) (tvf_bytes index.vectors) a.all a.vectors_held)
+    vectors-there false h = (tt, tt, tt)
+
+    prx-there : (b : Bool) → IfThere (cond b (Some postings.prx) None)
+    prx-there true = read-bytes (prx_plan index.fields dictionary.numbers index.size (infos_of dictionary) read.values) postings.prx read.occurrences read.positions
+    prx-there false = tt
+
+    nrm-there : (b : Bool) → Either b ((columns : List (List ℕ)) × Holds (cond b (Some (nrm_spelling (norm_columns index.norms))) None) (λ _. nrm_plan (norm_count index.fields) index.size) columns × (index.norms ≡ norms_from 0 columns index.fields)) index.norms (map (λ _. None) index.fields) → IfThere (cond b (Some (nrm_spelling (norm_columns index.norms))) None)
+    nrm-there true h = read-bytes (nrm_plan (norm_count index.fields) index.size) (nrm_spelling (norm_columns index.norms)) h.0 h.1
+    nrm-there false h = tt
+
+    bytes-there : AreBytesThere parts
+    bytes-there =
+        let v3 = vectors-there (have_vectors index.fields) own_vectors in
+        record {
+          fnm = read-bytes (fnm_plan (keep_positions index.fields) None) (fnm_spelling index.fields) index.fields fnm-held;
+          fdx = read-bytes (fdx_plan index.size (whole_store index.size)) (fdx_bytes index.stored) store-held.places store-held.places_held;
+          fdt = read-bytes (fdt_plan (whole_store index.size) (length index.fields) store-held.places) (fdt_bytes index.stored) store-held.all store-held.documents_held;
+          tis = read-bytes (tis_plan index.fields index.size (length (tis_bytes written))) (tis_bytes written) dictionary dictionary-held;
+          tii = read-bytes (tii_plan dictionary) (tii_bytes written) tt index-held;
+          frq = read-bytes (frq_plan index.fields dictionary.numbers index.size (infos_of dictionary)) postings.frq read.values entries-held;
+          prx = prx-there (keep_positions index.fields);
+          nrm = nrm-there (have_norms index.fields) norms-held;
+          tvx = v3.0;
+          tvd = v3.1;
+          tvf = v3.2;
+        }
+
+    -- the bytes of all parts
+    bytes-of : PartBytes
+    bytes-of = record {
+      fnm = fnm_spelling index.fields;
+      fdx = fdx_bytes index.stored;
+      fdt = fdt_bytes index.stored;
+      tis = tis_bytes written;
+      tii = tii_bytes written;
+      frq = postings.frq;
+      prx = postings.prx;
+      nrm = nrm_spelling (norm_columns index.norms);
+      tvx = tvx_bytes index.vectors;
+      tvd = tvd_bytes index.vectors;
+      tvf = tvf_bytes index.vectors;
+    }
+
+    is-own : AreOwn options.compound folder options.number parts
+    unfolding bytes-of
+    is-own =
+        let few = options.is_number in
+        own-parts options.number bytes-of (keep_positions index.fields) (have_norms index.fields) (have_vectors index.fields) options.compound (omega (arith, few)) bytes-there (λ packed.
+            let none : first_past options.limits.file_bytes (all_written true options.number parts) ≡ None = ap (λ (b : Bool). first_past options.limits.file_bytes (all_written b options.number parts)) (sym packed) ∙ fit in
+            let le = packed-within options.limits.file_bytes options.number parts none in
+            let most = options.limits.few_bytes in
+            omega (arith, le, most))
+
+    stands : SegmentStands folder line segment
+    stands = record {
+      own = parts;
+      is_own = is-own;
+      documents = parts.documents;
+      are_documents = refl;
+      fnm = fnm-held;
+      stored = store-held;
+      tis = dictionary-held;
+      tii = index-held;
+      frq = entries-held;
+      prx = positions-held;
+      columns = index.norms;
+      nrm = norms-held;
+      separate = separate-stand index.fields index.size index.norms;
+      del = refl;
+      vectors = vectors-stand;
+      value = refl;
+    }
+
+    -- an index by its parts
+    index_made : List IndexedTerm → List ℕ → Index
+    index_made terms deleted = record { size = index.size; fields = index.fields; stored = index.stored; terms = terms; norms = index.norms; vectors = index.vectors; deleted = deleted }
+
+    is-index : index.deleted ≡ [] → segment.index ≡ index
+    unfolding index_made
+    is-index none = ap (λ (terms : List IndexedTerm). index_made terms []) again ∙ ap (λ (deleted : List ℕ). index_made index.terms deleted) (sym none)
+
+    pub files-stand : index.deleted ≡ [] → (x : Segment) × StandFor (segment_files folder line) x × (x.index ≡ index)
+    files-stand none = (segment, stands-from folder line segment stands, is-index none)

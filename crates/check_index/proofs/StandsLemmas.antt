@@ -7,7 +7,7 @@ use Rattle.lu_types.specs.declared.kind.FileKind.{FileKind}
 use Rattle.lu_types.specs.declared.kind.FileKind.TheVariants.{Tvx, Tvd, Tvf}
 use Rattle.lu_types.specs.Tables.{TableField}
 use Rattle.lu_types.specs.declared.stored.Window.{Window}
-use Rattle.stored_fields.specs.Values.{Document}
+use Rattle.stored_fields.specs.Values.{StoredDocument}
 use Rattle.stored_fields.specs.Stores.{store_files}
 use Rattle.term_vectors.specs.declared.fields.StorePart.{StorePart}
 use Rattle.term_vectors.specs.declared.layout.DocumentPlaces.{DocumentPlaces}
@@ -39,12 +39,12 @@ either-stand true otherwise x files So stand h = stand h
 either-stand false otherwise x files So stand h = h
 
 -- a store
-pub store-was : (total : List ℕ → ℕ) (window : Window) (fields : ℕ) (fdx fdt : Option (List ℕ)) (stored : List Document) → StandFor (store_files total (λ _. window) fields fdx fdt) stored → AreStored total window fields fdx fdt stored
+pub store-was : (total : List ℕ → ℕ) (window : Window) (fields : ℕ) (fdx fdt : Option (List ℕ)) (stored : List StoredDocument) → StandFor (store_files total (λ _. window) fields fdx fdt) stored → AreStored total window fields fdx fdt stored
 store-was total window fields None fdt stored h = absurd h
 store-was total window fields (Some fdx) None stored (places, reads, h) = absurd h
 store-was total window fields (Some fdx) (Some fdt) stored (places, reads, (all, also, is)) = record { places = places; places_held = reads; all = all; documents_held = also; windowed_is = is }
 
-pub store-stand : (total : List ℕ → ℕ) (window : Window) (fields : ℕ) (fdx fdt : Option (List ℕ)) (stored : List Document) → AreStored total window fields fdx fdt stored → StandFor (store_files total (λ _. window) fields fdx fdt) stored
+pub store-stand : (total : List ℕ → ℕ) (window : Window) (fields : ℕ) (fdx fdt : Option (List ℕ)) (stored : List StoredDocument) → AreStored total window fields fdx fdt stored → StandFor (store_files total (λ _. window) fields fdx fdt) stored
 store-stand total window fields None fdt stored h = absurd h.places_held
 store-stand total window fields (Some fdx) None stored h = absurd h.documents_held
 store-stand total window fields (Some fdx) (Some fdt) stored h = (h.places, h.places_held, (h.all, h.documents_held, h.windowed_is))

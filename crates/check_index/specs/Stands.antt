@@ -8,7 +8,7 @@ use Rattle.lu_types.specs.Tables.{TableField}
 use Rattle.lu_types.specs.declared.stored.SharedStore.{SharedStore}
 use Rattle.lu_types.specs.declared.stored.Window.{Window}
 use Rattle.field_infos.specs.Fnm.{fnm_plan}
-use Rattle.stored_fields.specs.Values.{Document}
+use Rattle.stored_fields.specs.Values.{StoredDocument}
 use Rattle.stored_fields.specs.Places.{fdx_plan}
 use Rattle.stored_fields.specs.Documents.{fdt_plan}
 use Rattle.stored_fields.specs.Stores.{total_of, whole_store, windowed}
@@ -61,15 +61,15 @@ AreDocuments folder (Some store) own documents = AreShared store.compound folder
 -- ---- what stands in them
 
 -- the stored documents are those of a store that its window has
-pub record AreStored (total : List ℕ → ℕ) (window : Window) (fields : ℕ) (fdx fdt : Option (List ℕ)) (stored : List Document) : Type 0 where
+pub record AreStored (total : List ℕ → ℕ) (window : Window) (fields : ℕ) (fdx fdt : Option (List ℕ)) (stored : List StoredDocument) : Type 0 where
   pub places : List ℤ
   pub places_held : Holds fdx (λ bytes. fdx_plan (total bytes) window) places
-  pub all : List Document
+  pub all : List StoredDocument
   pub documents_held : Holds fdt (λ _. fdt_plan window fields places) all
   pub windowed_is : stored ≡ windowed window all
 
 -- the store is the segment's own, of as many documents; or a shared one, of which it takes its part
-abbrev pub HoldStored : Option SharedStore → ℕ → ℕ → Option (List ℕ) → Option (List ℕ) → List Document → Type 0
+abbrev pub HoldStored : Option SharedStore → ℕ → ℕ → Option (List ℕ) → Option (List ℕ) → List StoredDocument → Type 0
 HoldStored None size fields fdx fdt stored = AreStored (λ _. size) (whole_store size) fields fdx fdt stored
 HoldStored (Some store) size fields fdx fdt stored = AreStored total_of (window_of store size) fields fdx fdt stored
 

@@ -5,7 +5,8 @@ ghost use Rattle.lu_grammar.specs.Parts.{vlong};
 ghost use Rattle.lu_grammar.specs.Reading.{read_part};
 ghost use Rattle.freq_skips.specs.Levels.{level_count, data_count, IsSmall};
 ghost use Rattle.freq_skips.specs.Walks.{start_in, value_from, points_in};
-ghost use Rattle.freq_skips.specs.Points.{is_highest, data_below, find_steps, ticked};
+ghost use Rattle.lu_prims.specs.Steps.{ticked};
+ghost use Rattle.freq_skips.specs.Points.{is_highest, data_below, find_steps};
 ghost use Rattle.freq_skips.specs.Finding.{CanSearch, LevelsLeft, LevelStands, IsPassed, StandsOn, StopsAt};
 
 use crate::datum::{Point, good_datum};

@@ -3,7 +3,8 @@ use Rattle.std.specs.Prelude.{min, ◌==◌, if◌then◌else◌}
 use Rattle.freq_skips.specs.declared.rules.RuledTerm.{RuledTerm}
 use Rattle.freq_skips.specs.Levels.{level_count, data_count, stride}
 use Rattle.freq_skips.specs.Walks.{start_in, value_from}
-use Rattle.freq_skips.specs.Points.{is_highest, data_below, find_steps, ticked}
+use Rattle.lu_prims.specs.Steps.{ticked}
+use Rattle.freq_skips.specs.Points.{is_highest, data_below, find_steps}
 use Rattle.freq_skips.specs.Finding.{LevelsLeft, IsPassed}
 use Rattle.freq_skips.proofs.Powers.{stride-two}
 use Rattle.freq_skips.proofs.LevelsLemmas.{power-less}

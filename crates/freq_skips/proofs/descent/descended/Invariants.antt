@@ -1,7 +1,8 @@
 use Rattle.std.proofs.Common.{◌≡◌, ℕ, ◌^◌, ◌<◌, ◌≤◌}
 use Rattle.freq_skips.specs.Levels.{level_count}
 use Rattle.freq_skips.specs.Walks.{start_in, value_from}
-use Rattle.freq_skips.specs.Points.{data_below, find_steps, ticked}
+use Rattle.lu_prims.specs.Steps.{ticked}
+use Rattle.freq_skips.specs.Points.{data_below, find_steps}
 use Rattle.freq_skips.specs.Finding.{LevelsLeft, IsPassed}
 use Rattle.freq_skips.proofs.descent.descended.Given as goal
 

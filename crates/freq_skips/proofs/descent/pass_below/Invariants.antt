@@ -2,7 +2,7 @@ use Rattle.std.proofs.Common.{◌≡◌, ◌⊎◌, ℕ, ◌+◌, ◌-◌, ◌<�
 use Rattle.std.specs.Prelude.{slice_index_or}
 use Rattle.freq_skips.specs.Levels.{no_point, data_count, IsSmall}
 use Rattle.freq_skips.specs.Walks.{points_in}
-use Rattle.freq_skips.specs.Points.{ticked}
+use Rattle.lu_prims.specs.Steps.{ticked}
 use Rattle.freq_skips.specs.Finding.{StandsOn}
 use Rattle.freq_skips.proofs.descent.pass_below.Given as goal
 

@@ -5,11 +5,12 @@ use Rattle.freq_skips.specs.declared.rules.RuledTerm.{RuledTerm}
 use Rattle.freq_skips.specs.declared.datum.Point.{Point}
 use Rattle.freq_skips.specs.Walks.{start_in, value_from}
 use Rattle.freq_skips.specs.ProxPlaces.{HasProxPlaces}
-use Rattle.freq_skips.specs.Points.{KnownTerm, IsLastBelow, find_steps, most_steps, ticked}
+use Rattle.lu_prims.specs.Steps.{ticked}
+use Rattle.freq_skips.specs.Points.{KnownTerm, IsLastBelow, find_steps, most_steps}
 use Rattle.freq_skips.specs.Finding.{CanSearch, IsPassed}
 use Rattle.freq_skips.proofs.FoundLemmas.{reached, reached-if, entries-small, found-last, found-prox}
 use Rattle.freq_skips.proofs.SearchedLemmas.{steps-few}
-use Rattle.freq_skips.proofs.StepLemmas.{ticked-le}
+use Rattle.lu_prims.proofs.StepLemmas.{ticked-le}
 use Rattle.freq_skips.proofs.PassLemmas.{IsPassed-small}
 use Rattle.freq_skips.proofs.skips.Skips.find.Goals as goal
 

@@ -30,4 +30,8 @@ pub use removing::{Kept, removable, removable_all};
 pub use writing::{write, write_pending};
 
 #[cfg(test)]
+mod drawn_tests;
+#[cfg(test)]
+mod name_tests;
+#[cfg(test)]
 mod tests;

@@ -2,7 +2,7 @@ mod NameRows
 mod Rows
 pub mod Pieces
 pub mod LineReads
-pub mod NumberIn
+pub mod SegmentNumberIn
 pub mod Judged
 pub mod GoodLines
 pub mod FrontReads

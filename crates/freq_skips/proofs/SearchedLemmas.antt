@@ -12,7 +12,7 @@ use Rattle.freq_skips.specs.Terms.{TermData}
 use Rattle.freq_skips.specs.Walks.{start_in, value_from, points_in}
 use Rattle.lu_prims.specs.Steps.{ticked}
 use Rattle.freq_skips.specs.Points.{is_highest, data_below, data_led, data_searched, data_read, find_steps, highest_count, most_steps}
-use Rattle.freq_skips.specs.Finding.{CanSearch, IsPassed, StopsAt}
+use Rattle.freq_skips.specs.Finding.{CanSearch, HasPassedData, StopsAt}
 use Rattle.freq_skips.proofs.AboveLemmas.{data_count-above}
 use Rattle.lu_prims.proofs.StepLemmas.{ticked-ticked}
 use Rattle.freq_skips.proofs.PointLemmas.{leads-there}

@@ -9,6 +9,7 @@ use Rattle.check_index.specs.Terms.{listed_terms, lists_in}
 use Rattle.check_index.specs.Opened.{contents_of}
 use Rattle.check_index.proofs.PositionFiles.{seen}
 use Rattle.check_index.proofs.ContentFiles.{stored-fault, terms-fault, positions-fault, contents-stand}
+use Rattle.check_index.proofs.OmittedTerms.{omitted-terms}
 use Rattle.check_index.proofs.judging.open_contents.Goals as goal
 
 pub returns-in-Err-open_stored-clause-judged : goal.returns-in-Err-open_stored-clause-judged
@@ -49,3 +50,7 @@ returns-clause-judged c =
     contents-stand (contents_of line.size) files line fields c.in-Ok.ensures c.in-Ok-open_stored.stored
     (subst (λ (n : ℕ). StandFor (stored_files line.store line.size n files.documents.fdx files.documents.fdt) c.in-Ok-open_stored.stored) c.count.ensures.count c.in-Ok-open_stored.ensures.judged)
     (listed_terms o.terms lists) c.in-Ok-open_terms.ensures.judged (contents_of line.size all).occurrences all (c.in-Ok-open_positions.ensures.judged files.index refl) refl
+
+pub open_positions-requires-clause-omitted : goal.open_positions-requires-clause-omitted
+open_positions-requires-clause-omitted c =
+    omitted-terms (part_files_of c.args.files.now).index c.args.info.now c.in-Ok.fields c.in-Ok-open_terms.terms.terms c.in-Ok.ensures c.in-Ok-open_terms.ensures.good

@@ -12,6 +12,8 @@ mod terms;
 mod texts;
 mod vectors;
 mod view;
+mod writer;
+mod written;
 
 pub use document::{VectorDoc, VectorField};
 pub use fields::{StoreWindow, check_fields};
@@ -20,6 +22,7 @@ pub use occurrences::OffsetPair;
 pub use places::check_places;
 pub use terms::VectorTerms;
 pub use view::VectorView;
+pub use writer::{VectorFiles, VectorWriter};
 
 #[cfg(test)]
 mod tests;

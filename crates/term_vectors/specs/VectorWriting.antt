@@ -205,3 +205,21 @@ pub record HoldsOpenTerm (documents : List (List StoredVector)) (count : ℕ) (v
   pub end : w.end ≡ last_vector_end 0 t.spans
   pub lacks_positions : length t.positions + w.lacks_positions ≡ kept_count bit_positions v.bits t.frequency
   pub lacks_spans : length t.spans + w.lacks_spans ≡ kept_count bit_offsets v.bits t.frequency
+
+-- ---- what is handed
+
+-- the vector that is begun, with these terms
+abbrev pub begun_vector : BegunVector → List VectorTerm → StoredVector
+begun_vector v terms = record { field = v.field; bits = v.bits; terms = terms }
+
+-- a term that is begun
+abbrev pub begun_term : List ℕ → ℕ → VectorTerm
+begun_term text freq = record { text = text; frequency = freq; positions = []; spans = [] }
+
+-- a term with one more position
+abbrev pub with_one_position : ℕ → VectorTerm → VectorTerm
+with_one_position p t = record t { positions = t.positions ++ p ∷ [] }
+
+-- a term with one more span
+abbrev pub with_one_span : Span → VectorTerm → VectorTerm
+with_one_span s t = record t { spans = t.spans ++ s ∷ [] }

@@ -3,7 +3,7 @@ use Rattle.std.specs.Prelude.{ℕ, List, Option, option_and_then}
 use Rattle.std.specs.List.{filter_map}
 use Rattle.segment_infos.specs.declared.naming.LuceneName.{LuceneName}
 use Rattle.segment_infos.specs.Generations.{generation_of}
-use Rattle.segment_infos.specs.LuceneNames.{name_in}
+use Rattle.segment_infos.specs.LuceneNames.{lucene_name_in}
 use Rattle.lu_folder.specs.Numbers.{above, segment_of_name, del_generation_of}
 use Rattle.lu_folder.specs.declared.numbering.Counted.{Counted}
 use Rattle.lu_folder.specs.declared.numbering.Counted.TheVariants.{Commits, Segments, Deletions}

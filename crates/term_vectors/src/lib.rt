@@ -12,14 +12,17 @@ mod terms;
 mod texts;
 mod vectors;
 mod view;
+mod writer;
+mod written;
 
 pub use document::{VectorDoc, VectorField};
-pub use fields::{StorePart, check_fields};
+pub use fields::{StoreWindow, check_fields};
 pub use layout::DocumentPlaces;
-pub use occurrences::Pair;
+pub use occurrences::OffsetPair;
 pub use places::check_places;
 pub use terms::VectorTerms;
 pub use view::VectorView;
+pub use writer::{VectorFiles, VectorWriter};
 
 #[cfg(test)]
 mod tests;

@@ -10,3 +10,4 @@ pub use Rattle.lu_grammar.proofs.FileEnds.{nothing_left, trailing, file_was}
 pub use Rattle.lu_grammar.proofs.Turns.{AreUpTo, turns-none, turns-more, turns-whole, turns-fault, turns-trailing}
 pub use Rattle.lu_grammar.proofs.Writers.{Writes, read_file-Writes, Writes-due, Writes-done, Writes-and_then, Writes-none, Writes-turn, Writes-record, Writes-in_turn}
 pub use Rattle.lu_grammar.proofs.SpelledBytes.{IsBytes-nil, IsBytes-cons, IsBytes-append, IsBytes-flat_map, IsBytes-groups, IsBytes-utf8, IsBytes-four, IsBytes-eight, IsBytes-spelling, IsBytes-Spells}
+pub use Rattle.lu_grammar.proofs.FixedLemmas.{int64_there, int64_short, int64_read, int64_not_bad, int32_read}

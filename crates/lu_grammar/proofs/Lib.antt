@@ -13,4 +13,5 @@ pub mod Conditions
 pub mod WasRead
 pub mod FileEnds
 pub mod Turns
+pub mod FixedLemmas
 pub mod Codecs

@@ -14,4 +14,5 @@ pub mod WasRead
 pub mod FileEnds
 pub mod Turns
 pub mod FixedLemmas
+pub mod SplitRecords
 pub mod Codecs

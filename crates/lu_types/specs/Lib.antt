@@ -11,5 +11,6 @@ pub mod Names
 pub mod RuleNumbers
 pub mod Rules
 pub mod StoredFields
+pub mod Stores
 pub mod Tables
 pub mod Terms

@@ -7,9 +7,10 @@ ghost use Rattle.lu_types.specs.Tables.{TableField};
 ghost use Rattle.lu_types.specs.declared.stored.Window.{Window};
 ghost use Rattle.lu_grammar.specs.Bytes.{IsBytes, Cursor};
 ghost use Rattle.lu_grammar.specs.Plans.{read_plan};
+ghost use Rattle.lu_types.specs.Stores.{header_length, greatest_place};
 ghost use Rattle.lu_model.specs.Index.{VectorTerm};
 ghost use Rattle.lu_model.specs.Valid.{IsVectorTerm};
-ghost use Rattle.term_vectors.specs.Format.{vector_format, header_length, document_length, greatest_place, start_modulus, bit_positions, bit_offsets};
+ghost use Rattle.term_vectors.specs.Format.{vector_format, document_length, start_modulus, bit_positions, bit_offsets};
 ghost use Rattle.term_vectors.specs.Stores.{AreVectors, vector_files};
 ghost use Rattle.term_vectors.specs.Vectors.{Vector, terms_plan};
 

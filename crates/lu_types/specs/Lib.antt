@@ -8,6 +8,7 @@ pub mod Joins
 pub mod Judging
 pub mod Kinds
 pub mod Names
+pub mod Occurrences
 pub mod RuleNumbers
 pub mod Rules
 pub mod StoredFields

@@ -1,5 +1,5 @@
 //! Texts in one buffer, each made of the first bytes of the one before and of others (format page, "Terms").
-ghost use Rattle.std.specs.Prelude.{◌≡◌, ◌+◌, ◌≤◌, ◌++◌, length, take, IfOk, OnOk, IsOk, vec_capacity};
+ghost use Rattle.std.specs.Prelude.{◌≡◌, ◌+◌, ◌≤◌, ◌++◌, length, take, IfOk, OnOk, OnErr, IsOk, vec_capacity};
 ghost use Rattle.std.specs.Str.{IsUtf8, is_utf8};
 
 use crate::memory::OutOfMemory;
@@ -28,6 +28,7 @@ fn is_text(bytes: &[u8], from: usize) -> bool
 /// Keeps so many bytes of the text and appends the suffix. An `Err` leaves the text that was kept.
 pub fn follow(text: &mut Vec<u8>, prefix: usize, suffix: &[u8]) -> Result<(), OutOfMemory>
     ensures ok { OnOk result (text.new.items ≡ take prefix text.old.items ++ suffix.now) }
+    ensures err { OnErr result (text.new.items ≡ take prefix text.old.items) }
     ensures capacity { vec_capacity text.old ≤ vec_capacity text.new }
     ensures room { prefix ≤ length text.old.items → prefix + length suffix.now ≤ vec_capacity text.old → IsOk result }
 {
@@ -36,11 +37,12 @@ pub fn follow(text: &mut Vec<u8>, prefix: usize, suffix: &[u8]) -> Result<(), Ou
     Ok(())
 }
 
-/// The same where the bytes are a text, and answers whether they are one again.
+/// The same where the bytes are a text, and answers whether they are one again. An `Err` leaves the bytes that were kept.
 pub fn follow_text(text: &mut Vec<u8>, prefix: usize, suffix: &[u8]) -> Result<bool, OutOfMemory>
     requires prefix { prefix ≤ length text.old.items }
     requires text { IsUtf8 text.old.items }
-    ensures { IfOk result (λ valid. (text.new.items ≡ take prefix text.old.items ++ suffix.now) × (valid ≡ is_utf8 text.new.items)) }
+    ensures ok { IfOk result (λ valid. (text.new.items ≡ take prefix text.old.items ++ suffix.now) × (valid ≡ is_utf8 text.new.items)) }
+    ensures err { OnErr result (text.new.items ≡ take prefix text.old.items) }
 {
     let cut = cut_before(text.as_slice(), prefix);
     follow(text, prefix, suffix)?;

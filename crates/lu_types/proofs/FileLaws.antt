@@ -1,5 +1,5 @@
 -- Files that are needed stand for one thing, or have one first fault.
-use Rattle.std.proofs.Common.{◌≡◌, ◌⊎◌, ℕ, List, [], ◌∷◌, ◌++◌, Option, Some, None, Result, Ok, Err, refl, sym, ap, subst, ◌∙◌, inl, inr}
+use Rattle.std.proofs.Common.{◌≡◌, ◌⊎◌, ℕ, List, [], ◌∷◌, ◌++◌, Option, Some, None, Result, Ok, Err, refl, sym, subst, ◌∙◌, inl, inr}
 use Rattle.std.specs.Option.{ForSome}
 use Rattle.lu_grammar.specs.Bytes.{IsBytes}
 use Rattle.lu_grammar.specs.Plans.{Plan, Broken, read_file}

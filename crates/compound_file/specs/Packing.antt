@@ -37,12 +37,12 @@ entries_bytes start [] = []
 entries_bytes start (part ∷ parts) = spelling int64 (pos start) ++ spelling text part.name ++ entries_bytes (start + length part.bytes) parts
 
 -- the bytes of some parts, one after another, and how many they are
-abbrev pub contents : List NamedPart → List ℕ
-contents parts = flat_map (λ part. part.bytes) parts
+abbrev pub part_contents : List NamedPart → List ℕ
+part_contents parts = flat_map (λ part. part.bytes) parts
 
 abbrev pub contents_size : List NamedPart → ℕ
 contents_size parts = sum_by (λ part. length part.bytes) parts
 
 -- the one spelling of some parts: how many there are, an entry for each, and then the bytes of each
 abbrev pub cfs_bytes : List NamedPart → List ℕ
-cfs_bytes parts = spelling num (length parts) ++ entries_bytes (directory_size parts) parts ++ contents parts
+cfs_bytes parts = spelling num (length parts) ++ entries_bytes (directory_size parts) parts ++ part_contents parts

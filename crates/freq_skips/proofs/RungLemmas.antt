@@ -5,10 +5,10 @@ use Rattle.lu_grammar.specs.Bytes.{IsBytes, Cursor, place_in}
 use Rattle.lu_grammar.specs.Plans.{times}
 use Rattle.freq_skips.specs.declared.rules.RuledTerm.{RuledTerm}
 use Rattle.freq_skips.specs.declared.datum.Point.{Point}
-use Rattle.freq_skips.specs.declared.walk.Rung.{Rung}
+use Rattle.freq_skips.specs.declared.walk.LevelPlace.{LevelPlace}
 use Rattle.freq_skips.specs.Entries.{Posting, no_posting, postings_from}
-use Rattle.freq_skips.specs.Levels.{level_of, level_count, stride, data_count, datum_kind, no_datum, no_point, Follows, AreData, Passes, IsSmall}
-use Rattle.freq_skips.specs.Walks.{IsOnLevel, IsFresh, start_in, points_in}
+use Rattle.freq_skips.specs.Levels.{level_of, level_count, stride, data_count, datum_kind, no_datum, no_point, Follows, AreData, IsNextDatum, AreSmallSums}
+use Rattle.freq_skips.specs.Walks.{IsOnLevel, IsDatumOfLast, start_in, points_in}
 use Rattle.freq_skips.proofs.Powers.{stride-two, quotient-below, quotient-same, multiple-next, multiple-index}
 use Rattle.lu_grammar.proofs.Codecs.{place_in-after}
 
@@ -16,17 +16,17 @@ use Rattle.lu_grammar.proofs.Codecs.{place_in-after}
 abbrev pub TakesNext : RuledTerm → List Posting → ℕ → ℕ → Point → Cursor → ℕ → Point → Cursor → Type 0
 TakesNext t postings level count last here count' last' next = (stated : Option ℕ) (above : List (List Point)) (begin : Cursor) (points : List Point) (end : Cursor) → AreData t postings (level_of level stated above) begin points end
     → Follows t postings (level_of level stated above) begin count last here → count < data_count t level
-    → Passes t postings (level_of level stated above) begin points count last' next × (count' ≡ count + 1)
+    → IsNextDatum t postings (level_of level stated above) begin points count last' next × (count' ≡ count + 1)
 
-pub IsOnLevel-below : (t : RuledTerm) (postings : List Posting) (level : ℕ) (points : List Point) (frq : List ℕ) (before : ℕ) (r : Rung) → 2 ≤ t.rules.skip_interval → (before + 1) % stride t level ≡ 0 → before < t.info.doc_freq
+pub IsOnLevel-below : (t : RuledTerm) (postings : List Posting) (level : ℕ) (points : List Point) (frq : List ℕ) (before : ℕ) (r : LevelPlace) → 2 ≤ t.rules.skip_interval → (before + 1) % stride t level ≡ 0 → before < t.info.doc_freq
     → IsOnLevel t postings level points frq before r → r.count < data_count t level
 IsOnLevel-below t postings level points frq before r two e lt h =
     let s2 = stride-two t.rules.skip_interval level two in
     let below = quotient-below before (stride t level) t.info.doc_freq (omega arith) e lt in
     subst (λ (n : ℕ). n < data_count t level) (sym h.number) below
 
-pub IsOnLevel-next : (t : RuledTerm) (postings : List Posting) (level : ℕ) (points : List Point) (frq : List ℕ) (before : ℕ) (r : Rung) (count place : ℕ) (last : Point) (next : Cursor) → IsBytes frq → 2 ≤ t.rules.skip_interval
-    → (before + 1) % stride t level ≡ 0 → before < t.info.doc_freq → (h : IsOnLevel t postings level points frq before r) → TakesNext t postings level r.count r.last (place_in frq r.place) count last next → IsSmall count last → place ≡ next.place
+pub IsOnLevel-next : (t : RuledTerm) (postings : List Posting) (level : ℕ) (points : List Point) (frq : List ℕ) (before : ℕ) (r : LevelPlace) (count place : ℕ) (last : Point) (next : Cursor) → IsBytes frq → 2 ≤ t.rules.skip_interval
+    → (before + 1) % stride t level ≡ 0 → before < t.info.doc_freq → (h : IsOnLevel t postings level points frq before r) → TakesNext t postings level r.count r.last (place_in frq r.place) count last next → AreSmallSums count last → place ≡ next.place
     → IsOnLevel t postings level points frq (before + 1) (record { place = place; count = count; last = last })
 IsOnLevel-next t postings level points frq before r count place last next fits two e lt h takes small at =
     let s2 = stride-two t.rules.skip_interval level two in
@@ -49,10 +49,10 @@ IsOnLevel-next t postings level points frq before r count place last next fits t
       within = omega (arith, at, after.1);
     }
 
-pub IsFresh-next : (t : RuledTerm) (frq : List ℕ) (level before : ℕ) (r : Rung) (count : ℕ) (last : Point) (next : Cursor) → 2 ≤ t.rules.skip_interval → level < level_count t
+pub IsDatumOfLast-next : (t : RuledTerm) (frq : List ℕ) (level before : ℕ) (r : LevelPlace) (count : ℕ) (last : Point) (next : Cursor) → 2 ≤ t.rules.skip_interval → level < level_count t
     → (before + 1) % stride t level ≡ 0 → before < t.info.doc_freq → (h : IsOnLevel t (postings_from t (start_in t frq)) level (points_in t frq level) frq before r)
-    → TakesNext t (postings_from t (start_in t frq)) level r.count r.last (place_in frq r.place) count last next → IsFresh t frq level (before + 1) last
-IsFresh-next t frq level before r count last next two below_count e lt h takes =
+    → TakesNext t (postings_from t (start_in t frq)) level r.count r.last (place_in frq r.place) count last next → IsDatumOfLast t frq level (before + 1) last
+IsDatumOfLast-next t frq level before r count last next two below_count e lt h takes =
     let s2 = stride-two t.rules.skip_interval level two in
     let ps = postings_from t (start_in t frq) in
     let below = IsOnLevel-below t ps level (points_in t frq level) frq before r two e lt h in
@@ -69,7 +69,7 @@ IsFresh-next t frq level before r count last next two below_count e lt h takes =
     }
 
 -- an entry without a datum on the level
-pub IsOnLevel-same : (t : RuledTerm) (postings : List Posting) (level : ℕ) (points : List Point) (frq : List ℕ) (before : ℕ) (r : Rung) → 2 ≤ t.rules.skip_interval → (before + 1) % stride t level ≢ 0
+pub IsOnLevel-same : (t : RuledTerm) (postings : List Posting) (level : ℕ) (points : List Point) (frq : List ℕ) (before : ℕ) (r : LevelPlace) → 2 ≤ t.rules.skip_interval → (before + 1) % stride t level ≢ 0
     → IsOnLevel t postings level points frq before r → IsOnLevel t postings level points frq (before + 1) r
 IsOnLevel-same t postings level points frq before r two ne h =
     let s2 = stride-two t.rules.skip_interval level two in

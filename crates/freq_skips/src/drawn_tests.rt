@@ -341,7 +341,7 @@ fn same_walk(
     for index in 0..drawn.entries.len() {
         assert!(rt; index < 100 && found < 10_000);
         let given = drawn.entries[index];
-        let wanted = Walked {
+        let wanted = WalkedEntry {
             index: index as u32,
             doc: given.doc,
             freq: frequency(drawn, &given),

@@ -3,7 +3,7 @@ ghost use Rattle.std.specs.Prelude.{◌≡◌, ℕ, suc, ◌+◌, ◌^◌, ◌<�
 ghost use Rattle.lu_grammar.specs.Bytes.{IsBytes, Cursor};
 ghost use Rattle.lu_grammar.specs.Plans.{read_plan};
 ghost use Rattle.freq_skips.specs.Entries.{Posting};
-ghost use Rattle.freq_skips.specs.Levels.{level_of, wanted as is_wanted, data_count, level_data, Follows, AreData, Passes, IsSmall};
+ghost use Rattle.freq_skips.specs.Levels.{level_of, wanted as is_wanted, data_count, level_data, Follows, AreData, IsNextDatum, AreSmallSums};
 
 use crate::datum::{Point, Wanted, good_datum, next_datum};
 use crate::rules::RuledTerm;
@@ -38,10 +38,10 @@ impl<'a> Following<'a> {
     ) -> Result<(), u16>
         requires bytes { IsBytes self.old.cur.rest }
         requires start_before { start ≤ self.old.cur.place }
-        requires small { IsSmall self.old.count self.old.last }
+        requires small { AreSmallSums self.old.count self.old.last }
         requires few { self.old.count < 2 ^ 31 }
         ensures bytes { OnOk result (IsBytes self.new.cur.rest × (start ≤ self.new.cur.place)) }
-        ensures small { IsSmall self.new.count self.new.last }
+        ensures small { AreSmallSums self.new.count self.new.last }
         ensures count { OnOk result (self.new.count ≡ self.old.count + 1) }
         ensures goes_on { MatchResult result
             (λ _. (postings : List Posting) (stated : Option ℕ) (above : List (List Point)) (begin : Cursor)
@@ -65,14 +65,14 @@ impl<'a> Following<'a> {
 
     /// Passes one datum of a level whose data are good.
     pub fn pass(&mut self, term: &RuledTerm, level: u32)
-        requires small { IsSmall self.old.count self.old.last }
+        requires small { AreSmallSums self.old.count self.old.last }
         requires few { self.old.count < 2 ^ 31 }
-        ensures small { IsSmall self.new.count self.new.last }
+        ensures small { AreSmallSums self.new.count self.new.last }
         ensures count { self.new.count ≤ self.old.count + 1 }
         ensures goes_on { (postings : List Posting) (stated : Option ℕ) (above : List (List Point)) (begin : Cursor) (points : List Point) (end : Cursor)
             → AreData term.now postings (level_of level stated above) begin points end
             → Follows term.now postings (level_of level stated above) begin self.old.count self.old.last self.old.cur → self.old.count < data_count term.now level
-            → Passes term.now postings (level_of level stated above) begin points self.old.count self.new.last self.new.cur × (self.new.count ≡ self.old.count + 1) }
+            → IsNextDatum term.now postings (level_of level stated above) begin points self.old.count self.new.last self.new.cur × (self.new.count ≡ self.old.count + 1) }
     {
         if let Some(point) = good_datum(&mut self.cur, term, level, &self.last) {
             self.count += 1;

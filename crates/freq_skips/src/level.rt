@@ -5,10 +5,10 @@ ghost use Rattle.lu_grammar.specs.Plans.{read_plan};
 ghost use Rattle.lu_types.specs.declared.kind.FileKind.TheVariants.{Frq};
 ghost use Rattle.lu_types.specs.Judging.{IsBroken};
 ghost use Rattle.freq_skips.specs.declared.datum.Point.{Point};
-ghost use Rattle.freq_skips.specs.Entries.{Posting, postings_from, AreEntries, AreGoodFrom, Stands};
+ghost use Rattle.freq_skips.specs.Entries.{Posting, postings_from, AreEntries, AreGoodFrom, IsBehindEntries};
 ghost use Rattle.std.specs.Option.{option_map};
 ghost use Rattle.freq_skips.specs.Levels.{no_point, greatest_power as greatest_power_of, level_count as count_of_levels, level_of, wanted as is_wanted, data_count, stride as stride_of, level_data, child_above as child_of, AreGoodData};
-ghost use Rattle.freq_skips.specs.Walking.{FollowsAbove, IsSmallAbove, StandAbove};
+ghost use Rattle.freq_skips.specs.Walking.{FollowsAbove, AreSmallSumsAbove, StandAbove};
 
 use crate::datum::Wanted;
 use crate::following::{Following, NO_POINT};
@@ -59,8 +59,8 @@ fn child_above(
 ) -> Option<u64>
     requires interval { 2 ≤ term.now.rules.skip_interval }
     requires few { passed < 2 ^ 31 }
-    requires small { IsSmallAbove passed above.old }
-    ensures small { IsSmallAbove (passed + 1) above.new }
+    requires small { AreSmallSumsAbove passed above.old }
+    ensures small { AreSmallSumsAbove (passed + 1) above.new }
     ensures goes_on { (postings : List Posting) (n : ℕ) (points : List (List Point)) → level ≡ suc n → FollowsAbove term.now postings level points passed above.old → passed < data_count term.now n
         → (result ≡ child_of term.now points (suc passed)) × FollowsAbove term.now postings level points (suc passed) above.new }
 {
@@ -134,12 +134,12 @@ fn wanted_next(
     requires within { passed < data_count term.now level.now.number }
     requires number { level.now.number + 1 < 2 ^ 32 }
     requires few { passed < 2 ^ 31 }
-    requires small { IsSmallAbove passed above.old }
-    ensures small { IsSmallAbove (passed + 1) above.new }
-    ensures stands { (start end : Cursor) → AreEntries term.now start end → Stands term.now start entries.old.index entries.old.doc entries.old.cur → entries.old.index ≤ passed * level.now.stride
-        → Stands term.now start entries.new.index entries.new.doc entries.new.cur × (entries.new.index ≤ suc passed * level.now.stride) }
+    requires small { AreSmallSumsAbove passed above.old }
+    ensures small { AreSmallSumsAbove (passed + 1) above.new }
+    ensures stands { (start end : Cursor) → AreEntries term.now start end → IsBehindEntries term.now start entries.old.index entries.old.doc entries.old.cur → entries.old.index ≤ passed * level.now.stride
+        → IsBehindEntries term.now start entries.new.index entries.new.doc entries.new.cur × (entries.new.index ≤ suc passed * level.now.stride) }
     ensures goes_on { (start end : Cursor) (points : List (List Point))
-        → AreEntries term.now start end → Stands term.now start entries.old.index entries.old.doc entries.old.cur → entries.old.index ≤ passed * level.now.stride
+        → AreEntries term.now start end → IsBehindEntries term.now start entries.old.index entries.old.doc entries.old.cur → entries.old.index ≤ passed * level.now.stride
         → FollowsAbove term.now (postings_from term.now start) (suc level.now.number) points passed above.old
         → (result ≡ is_wanted term.now (postings_from term.now start) (level_of level.now.number level.now.stated points) (suc passed))
         × FollowsAbove term.now (postings_from term.now start) (suc level.now.number) points (suc passed) above.new }

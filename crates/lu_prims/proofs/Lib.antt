@@ -8,4 +8,5 @@ pub mod QuotedLemmas
 pub mod Quotients
 pub mod Remainders
 pub mod TextLemmas
+pub mod StepLemmas
 pub mod Units

@@ -15,7 +15,7 @@ use Rattle.positions.specs.Records.{OccurrenceRecord, occurrence_shape, position
 use Rattle.positions.specs.Occurrences.{PostedTerm, occurrence_of, count_at}
 use Rattle.positions.specs.Terms.{term_plan}
 use Rattle.positions.specs.Standing.{count_before, Skims, StandsIn, PassesOver}
-use Rattle.positions.specs.Cursors.{CursorState, StandsInBoth, Agrees, StandsBefore, StandsAmong, StandsWith, IsAmong, posted_term}
+use Rattle.positions.specs.Cursors.{CursorState, StandsInBoth, Agrees, StandsAtEntry, StandsAmong, StandsWith, IsAmong, posted_term}
 use Rattle.positions.proofs.StandLemmas.{Skims-as}
 use Rattle.positions.proofs.AgainLemmas.{StandsFirst, Stands-upto}
 use Rattle.positions.proofs.ValueLemmas.{entry-length}

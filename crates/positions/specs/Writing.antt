@@ -13,16 +13,16 @@ pub record WriterState : Type 0 where
   pub position : ℕ
 
 -- a term is begun
-abbrev pub begun : WriterState → Bool → WriterState
-begun w payloads = record { bytes = w.bytes; payloads = payloads; start = length w.bytes; before = None; position = 0 }
+abbrev pub occurrences_begun : WriterState → Bool → WriterState
+occurrences_begun w payloads = record { bytes = w.bytes; payloads = payloads; start = length w.bytes; before = None; position = 0 }
 
 -- a document is begun
 abbrev pub document_begun : WriterState → WriterState
 document_begun w = record { bytes = w.bytes; payloads = w.payloads; start = w.start; before = None; position = 0 }
 
 -- an occurrence is added
-abbrev pub added : WriterState → Occurrence → WriterState
-added w o = record { bytes = w.bytes ++ record_bytes (written_record w.payloads w.before w.position o); payloads = w.payloads; start = w.start; before = Some (length o.payload); position = o.position }
+abbrev pub occurrence_added : WriterState → Occurrence → WriterState
+occurrence_added w o = record { bytes = w.bytes ++ record_bytes (written_record w.payloads w.before w.position o); payloads = w.payloads; start = w.start; before = Some (length o.payload); position = o.position }
 
 -- the writer holds what was written before, and these occurrences of the term that is begun, entry by entry
 pub record HoldsTerm (w : WriterState) (payloads : Bool) (written : List ℕ) (entries : List (List Occurrence)) : Type 0 where

@@ -14,7 +14,7 @@ ghost use Rattle.positions.specs.Cursors.{StandsInBoth};
 ghost use Rattle.positions.specs.Walked.{posted_by, HasAnswered};
 
 use crate::reading::Reading;
-use freq_skips::{Walk, Walked};
+use freq_skips::{Walk, WalkedEntry};
 use lu_prims::Cur;
 use lu_types::{FileKind, Spot, TermInfo, TermRules};
 
@@ -23,7 +23,7 @@ fn check_entry(
     reading: &mut Reading<'_>,
     walk: &Walk<'_>,
     info: &TermInfo,
-    walked: &Walked,
+    walked: &WalkedEntry,
 ) -> Result<(), Spot>
     requires { HasAnswered walk.now info.now walked.now.index reading.old.payloads }
     ensures payloads { OnOk result (reading.new.payloads ≡ reading.old.payloads) }

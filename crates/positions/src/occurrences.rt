@@ -6,7 +6,7 @@ ghost use Rattle.freq_skips.specs.Points.{IsPoint};
 ghost use Rattle.positions.specs.Occurrences.{count_at};
 ghost use Rattle.positions.specs.Standing.{count_before};
 ghost use Rattle.positions.specs.Cursors.{StandsInBoth, IsPointIn, IsAmong, posted_term};
-ghost use Rattle.positions.specs.Parts.{occurrence_seen};
+ghost use Rattle.positions.specs.Views.{occurrence_seen};
 
 use crate::placing::reading_at;
 use crate::reading::Reading;

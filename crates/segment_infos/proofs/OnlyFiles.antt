@@ -13,7 +13,7 @@ use Rattle.lu_types.specs.RuleNumbers as rules
 use Rattle.segment_infos.specs.declared.infos.SegInfo.{SegInfo}
 use Rattle.segment_infos.specs.declared.record.TheConstants.{FORMAT_NUMBER}
 use Rattle.segment_infos.specs.declared.record.Heading.{Heading}
-use Rattle.segment_infos.specs.Numbers.{is_negative, count_of}
+use Rattle.segment_infos.specs.Numbers.{is_negative, count_or_zero}
 use Rattle.segment_infos.specs.Values.{CommitValue, IsMap, AreLines, IsCommit}
 use Rattle.segment_infos.specs.Records.{CommitRecord, heading, user, seal, heading_shape, map_shape, seal_record}
 use Rattle.segment_infos.specs.Conditions.{heading_conditions, map_conditions}
@@ -33,8 +33,8 @@ pub record IsFront (v : CommitValue) (a : List ℕ) : Type 0 where
 -- the user data, and what they say besides the header and the segments
 pub record IsUser (h : Heading) (segments : List SegInfo) (v : CommitValue) (a : List ℕ) : Type 0 where
   pub is : IsMap v.user
-  pub version : v.version ≡ count_of h.version
-  pub counter : v.counter ≡ count_of h.counter
+  pub version : v.version ≡ count_or_zero h.version
+  pub counter : v.counter ≡ count_or_zero h.counter
   pub segments_are : v.segments ≡ segments
   pub spelled : a ≡ map_bytes v.user
 
@@ -62,13 +62,13 @@ front-only (s ∷ ss) v good none =
     let unbroken : first_broken (heading_conditions h) ≡ None = subst (λ (q : CommitRecord). first_broken (of_heading q) ≡ None) (sym is) good.0.1 in
     let head = heading-is h then.bytes then.first unbroken in
     let there = 0 + length s.front in
-    let split = split_records (times lines_kind (count_of h.count) []) (λ segments. user_plan h segments) there ss v
+    let split = split_records (times lines_kind (count_or_zero h.count) []) (λ segments. user_plan h segments) there ss v
     (subst (λ (q : CommitRecord). AreGood (after_heading q) there ss) (sym is) good.1) (subst (λ (q : CommitRecord). due_after (after_heading q) there ss ≡ done v) (sym is) none) in
     let no_lines : AreLines [] = record { lines = λ k d lt. absurd (omega arith); apart = λ i j d lt inside. absurd (omega arith); sizes = omega arith } in
-    let lines = lines-only (count_of h.count) [] there split.first split.value no_lines split.good split.none in
+    let lines = lines-only (count_or_zero h.count) [] there split.first split.value no_lines split.good split.none in
     let said = user-only h split.value (there + length (bytes_of split.first)) split.second v split.others_good split.others_none in
     let same : v.segments ≡ lines.more = said.segments_are ∙ lines.all in
-    let number : length v.segments ≡ count_of h.count = ap length same ∙ lines.count in
+    let number : length v.segments ≡ count_or_zero h.count = ap length same ∙ lines.count in
     record {
       is = record {
         version = subst (λ (n : ℕ). n < 2 ^ 63) (sym said.version) head.version;
@@ -81,11 +81,11 @@ front-only (s ∷ ss) v good none =
           ∙ ap (λ (t : List ℕ). heading_bytes v ++ t) (split.all ∙ ap (λ (t : List ℕ). t ++ bytes_of split.second) (lines.spelled ∙ ap (flat_map line_bytes) (sym same)) ∙ ap (λ (t : List ℕ). flat_map line_bytes v.segments ++ t) said.spelled);
     }
   where
-    heading_same : (h : Heading) (w : CommitValue) → w.version ≡ count_of h.version → w.counter ≡ count_of h.counter → length w.segments ≡ count_of h.count
-        → spelling int32 FORMAT_NUMBER ++ (spelling int64 (pos (count_of h.version)) ++ (spelling int32 (pos (count_of h.counter)) ++ spelling int32 (pos (count_of h.count)))) ≡ heading_bytes w
+    heading_same : (h : Heading) (w : CommitValue) → w.version ≡ count_or_zero h.version → w.counter ≡ count_or_zero h.counter → length w.segments ≡ count_or_zero h.count
+        → spelling int32 FORMAT_NUMBER ++ (spelling int64 (pos (count_or_zero h.version)) ++ (spelling int32 (pos (count_or_zero h.counter)) ++ spelling int32 (pos (count_or_zero h.count)))) ≡ heading_bytes w
     heading_same h w version counter number =
-        ap (λ (n : ℕ). spelling int32 FORMAT_NUMBER ++ (spelling int64 (pos n) ++ (spelling int32 (pos (count_of h.counter)) ++ spelling int32 (pos (count_of h.count))))) (sym version)
-        ∙ ap (λ (n : ℕ). spelling int32 FORMAT_NUMBER ++ (spelling int64 (pos w.version) ++ (spelling int32 (pos n) ++ spelling int32 (pos (count_of h.count))))) (sym counter)
+        ap (λ (n : ℕ). spelling int32 FORMAT_NUMBER ++ (spelling int64 (pos n) ++ (spelling int32 (pos (count_or_zero h.counter)) ++ spelling int32 (pos (count_or_zero h.count))))) (sym version)
+        ∙ ap (λ (n : ℕ). spelling int32 FORMAT_NUMBER ++ (spelling int64 (pos w.version) ++ (spelling int32 (pos n) ++ spelling int32 (pos (count_or_zero h.count))))) (sym counter)
         ∙ ap (λ (n : ℕ). spelling int32 FORMAT_NUMBER ++ (spelling int64 (pos w.version) ++ (spelling int32 (pos w.counter) ++ spelling int32 (pos n)))) (sym number)
 
 -- ---- the checksum

@@ -5,7 +5,7 @@ ghost use Rattle.lu_types.specs.FilePlans.{StandFor};
 ghost use Rattle.lu_grammar.specs.Bytes.{IsBytes};
 ghost use Rattle.lu_types.specs.Stores.{windowed, header_length, greatest_place};
 ghost use Rattle.stored_fields.specs.Format.{store_format, place_length, bit_tokenized, bit_binary};
-ghost use Rattle.stored_fields.specs.Values.{Document};
+ghost use Rattle.stored_fields.specs.Values.{StoredDocument};
 ghost use Rattle.stored_fields.specs.Stores.{store_files};
 ghost use Rattle.stored_fields.specs.Writing.{AreStorable, IsCheckable, fdx_bytes, fdt_bytes};
 
@@ -14,7 +14,7 @@ use crate::value::{BINARY, TOKENIZED};
 
 /// What the writer gives for some documents is read as exactly these documents, through any window of them.
 pub fn written_is_read()
-    ensures { (documents : List Document) (fields : ℕ) (window : Window) → AreStorable documents → IsCheckable fields window documents
+    ensures { (documents : List StoredDocument) (fields : ℕ) (window : Window) → AreStorable documents → IsCheckable fields window documents
         → StandFor (store_files (λ _. length documents) (λ _. window) fields (Some (fdx_bytes documents)) (Some (fdt_bytes documents)))
         (windowed window documents) }
 {}
@@ -22,9 +22,9 @@ pub fn written_is_read()
 /// Nothing else is read so: two files that are read as a store are what the writer gives for some documents, and are read as those
 /// of them that the window has.
 pub fn only_written_is_read()
-    ensures { (fdx fdt : List ℕ) (fields total : ℕ) (window : Window) (seen : List Document) → IsBytes fdx → IsBytes fdt
+    ensures { (fdx fdt : List ℕ) (fields total : ℕ) (window : Window) (seen : List StoredDocument) → IsBytes fdx → IsBytes fdt
         → StandFor (store_files (λ _. total) (λ _. window) fields (Some fdx) (Some fdt)) seen
-        → (documents : List Document) × (fdx ≡ fdx_bytes documents) × (fdt ≡ fdt_bytes documents) × AreStorable documents × (length documents ≡ total)
+        → (documents : List StoredDocument) × (fdx ≡ fdx_bytes documents) × (fdt ≡ fdt_bytes documents) × AreStorable documents × (length documents ≡ total)
         × (seen ≡ windowed window documents) }
 {}
 

@@ -41,9 +41,9 @@ abbrev pub is_indexed : List TableField → ℕ → Bool
 is_indexed fields number = has_bit indexed (field_of fields number).bits
 
 -- how two terms stand to each other: by the names of their fields, and then by their texts, in UTF-16 order
-abbrev pub term_cmp : List TableField → DictionaryTerm → DictionaryTerm → Ordering
-term_cmp fields a b = ordering_then (text_cmp (field_of fields a.info.field).name (field_of fields b.info.field).name) (text_cmp a.text b.text)
+abbrev pub dictionary_term_cmp : List TableField → DictionaryTerm → DictionaryTerm → Ordering
+dictionary_term_cmp fields a b = ordering_then (text_cmp (field_of fields a.info.field).name (field_of fields b.info.field).name) (text_cmp a.text b.text)
 
 -- the term is above all before, which rise
 abbrev pub is_above : List TableField → List DictionaryTerm → DictionaryTerm → Bool
-is_above fields before t = length before == 0 || is_lt (term_cmp fields (last_term before) t)
+is_above fields before t = length before == 0 || is_lt (dictionary_term_cmp fields (last_term before) t)

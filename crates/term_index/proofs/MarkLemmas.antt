@@ -9,12 +9,13 @@ use Rattle.std.proofs.lemmas.Option.{slice_get-map, get_or_from_slice_get, slice
 use Rattle.std.proofs.Math.Nat.{le-div_iff_mul-le, suc-mul}
 use Rattle.term_dict.specs.Terms.{DictionaryTerm, no_term, last_term}
 use Rattle.term_dict.specs.Dictionary.{Dictionary}
-use Rattle.term_dict.specs.Index.{entry_count, indexed_term, indexed_place, point_after}
+use Rattle.term_dict.specs.Index.{entry_count, index_entry_term, indexed_place, point_after}
 use Rattle.term_dict.specs.Walk.{TermWalk, walk_to, term_passed, next_place}
 use Rattle.term_dict.proofs.JumpLemmas.{last_term-take}
 use Rattle.term_index.specs.declared.mark.Mark.{Mark}
 use Rattle.term_index.specs.declared.search.Sought.{Sought}
-use Rattle.term_index.specs.Seeking.{Searched, sought_cmp, rank, digits, interval_of, read_up_to, terms_read, seek_steps, most_steps, ticked}
+use Rattle.lu_prims.specs.Steps.{ticked}
+use Rattle.term_index.specs.Seeking.{Searched, sought_cmp, rank, digits, interval_of, read_up_to, terms_read, seek_steps, most_seek_steps}
 use Rattle.term_index.specs.InnerSearch.{IsSearchable, IndexMark, AreBelow, index_mark_of, mark_at, marks_to, mark_cmp}
 use Rattle.term_index.proofs.DigitLemmas.{digits-below, ticked-add, ticked-below}
 use Rattle.term_index.proofs.PointLoop.{interval_begins, place_of_walk}
@@ -50,7 +51,7 @@ pub record IsInterval (s : Searched) (number k : ℕ) : Type 0 where
   pub some : 0 < k
   pub inside : k < length s.dictionary.terms
   pub inside_starts : k < length s.dictionary.starts
-  pub term : indexed_term s.dictionary number ≡ slice_index_or s.dictionary.terms (k - 1) no_term
+  pub term : index_entry_term s.dictionary number ≡ slice_index_or s.dictionary.terms (k - 1) no_term
 
 interval-is : (s : Searched) (number : ℕ) → IsSearchable s → 0 < number → number < entry_count s.dictionary.numbers → IsInterval s number (number * s.dictionary.numbers.index_interval)
 interval-is s number h some lt =
@@ -185,7 +186,7 @@ read-few s below h le = elim (cases_lt (below / interval) n) [
       | inr more ↦ let there : suc q ≤ x / interval = (le-div_iff_mul-le some_interval).1 more in absurd (omega (arith, there, le))
     ]
 
-pub steps-few : (s : Searched) (field text : List ℕ) (count new : ℕ) → IsSearchable s → new ≡ ticked (seek_steps s field text) count → new ≤ count + most_steps s.dictionary
+pub steps-few : (s : Searched) (field text : List ℕ) (count new : ℕ) → IsSearchable s → new ≡ ticked (seek_steps s field text) count → new ≤ count + most_seek_steps s.dictionary
 steps-few s field text count new h is =
     let few = read-few s (rank s field text) h (rank-few s field text) in
     let halved = digits-below (entry_count s.dictionary.numbers - 1) (entry_count s.dictionary.numbers) (omega arith) in

@@ -2,7 +2,7 @@
 use Rattle.std.specs.Prelude.{◌≡◌, ℕ, Bool, false, cond, List, [], Option, Some, None}
 use Rattle.std.specs.Str.{IsUtf8}
 use Rattle.term_vectors.specs.declared.texts.LastText.{LastText}
-use Rattle.term_vectors.specs.declared.texts.TermEntry.{TermEntry}
+use Rattle.term_vectors.specs.declared.texts.VectorTermEntry.{VectorTermEntry}
 use Rattle.term_vectors.specs.Vectors.{TvfRecord, term}
 
 -- the text, where there is one
@@ -15,5 +15,5 @@ pub record IsSoundText (last : LastText) : Type 0 where
   pub none : last.is_some ≡ false → last.bytes.items ≡ []
 
 -- the record of the program
-abbrev pub term_record : TermEntry → TvfRecord
+abbrev pub term_record : VectorTermEntry → TvfRecord
 term_record e = term e.prefix e.suffix.now e.freq

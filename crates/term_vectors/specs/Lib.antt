@@ -5,7 +5,7 @@ pub mod Vectors
 pub mod Stores
 pub mod InnerAnswers
 pub mod InnerFields
-pub mod Pairs
+pub mod OffsetPairs
 pub mod InnerTexts
 pub mod InnerVectors
 pub mod Walks

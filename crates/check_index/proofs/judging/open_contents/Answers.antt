@@ -1,6 +1,6 @@
 use Rattle.std.proofs.Common.{ℕ, List, Err, refl, subst}
 use Rattle.lu_types.specs.FilePlans.{Judges, StandFor}
-use Rattle.stored_fields.specs.Values.{Document}
+use Rattle.stored_fields.specs.Values.{StoredDocument}
 use Rattle.check_index.specs.declared.standing.OpenContents.{OpenContents}
 use Rattle.check_index.specs.declared.terms.OpenTerms.{OpenTerms}
 use Rattle.check_index.specs.Documents.{stored_files}
@@ -15,8 +15,8 @@ pub returns-in-Err-open_stored-clause-judged : goal.returns-in-Err-open_stored-c
 returns-in-Err-open_stored-clause-judged c =
     let files = part_files_of c.args.files.now in
     let line = c.args.info.now in
-    stored-fault (contents_of line.size) files line c.in-Ok.fields c.in-Ok.ensures (λ (d : List Document). d) c.in-Err-open_stored.fault
-    (subst (λ (n : ℕ). Judges (λ (d : List Document). d) (stored_files line.store line.size n files.documents.fdx files.documents.fdt) (Err c.in-Err-open_stored.fault)) c.count.ensures.count c.in-Err-open_stored.ensures.judged)
+    stored-fault (contents_of line.size) files line c.in-Ok.fields c.in-Ok.ensures (λ (d : List StoredDocument). d) c.in-Err-open_stored.fault
+    (subst (λ (n : ℕ). Judges (λ (d : List StoredDocument). d) (stored_files line.store line.size n files.documents.fdx files.documents.fdt) (Err c.in-Err-open_stored.fault)) c.count.ensures.count c.in-Err-open_stored.ensures.judged)
 
 pub returns-in-Err-open_terms-clause-judged : goal.returns-in-Err-open_terms-clause-judged
 returns-in-Err-open_terms-clause-judged c =

@@ -2,12 +2,12 @@ use Rattle.std.proofs.Common.{◌≡◌, ℕ, suc, add-one, ◌*◌, ◌/◌, �
 use Rattle.lu_grammar.specs.Bytes.{IsBytes, Cursor, place_in}
 use Rattle.lu_grammar.specs.Plans.{times}
 use Rattle.lu_grammar.proofs.Parts.{IsBytes-drop}
-use Rattle.freq_skips.specs.Entries.{postings_from, Stands}
+use Rattle.freq_skips.specs.Entries.{postings_from, IsBehindEntries}
 use Rattle.freq_skips.specs.Levels.{level_of, data_count, datum_kind, no_datum, no_point, Follows, AreGoodData}
-use Rattle.freq_skips.specs.Walking.{FollowsAbove, IsSmallAbove}
+use Rattle.freq_skips.specs.Walking.{FollowsAbove, AreSmallSumsAbove}
 use Rattle.freq_skips.proofs.Powers.{stride-two}
 use Rattle.lu_grammar.proofs.Codecs.{place_in-after}
-use Rattle.freq_skips.proofs.EntryLemmas.{Stands-none}
+use Rattle.freq_skips.proofs.EntryLemmas.{IsBehindEntries-none}
 use Rattle.freq_skips.proofs.LevelLemmas.{Follows-none, Follows-all}
 use Rattle.freq_skips.proofs.AboveLemmas.{above-starts, above-small}
 use Rattle.freq_skips.proofs.level.check_data.Goals as goal
@@ -29,7 +29,7 @@ loop-data-init c =
       small_above = above-small c.args.above frq c.following_above-above.result c.following_above-above.ensures;
       bytes = subst (λ (d : Cursor). IsBytes d.rest) (sym c.at-2.ensures) (IsBytes-drop c.args.at frq (λ i. (c.type_inv.frq i).fits));
       onward = subst (λ (d : Cursor). c.args.at ≤ d.place) (sym c.at-2.ensures) (omega arith);
-      stands = subst (λ (d : Cursor). Stands t start 0 0 d) (sym c.at.ensures) (Stands-none t start);
+      stands = subst (λ (d : Cursor). IsBehindEntries t start 0 0 d) (sym c.at.ensures) (IsBehindEntries-none t start);
       before = omega arith;
       goes_on = λ points h. (
         above-starts t (postings_from t start) (suc l.number) points frq c.args.above c.following_above-above.result c.following_above-above.ensures h,
@@ -65,7 +65,7 @@ loop-data-preserved c =
       few = i.few;
       within = omega (arith, c.in-Ok.ensures.count);
       small = c.check_next.ensures.small;
-      small_above = subst (λ (n : ℕ). IsSmallAbove n c.wanted_next-wanted.new.above) (sym c.in-Ok.ensures.count) c.wanted_next-wanted.ensures.small;
+      small_above = subst (λ (n : ℕ). AreSmallSumsAbove n c.wanted_next-wanted.new.above) (sym c.in-Ok.ensures.count) c.wanted_next-wanted.ensures.small;
       bytes = c.in-Ok.ensures.bytes.0;
       onward = c.in-Ok.ensures.bytes.1;
       stands = stands.0;

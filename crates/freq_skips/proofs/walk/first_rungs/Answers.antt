@@ -4,14 +4,14 @@ use Rattle.std.proofs.lemmas.Bool.{cases_eq}
 use Rattle.lu_grammar.specs.Bytes.{Cursor, place_in}
 use Rattle.lu_grammar.specs.Plans.{read_plan}
 use Rattle.freq_skips.specs.declared.datum.Point.{Point}
-use Rattle.freq_skips.specs.declared.walk.Rung.{Rung}
+use Rattle.freq_skips.specs.declared.walk.LevelPlace.{LevelPlace}
 use Rattle.freq_skips.specs.Entries.{postings_from}
 use Rattle.freq_skips.specs.Levels.{no_point, level_count, levels, level_of, AreData}
-use Rattle.freq_skips.specs.Walks.{IsOnLevel, no_rung, start_in, points_in, value_from}
+use Rattle.freq_skips.specs.Walks.{IsOnLevel, no_level_place, start_in, points_in, value_from}
 use Rattle.freq_skips.proofs.Powers.{stride-two}
 use Rattle.freq_skips.proofs.LevelsLemmas.{power-less}
 use Rattle.freq_skips.proofs.WalkLemmas.{LevelsRead-good, levels-read, levels-points, highest-same, IsOnLevel-start}
-use Rattle.freq_skips.proofs.walk.first_rungs.Goals as goal
+use Rattle.freq_skips.proofs.walk.level_starts.Goals as goal
 
 pub loop-number-init : goal.loop-number-init
 loop-number-init c =
@@ -53,16 +53,16 @@ loop-number-preserved c =
     let stride = c.quotient.ensures.quotient ∙ ap (λ (n : ℕ). t.info.doc_freq / n) (i.stride ∙ ap (λ (k : ℕ). s ^ k) is) in
     let end = c.data_end-place.ensures ps start.0 i.above one.0.points one.1 stride start.1 in
     let reads : read_plan (levels t ps m (one.0.points ∷ i.above)) (place_in frq c.data_end-place.result) ≡ Ok (found, i.end) = ap (λ (d : Cursor). read_plan (levels t ps m (one.0.points ∷ i.above)) d) (sym end.0) ∙ one.3 in
-    let r : Rung = record { place = c.data_start-start.result; count = 0; last = no_point } in
+    let r : LevelPlace = record { place = c.data_start-start.result; count = 0; last = no_point } in
     let points = levels-points t ps m one.0.points i.above (place_in frq c.data_end-place.result) found i.end reads in
     let here : IsOnLevel t ps m (points_in t frq m) frq 0 r =
     IsOnLevel-start t ps m (points_in t frq m) frq start.0 i.above c.data_start-start.result one.1
     (subst (λ (p : List Point). AreData t ps (level_of m start.0 i.above) (place_in frq c.data_start-start.result) p one.1) (sym points) start.1) c.data_start-start.ensures.within in
-    let rungs = c.loop-number.rungs in
-    let size : m < length rungs = omega (arith, i.size) in
+    let places = c.loop-number.places in
+    let size : m < length places = omega (arith, i.size) in
     record {
       within = omega arith;
-      size = length-set rungs m r ∙ i.size;
+      size = length-set places m r ∙ i.size;
       stride = power-less s c.loop-number.number m c.loop-number.stride c.from-interval.result c.requires.good.interval is i.stride c.from-interval.ensures;
       place_within = end.1;
       above = one.0.points ∷ i.above;
@@ -70,9 +70,9 @@ loop-number-preserved c =
       end = i.end;
       reads = reads;
       on = λ n ge lt. elim (cases_eq n m) [
-        | inl same ↦ subst (λ (k : ℕ). IsOnLevel t ps k (points_in t frq k) frq 0 (get_or (set rungs m r) k no_rung)) (sym same)
-            (subst (λ (x : Rung). IsOnLevel t ps m (points_in t frq m) frq 0 x) (sym (get_or-set_same rungs m r no_rung size)) here)
-        | inr ne ↦ let other : get_or (set rungs m r) n no_rung ≡ get_or rungs n no_rung = rw get_or-set_other refl in
-            subst (λ (x : Rung). IsOnLevel t ps n (points_in t frq n) frq 0 x) (sym other) (i.on n (omega arith) lt)
+        | inl same ↦ subst (λ (k : ℕ). IsOnLevel t ps k (points_in t frq k) frq 0 (get_or (set places m r) k no_level_place)) (sym same)
+            (subst (λ (x : LevelPlace). IsOnLevel t ps m (points_in t frq m) frq 0 x) (sym (get_or-set_same places m r no_level_place size)) here)
+        | inr ne ↦ let other : get_or (set places m r) n no_level_place ≡ get_or places n no_level_place = rw get_or-set_other refl in
+            subst (λ (x : LevelPlace). IsOnLevel t ps n (points_in t frq n) frq 0 x) (sym other) (i.on n (omega arith) lt)
       ];
     }

@@ -32,7 +32,7 @@ use Rattle.term_vectors.specs.declared.layout.DocumentPlaces.{DocumentPlaces}
 use Rattle.term_vectors.specs.Format.{format_shape, headed}
 use Rattle.term_vectors.specs.Places as tvx
 use Rattle.term_vectors.specs.Fields.{VectorPlace, has_vectors, is_within, tvd_plan}
-use Rattle.term_vectors.specs.Vectors.{TvfRecord, format, heading, StoredVector, format_conditions, heading_shape, heading_count, heading_bits, heading_conditions, terms_plan, vector_plan, vectors_plan, all_plan, tvf_plan}
+use Rattle.term_vectors.specs.Vectors.{TvfRecord, format, heading, StoredVector, format_conditions, heading_shape, count_of_heading, bits_of_heading, heading_conditions, terms_plan, vector_plan, vectors_plan, all_plan, tvf_plan}
 use Rattle.term_vectors.specs.Stores.{vector_files, AreVectors}
 use Rattle.term_vectors.proofs.LeftLemmas.{plan_in}
 use Rattle.term_vectors.proofs.ValidVectors.{part_value, terms_are}
@@ -71,15 +71,15 @@ record IsVectorAt (at : VectorPlace) (v : StoredVector) : Type 0 where
 
 -- the vector of a heading with these terms
 abbrev made : VectorPlace → TvfRecord → List VectorTerm → StoredVector
-made at r terms = record { field = at.field; bits = heading_bits r; terms = terms }
+made at r terms = record { field = at.field; bits = bits_of_heading r; terms = terms }
 
-low-bits : (place wanted : ℕ) (r : TvfRecord) → first_broken (heading_conditions wanted place r) ≡ None → heading_bits r < 4
-low-bits place wanted r e = go (not (eqb place wanted)) (nat_lt 3 (heading_bits r)) refl e
+low-bits : (place wanted : ℕ) (r : TvfRecord) → first_broken (heading_conditions wanted place r) ≡ None → bits_of_heading r < 4
+low-bits place wanted r e = go (not (eqb place wanted)) (nat_lt 3 (bits_of_heading r)) refl e
   where
-    go : (elsewhere high : Bool) → nat_lt 3 (heading_bits r) ≡ high → first_broken (record { rule = rules.tvf_place; broken = elsewhere } ∷ record { rule = rules.vector_bits; broken = high } ∷ []) ≡ None → heading_bits r < 4
+    go : (elsewhere high : Bool) → nat_lt 3 (bits_of_heading r) ≡ high → first_broken (record { rule = rules.tvf_place; broken = elsewhere } ∷ record { rule = rules.vector_bits; broken = high } ∷ []) ≡ None → bits_of_heading r < 4
     go true high is e = absurd cc
     go false true is e = absurd cc
-    go false false is e = let le = ltb-false 3 (heading_bits r) is in omega (arith, le)
+    go false false is e = let le = ltb-false 3 (bits_of_heading r) is in omega (arith, le)
 
 module _ (bytes : List ℕ) (fits : IsBytes bytes) (short : length bytes < 2 ^ 31) where
   -- the cursor stands in the file
@@ -92,7 +92,7 @@ module _ (bytes : List ℕ) (fits : IsBytes bytes) (short : length bytes < 2 ^ 3
   vector-is : (at : VectorPlace) (c : Cursor) (v : StoredVector) (d : Cursor) → IsInFile c → read_plan (vector_plan at) c ≡ ok_pair v d → IsVectorAt at v
   unfolding read_plan
   vector-is at c v d h e =
-      let head = due_was heading_shape (λ place r. heading_conditions at.place place r) (λ _ r. and_then (terms_plan (heading_bits r) (heading_count r) None) (λ terms. done (made at r terms))) c (v, d) e in
+      let head = due_was heading_shape (λ place r. heading_conditions at.place place r) (λ _ r. and_then (terms_plan (bits_of_heading r) (count_of_heading r) None) (λ terms. done (made at r terms))) c (v, d) e in
       let r = head.0.0 in
       let judged = record_at-was heading_shape (heading_conditions at.place c.place) c r head.0.1 head.1 in
       let count = then_ok (read_part num c) (λ x. read_shape (part byte (λ bits. whole (heading x.0 bits))) x.1) (r, head.0.1) judged.0 in
@@ -101,17 +101,17 @@ module _ (bytes : List ℕ) (fits : IsBytes bytes) (short : length bytes < 2 ^ 3
       let counted = read_part-place num c count.0.0 count.0.1 (rest-fits c h) count.1 in
       let behind = read_part-place byte count.0.1 bits.0.0 bits.0.1 counted.1 bits.1 in
       let few : count.0.0 < 2 ^ 31 = part_value num c count.0.0 count.0.1 (rest-fits c h) count.1 in
-      let plan = terms_plan (heading_bits r) (heading_count r) None in
+      let plan = terms_plan (bits_of_heading r) (count_of_heading r) None in
       let first = then_ok (read_plan plan head.0.1) (λ x. read_plan {R = TvfRecord} (done (made at r x.0)) x.1) (v, d) (sym (read_plan-and_then plan (λ (terms : List VectorTerm). done (made at r terms)) head.0.1) ∙ head.2) in
       let is = same_pair (made at r first.0.0) v first.0.1 d first.2 in
       let none : 0 ≤ head.0.1.place = omega arith in
-      let are = terms_are (heading_bits r) (heading_count r) None head.0.1 first.0.0 first.0.1 (subst (λ (x : Cursor). IsBytes x.rest) same.1 behind.1) none first.1 in
+      let are = terms_are (bits_of_heading r) (count_of_heading r) None head.0.1 first.0.0 first.0.1 (subst (λ (x : Cursor). IsBytes x.rest) same.1 behind.1) none first.1 in
       let end = plan_in (vector_plan at) bytes c v d fits h e in
       let place : first.0.1.place ≡ d.place = ap (λ (x : Cursor). x.place) is.1 in
       subst (IsVectorAt at) is.0 (record {
         field = refl;
         bits = low-bits c.place at.place r judged.1;
-        few = omega (arith, are.many, ap heading_count same.0, few);
+        few = omega (arith, are.many, ap count_of_heading same.0, few);
         rise = are.rise;
         terms = are.valid (omega (arith, place, end.1, short));
       })

@@ -17,7 +17,7 @@ use Rattle.segment_infos.specs.declared.naming.LuceneName.TheVariants.{Commit, P
 use Rattle.segment_infos.specs.declared.infos.SegInfo.{SegInfo}
 use Rattle.segment_infos.specs.Values.{CommitValue, IsCommit, IsLine, AreNormGens}
 use Rattle.segment_infos.specs.LuceneNames.{name_spelling, lucene_name_in, SpellsName}
-use Rattle.segment_infos.specs.Referring.{document_kinds, index_kinds, part_names, own_part_names, store_part_names, del_names, sep_names_from, norm_names, line_names, referred_names, is_spelled_among, KeptValue, names_kept_by, kept_names, is_removable, removable}
+use Rattle.segment_infos.specs.Referring.{document_kinds, index_kinds, names_of_parts, own_part_names, store_part_names, del_names, sep_names_from, norm_names, line_names, referred_names, is_spelled_among, KeptValue, names_kept_by, kept_names, is_removable, removable}
 use Rattle.segment_infos.specs.Keeping.{HasOwnSpelling, HasNames, is_free}
 use Rattle.segment_infos.proofs.NameSpelled.{name_spelling-same, HasOwnSpelling-IsName}
 use Rattle.segment_infos.proofs.ListedNames.{texts-more}
@@ -42,9 +42,9 @@ pub all-append : {A : Type 0} (P : A → Type 0) (xs ys : List A) → All P xs �
 all-append P [] ys first second = second
 all-append P (x ∷ xs) ys first second = all-cons P x (xs ++ ys) (first 0 x (omega arith)) (all-append P xs ys (all-rest P x xs first) second)
 
-own-part_names : (number : ℕ) (some : List FileKind) → All IsPart some → All HasOwnSpelling (part_names number some)
-own-part_names number [] are = all-none HasOwnSpelling
-own-part_names number (kind ∷ rest) are = all-append HasOwnSpelling (Part number kind ∷ []) (part_names number rest) (all-one HasOwnSpelling (Part number kind) (are 0 kind (omega arith))) (own-part_names number rest (all-rest IsPart kind rest are))
+own-names_of_parts : (number : ℕ) (some : List FileKind) → All IsPart some → All HasOwnSpelling (names_of_parts number some)
+own-names_of_parts number [] are = all-none HasOwnSpelling
+own-names_of_parts number (kind ∷ rest) are = all-append HasOwnSpelling (Part number kind ∷ []) (names_of_parts number rest) (all-one HasOwnSpelling (Part number kind) (are 0 kind (omega arith))) (own-names_of_parts number rest (all-rest IsPart kind rest are))
 
 are-documents : All IsPart document_kinds
 are-documents zero d within = tt
@@ -64,7 +64,7 @@ are-index (suc (suc (suc (suc (suc zero))))) d within = tt
 are-index (suc (suc (suc (suc (suc (suc k)))))) d within = absurd (omega arith)
 
 own-own_part_names : (s : SegInfo) → All HasOwnSpelling (own_part_names s)
-own-own_part_names s = own-part_names s.number _ (by_form s.compound (is_some s.store))
+own-own_part_names s = own-names_of_parts s.number _ (by_form s.compound (is_some s.store))
   where
     by_form : (compound shared : Bool) → All IsPart (cond compound (kinds.Cfs ∷ []) (index_kinds ++ cond shared [] document_kinds))
     by_form true shared = all-one IsPart kinds.Cfs tt
@@ -73,7 +73,7 @@ own-own_part_names s = own-part_names s.number _ (by_form s.compound (is_some s.
 
 own-store_part_names : (store : Option SharedStore) → All HasOwnSpelling (store_part_names store)
 own-store_part_names None = all-none HasOwnSpelling
-own-store_part_names (Some store) = own-part_names store.number _ (by_form store.compound)
+own-store_part_names (Some store) = own-names_of_parts store.number _ (by_form store.compound)
   where
     by_form : (compound : Bool) → All IsPart (cond compound (kinds.Cfx ∷ []) document_kinds)
     by_form true = all-one IsPart kinds.Cfx tt

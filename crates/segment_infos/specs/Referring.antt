@@ -19,17 +19,17 @@ abbrev pub index_kinds : List FileKind
 index_kinds = kinds.Fnm ∷ kinds.Tis ∷ kinds.Tii ∷ kinds.Frq ∷ kinds.Prx ∷ kinds.Nrm ∷ []
 
 -- the parts of a segment of these kinds
-abbrev pub part_names : ℕ → List FileKind → List LuceneName
-part_names number some = map (Part number) some
+abbrev pub names_of_parts : ℕ → List FileKind → List LuceneName
+names_of_parts number some = map (Part number) some
 
 -- the parts of a segment's own number: its `.cfs` where it is compound; else all that hold parts of none, without the files of documents where its store is shared
 abbrev pub own_part_names : SegInfo → List LuceneName
-own_part_names s = part_names s.number (if s.compound then kinds.Cfs ∷ [] else index_kinds ++ (if is_some s.store then [] else document_kinds))
+own_part_names s = names_of_parts s.number (if s.compound then kinds.Cfs ∷ [] else index_kinds ++ (if is_some s.store then [] else document_kinds))
 
 -- the files of a shared store: its `.cfx` where it is compound, else the five that hold documents
 abbrev pub store_part_names : Option SharedStore → List LuceneName
 store_part_names None = []
-store_part_names (Some store) = part_names store.number (if store.compound then kinds.Cfx ∷ [] else document_kinds)
+store_part_names (Some store) = names_of_parts store.number (if store.compound then kinds.Cfx ∷ [] else document_kinds)
 
 -- the file of deleted documents, where there is one
 abbrev pub del_names : ℕ → Option ℕ → List LuceneName

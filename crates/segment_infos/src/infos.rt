@@ -1,5 +1,5 @@
 //! What a commit says of one segment.
-use crate::lists::{NormGens, MapPairs};
+use crate::lists::{MapPairs, NormGens};
 use lu_types::{SharedStore, Text};
 
 /// A key and its value in a Map (format page, "Numbers and texts").

@@ -8,11 +8,12 @@ ghost use Rattle.segment_infos.specs.Numbers.{is_no_generation};
 ghost use Rattle.segment_infos.specs.Conditions.{heading_conditions, name_conditions, is_no_size, size_conditions, has_other_store, has_other_flag, store_conditions, norm_conditions, is_no_flag, is_no_deletion, flag_conditions, map_conditions, line_conditions};
 
 use crate::numbers::{
-    count_or_zero, is_below_none, is_long_negative, is_negative, is_no_generation, segment_number_in,
+    count_or_zero, is_below_none, is_long_negative, is_negative, is_no_generation,
+    segment_number_in,
 };
 use crate::record::{
-    FORMAT_NUMBER, FlagPart, FrontPart, Heading, SegmentLine, MOST_DOCUMENTS, MapPart, NOT_PACKED,
-    NormPart, PACKED, SharedStorePart,
+    FORMAT_NUMBER, FlagPart, FrontPart, Heading, MOST_DOCUMENTS, MapPart, NOT_PACKED, NormPart,
+    PACKED, SegmentLine, SharedStorePart,
 };
 use crate::taking::Taking;
 use lu_types::rules::{

@@ -23,7 +23,7 @@ mod writing;
 pub use commit::Commit;
 pub use infos::{MapPair, SegInfo};
 pub use listing::generations;
-pub use lists::{NormGens, MapPairs, Segments};
+pub use lists::{MapPairs, NormGens, Segments};
 pub use naming::{LuceneName, name_text, name_value};
 pub use reading::read;
 pub use removing::{Kept, removable, removable_all};

@@ -8,9 +8,11 @@ ghost use Rattle.lu_grammar.specs.Answers.{Gives};
 ghost use Rattle.segment_infos.specs.Answers.{GivesOr};
 
 use crate::infos::MapPair;
-use crate::lists::{NormGens, MapPairs};
+use crate::lists::{MapPairs, NormGens};
 use crate::numbers::{count_or_zero, is_none_number};
-use crate::record::{FlagPart, FrontPart, Heading, Lent, SegmentLine, MapPart, NormPart, SharedStorePart};
+use crate::record::{
+    FlagPart, FrontPart, Heading, Lent, MapPart, NormPart, SegmentLine, SharedStorePart,
+};
 use crate::stop::Stop;
 use lu_prims::{Bad, Cur};
 use lu_types::Text;

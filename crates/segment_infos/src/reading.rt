@@ -17,7 +17,7 @@ use crate::judging::{heading_broken, line_broken, map_broken};
 use crate::lists::{MapPairs, Segments};
 use crate::numbers::{count_or_zero, long_count_or_zero};
 use crate::parts::{heading_parts, line_parts, map_parts};
-use crate::record::{Heading, SegmentLine, MapPart};
+use crate::record::{Heading, MapPart, SegmentLine};
 use crate::segment::segment;
 use crate::stop::Stop;
 use crate::taking::Taking;

@@ -1,7 +1,7 @@
 //! The records of `segments_N` as they stand in the file, before anything is asked of them.
 ghost use Rattle.std.specs.Prelude.{◌≡◌};
 
-use crate::lists::{NormGens, MapPairs};
+use crate::lists::{MapPairs, NormGens};
 use std::marker::Model;
 
 /// The format number of a commit.

@@ -12,7 +12,7 @@ use Rattle.lu_types.specs.Stores.{windowed}
 use Rattle.term_vectors.specs.declared.layout.DocumentPlaces.{DocumentPlaces}
 use Rattle.term_vectors.specs.Format.{format_shape, headed}
 use Rattle.term_vectors.specs.Fields.{VectorPlace, count, stated, count_shape, count_conditions, document_plan, is_within, no_window, documents_plan}
-use Rattle.term_vectors.specs.Vectors.{TvfRecord, StoredVector, format, format_conditions, heading_bits, heading_shape, heading_conditions, vector_plan, vectors_plan, all_plan, tvf_plan}
+use Rattle.term_vectors.specs.Vectors.{TvfRecord, StoredVector, format, format_conditions, bits_of_heading, heading_shape, heading_conditions, vector_plan, vectors_plan, all_plan, tvf_plan}
 use Rattle.term_vectors.specs.Stores.{places_in, slots_in, stored_vectors_in}
 use Rattle.term_vectors.specs.InnerViews.{no_vector, slots_plan, vector_here, IsVectorThere, AreAllThere, HaveNoFault}
 use Rattle.term_vectors.proofs.Steps.{headed_was}
@@ -33,7 +33,7 @@ IsIn bytes c = (c ≡ place_in bytes c.place) × (c.place ≤ length bytes)
 at_its_place : (wanted place : ℕ) (r : TvfRecord) → first_broken (heading_conditions wanted place r) ≡ None → place ≡ wanted
 at_its_place wanted place r h = same-of place wanted (go (not (eqb place wanted)) h)
   where
-    go : (b : Bool) → first_broken (record { rule = 106; broken = b } ∷ record { rule = 107; broken = ltb 3 (heading_bits r) } ∷ []) ≡ None → b ≡ false
+    go : (b : Bool) → first_broken (record { rule = 106; broken = b } ∷ record { rule = 107; broken = ltb 3 (bits_of_heading r) } ∷ []) ≡ None → b ≡ false
     go true q = cc
     go false q = refl
 

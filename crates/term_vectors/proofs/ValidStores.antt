@@ -22,7 +22,7 @@ use Rattle.lu_model.specs.Contents.{field_at}
 use Rattle.term_vectors.specs.declared.layout.DocumentPlaces.{DocumentPlaces}
 use Rattle.term_vectors.specs.Format.{headed}
 use Rattle.term_vectors.specs.Fields.{TvdRecord, VectorPlace, count, number, stated, count_shape, count_conditions, has_vectors, is_among, number_shape, number_conditions, numbers_plan, further_plan, placed, document_plan, is_within, documents_plan}
-use Rattle.term_vectors.specs.Vectors.{TvfRecord, StoredVector, heading, heading_count, heading_bits, heading_shape, heading_conditions, terms_plan, vector_plan, vectors_plan, all_plan}
+use Rattle.term_vectors.specs.Vectors.{TvfRecord, StoredVector, heading, count_of_heading, bits_of_heading, heading_shape, heading_conditions, terms_plan, vector_plan, vectors_plan, all_plan}
 use Rattle.term_vectors.specs.Stores.{AreVectors}
 use Rattle.term_vectors.proofs.Steps.{headed_was}
 use Rattle.term_vectors.proofs.FieldLemmas.{reads_numbers, reads_further, further_of, rest_of_document}
@@ -47,13 +47,13 @@ pub record VectorIs (fields : List TableField) (at : VectorPlace) (v : StoredVec
   pub field : v.field ≡ at.field
   pub valid : d.place < 2 ^ 31 → IsVector fields v
 
-few_bits : (wanted place : ℕ) (r : TvfRecord) → first_broken (heading_conditions wanted place r) ≡ None → heading_bits r ≤ 3
-few_bits wanted place r h = go (not (eqb place wanted)) (ltb 3 (heading_bits r)) refl h
+few_bits : (wanted place : ℕ) (r : TvfRecord) → first_broken (heading_conditions wanted place r) ≡ None → bits_of_heading r ≤ 3
+few_bits wanted place r h = go (not (eqb place wanted)) (ltb 3 (bits_of_heading r)) refl h
   where
-    go : (a b : Bool) → ltb 3 (heading_bits r) ≡ b → first_broken (record { rule = 106; broken = a } ∷ record { rule = 107; broken = b } ∷ []) ≡ None → heading_bits r ≤ 3
+    go : (a b : Bool) → ltb 3 (bits_of_heading r) ≡ b → first_broken (record { rule = 106; broken = a } ∷ record { rule = 107; broken = b } ∷ []) ≡ None → bits_of_heading r ≤ 3
     go true b is q = cc
     go false true is q = cc
-    go false false is q = ltb-false 3 (heading_bits r) is
+    go false false is q = ltb-false 3 (bits_of_heading r) is
 
 vector_is : (fields : List TableField) (at : VectorPlace) (c : Cursor) (v : StoredVector) (d : Cursor) → IsBytes c.rest → has_vectors fields at.field ≡ true → read_plan (vector_plan at) c ≡ ok_pair v d → VectorIs fields at v c d
 unfolding read_plan
@@ -68,15 +68,15 @@ vector_is fields at c v d fits has e =
     let m = read_part-place num c one.0.0 one.0.1 fits one.1 in
     let k = read_part-place byte one.0.1 two.0.0 two.0.1 m.1 two.1 in
     let small : one.0.0 < 2 ^ 31 = part_value num c one.0.0 one.0.1 fits one.1 in
-    let count_small : heading_count r < 2 ^ 31 = subst (λ (s : TvfRecord). heading_count s < 2 ^ 31) same.0 small in
+    let count_small : count_of_heading r < 2 ^ 31 = subst (λ (s : TvfRecord). count_of_heading s < 2 ^ 31) same.0 small in
     let fits_b : IsBytes b.rest = subst (λ (x : Cursor). IsBytes x.rest) same.1 k.1 in
     let place : two.0.1.place ≡ b.place = ap (λ (x : Cursor). x.place) same.1 in
-    let first = then_ok (reads_terms (heading_bits r) (heading_count r) None b) (λ x. ok_pair (vector_of at r x.0) x.1) (v, d) (sym (read_plan-and_then (terms_plan (heading_bits r) (heading_count r) None) (λ terms. done (vector_of at r terms)) b) ∙ head.2) in
+    let first = then_ok (reads_terms (bits_of_heading r) (count_of_heading r) None b) (λ x. ok_pair (vector_of at r x.0) x.1) (v, d) (sym (read_plan-and_then (terms_plan (bits_of_heading r) (count_of_heading r) None) (λ terms. done (vector_of at r terms)) b) ∙ head.2) in
     let ends = same_pair (vector_of at r first.0.0) v first.0.1 d first.2 in
     let none : 0 ≤ b.place = omega arith in
-    let terms = terms_are (heading_bits r) (heading_count r) None b first.0.0 first.0.1 fits_b none first.1 in
+    let terms = terms_are (bits_of_heading r) (count_of_heading r) None b first.0.0 first.0.1 fits_b none first.1 in
     let bits = few_bits at.place c.place r judged.1 in
-    let low_bits : heading_bits r < 4 = omega arith in
+    let low_bits : bits_of_heading r < 4 = omega arith in
     let end : first.0.1.place ≡ d.place = ap (λ (x : Cursor). x.place) ends.1 in
     record {
       far = omega (arith, m.0, k.0, place, terms.far, end);

@@ -135,25 +135,25 @@ abbrev pub heading_shape : Shape TvfRecord
 heading_shape = part num (λ count. part byte (λ bits. whole (heading count bits)))
 
 -- the number of terms that the record states, and the bits
-abbrev pub heading_count : TvfRecord → ℕ
-heading_count (heading count bits) = count
-heading_count _ = 0
+abbrev pub count_of_heading : TvfRecord → ℕ
+count_of_heading (heading count bits) = count
+count_of_heading _ = 0
 
-abbrev pub heading_bits : TvfRecord → ℕ
-heading_bits (heading count bits) = bits
-heading_bits _ = 0
+abbrev pub bits_of_heading : TvfRecord → ℕ
+bits_of_heading (heading count bits) = bits
+bits_of_heading _ = 0
 
 -- a vector must start at its place, and have no bits but those of positions and offsets
 abbrev pub heading_conditions : ℕ → ℕ → TvfRecord → List Condition
 heading_conditions wanted place r =
     record { rule = rules.tvf_place; broken = not (place == wanted) }
-    ∷ record { rule = rules.vector_bits; broken = nat_lt (bit_positions + bit_offsets) (heading_bits r) } ∷ []
+    ∷ record { rule = rules.vector_bits; broken = nat_lt (bit_positions + bit_offsets) (bits_of_heading r) } ∷ []
 
 -- the vector of a field, at its place
 abbrev pub vector_plan : VectorPlace → Plan StoredVector TvfRecord
 vector_plan at =
     due heading_shape (λ place r. heading_conditions at.place place r)
-    (λ _ r. and_then (terms_plan (heading_bits r) (heading_count r) None) (λ terms. done (record { field = at.field; bits = heading_bits r; terms = terms })))
+    (λ _ r. and_then (terms_plan (bits_of_heading r) (count_of_heading r) None) (λ terms. done (record { field = at.field; bits = bits_of_heading r; terms = terms })))
 
 -- the vectors of a document, each at its place
 unfoldable pub vectors_plan : List VectorPlace → Plan (List StoredVector) TvfRecord

@@ -27,4 +27,4 @@ returns c =
     let b : to_z w64 (of_z w64 c.in-Ok-i64.tvf) ≡ c.in-Ok-i64.tvf = search rules in
     stated_at c.args.tvx.now (4 + 16 * c.args.number) c.in-Ok.tvd c.in-Ok-i64.tvf c.i64.new.self c.i64-in-Ok.new.self c.unwrap_or.result c.unwrap_or-in-Ok-i64.result
     (ap (λ (d : Cursor). read_part int64 d) (sym c.at-here.ensures) ∙ c.in-Ok.ensures) c.in-Ok-i64.ensures
-    (c.unwrap_or.ensures ∙ ap (λ (o : Option ℕ). unwrap_or o 0) (c.place_of_number.ensures ∙ ap place_of_number a)) (c.unwrap_or-in-Ok-i64.ensures ∙ ap (λ (o : Option ℕ). unwrap_or o 0) (c.place_of-in-Ok-i64.ensures ∙ ap place_of_number b))
+    (c.unwrap_or.ensures ∙ ap (λ (o : Option ℕ). unwrap_or o 0) (c.place_of_number.ensures ∙ ap place_of_number a)) (c.unwrap_or-in-Ok-i64.ensures ∙ ap (λ (o : Option ℕ). unwrap_or o 0) (c.place_of_number-in-Ok-i64.ensures ∙ ap place_of_number b))

@@ -18,21 +18,21 @@ pub returns-in-Some : goal.returns-in-Some
 returns-in-Some c =
     let e : to_z w64 (of_z w64 c.in-Ok.tvd) ≡ c.in-Ok.tvd = search rules in
     let d : to_z w64 (of_z w64 c.in-Ok-i64.tvf) ≡ c.in-Ok-i64.tvf = search rules in
-    let tvd : c.place_of-tvd.result ≡ place_of_number c.in-Ok.tvd = c.place_of-tvd.ensures ∙ ap place_of_number e in
+    let tvd : c.place_of_number-tvd.result ≡ place_of_number c.in-Ok.tvd = c.place_of_number-tvd.ensures ∙ ap place_of_number e in
     let tvf : c.place_of_number.result ≡ place_of_number c.in-Ok-i64.tvf = c.place_of_number.ensures ∙ ap place_of_number d in
     two_breaks int64 int64 (λ a b. places (place_of_number a) (place_of_number b)) (places_conditions c.args.before) c.args.here.now c.i64.new.self c.i64-in-Ok.new.self c.in-Ok.tvd c.in-Ok-i64.tvf c.in-Some.rule c.in-Ok.ensures c.in-Ok-i64.ensures
     (ap (λ (o : Option ℕ). first_broken (places_conditions c.args.before (places o (place_of_number c.in-Ok-i64.tvf)))) (sym tvd)
-    ∙ ap (λ (o : Option ℕ). first_broken (places_conditions c.args.before (places c.place_of-tvd.result o))) (sym tvf) ∙ sym c.in-Some.ensures)
+    ∙ ap (λ (o : Option ℕ). first_broken (places_conditions c.args.before (places c.place_of_number-tvd.result o))) (sym tvf) ∙ sym c.in-Some.ensures)
 
 pub returns-in-None : goal.returns-in-None
 returns-in-None c =
     let e : to_z w64 (of_z w64 c.in-Ok.tvd) ≡ c.in-Ok.tvd = search rules in
     let d : to_z w64 (of_z w64 c.in-Ok-i64.tvf) ≡ c.in-Ok-i64.tvf = search rules in
-    let tvd : c.place_of-tvd.result ≡ place_of_number c.in-Ok.tvd = c.place_of-tvd.ensures ∙ ap place_of_number e in
+    let tvd : c.place_of_number-tvd.result ≡ place_of_number c.in-Ok.tvd = c.place_of_number-tvd.ensures ∙ ap place_of_number e in
     let tvf : c.place_of_number.result ≡ place_of_number c.in-Ok-i64.tvf = c.place_of_number.ensures ∙ ap place_of_number d in (
       places (place_of_number c.in-Ok.tvd) (place_of_number c.in-Ok-i64.tvf),
       two_read int64 int64 (λ a b. places (place_of_number a) (place_of_number b)) (places_conditions c.args.before) c.args.here.now c.i64.new.self c.i64-in-Ok.new.self c.in-Ok.tvd c.in-Ok-i64.tvf c.in-Ok.ensures c.in-Ok-i64.ensures
           (ap (λ (o : Option ℕ). first_broken (places_conditions c.args.before (places o (place_of_number c.in-Ok-i64.tvf)))) (sym tvd)
-          ∙ ap (λ (o : Option ℕ). first_broken (places_conditions c.args.before (places c.place_of-tvd.result o))) (sym tvf) ∙ sym c.in-None.ensures),
+          ∙ ap (λ (o : Option ℕ). first_broken (places_conditions c.args.before (places c.place_of_number-tvd.result o))) (sym tvf) ∙ sym c.in-None.ensures),
       c.unwrap_or.ensures ∙ ap (λ (o : Option ℕ). unwrap_or o 0) tvd,
     )

@@ -7,10 +7,11 @@ use Rattle.lu_types.specs.Tables.{TableField}
 use Rattle.lu_types.specs.declared.kind.FileKind.TheVariants.{Cfs, Cfx, Fnm, Tis, Tii, Frq, Prx, Nrm, Del}
 use Rattle.lu_types.specs.declared.stored.SharedStore.{SharedStore}
 use Rattle.lu_types.proofs.FileLaws.{followed_by-was, followed_by-stand}
+use Rattle.lu_types.specs.Stores.{whole_store}
 use Rattle.lu_model.specs.Index.{FieldVector}
 use Rattle.field_infos.specs.Fnm.{fnm_plan}
 use Rattle.stored_fields.specs.Values.{StoredDocument}
-use Rattle.stored_fields.specs.Stores.{total_of, whole_store}
+use Rattle.stored_fields.specs.Stores.{total_of}
 use Rattle.term_dict.specs.Dictionary.{tis_plan}
 use Rattle.term_dict.specs.Index.{tii_plan}
 use Rattle.freq_skips.specs.Terms.{frq_plan}

@@ -7,6 +7,7 @@ use Rattle.lu_types.specs.declared.kind.FileKind.{FileKind}
 use Rattle.lu_types.specs.declared.kind.FileKind.TheVariants.{Tvx, Tvd, Tvf}
 use Rattle.lu_types.specs.Tables.{TableField}
 use Rattle.lu_types.specs.declared.stored.Window.{Window}
+use Rattle.lu_types.specs.Stores.{windowed}
 use Rattle.stored_fields.specs.Values.{StoredDocument}
 use Rattle.stored_fields.specs.Stores.{store_files}
 use Rattle.term_vectors.specs.declared.fields.StoreWindow.{StoreWindow}
@@ -14,7 +15,6 @@ use Rattle.term_vectors.specs.declared.layout.DocumentPlaces.{DocumentPlaces}
 use Rattle.term_vectors.specs.Places.{tvx_plan}
 use Rattle.term_vectors.specs.Fields.{VectorPlace, tvd_plan}
 use Rattle.term_vectors.specs.Vectors.{StoredVector, tvf_plan}
-use Rattle.term_vectors.specs.Stores.{windowed as windowed_vectors}
 use Rattle.segment_infos.specs.declared.infos.SegInfo.{SegInfo}
 use Rattle.check_index.specs.Files.{DocumentFiles}
 use Rattle.check_index.specs.Vectors.{store_part, have_vectors, no_vectors, part_vectors, document_vectors}
@@ -52,7 +52,7 @@ store-stand total window fields (Some fdx) (Some fdt) stored h = (h.places, h.pl
 -- vectors
 module _ (part : StoreWindow) (fields : List TableField) (files : DocumentFiles) (vectors : List (List StoredVector)) where
   abbrev after_slots : List (List VectorPlace) → FilePlan (List (List StoredVector))
-  after_slots slots = needs Tvf files.tvf (λ _. tvf_plan slots) (λ _ all. stands (windowed_vectors part.window all))
+  after_slots slots = needs Tvf files.tvf (λ _. tvf_plan slots) (λ _ all. stands (windowed part.window all))
 
   abbrev after_places : List DocumentPlaces → FilePlan (List (List StoredVector))
   after_places places = needs Tvd files.tvd (λ _. tvd_plan fields part.window places) (λ _ slots. after_slots slots)
@@ -61,14 +61,14 @@ module _ (part : StoreWindow) (fields : List TableField) (files : DocumentFiles)
   part-was h =
       let first = holds-was Tvx files.tvx (λ _. tvx_plan part.total) after_places vectors h in
       let next = holds-was Tvd files.tvd (λ _. tvd_plan fields part.window first.0) after_slots vectors first.2 in
-      let last = holds-was Tvf files.tvf (λ _. tvf_plan next.0) (λ all. stands (windowed_vectors part.window all)) vectors next.2 in
+      let last = holds-was Tvf files.tvf (λ _. tvf_plan next.0) (λ all. stands (windowed part.window all)) vectors next.2 in
       record { places = first.0; places_held = first.1; slots = next.0; slots_held = next.1; all = last.0; vectors_held = last.1; windowed_is = last.2 }
 
   part-stand : AreStoreVectors part fields files vectors → StandFor (part_vectors part files fields) vectors
   part-stand h =
       holds-stand Tvx files.tvx (λ _. tvx_plan part.total) after_places h.places vectors h.places_held
       (holds-stand Tvd files.tvd (λ _. tvd_plan fields part.window h.places) after_slots h.slots vectors h.slots_held
-      (holds-stand Tvf files.tvf (λ _. tvf_plan h.slots) (λ all. stands (windowed_vectors part.window all)) h.all vectors h.vectors_held h.windowed_is))
+      (holds-stand Tvf files.tvf (λ _. tvf_plan h.slots) (λ all. stands (windowed part.window all)) h.all vectors h.vectors_held h.windowed_is))
 
 module _ (line : SegInfo) (fields : List TableField) (files : DocumentFiles) (vectors : List (List StoredVector)) where
   abbrev part_of : StoreWindow

@@ -9,11 +9,12 @@ use Rattle.lu_types.specs.declared.stored.SharedStore.{SharedStore}
 use Rattle.lu_types.specs.declared.stored.Stored.{Stored}
 use Rattle.lu_types.specs.declared.stored.Stored.TheVariants.{Text, Binary}
 use Rattle.lu_types.specs.declared.stored.Window.{Window}
+use Rattle.lu_types.specs.Stores.{whole_store}
 use Rattle.lu_model.specs.Valid.{IsSmall, IsStorable}
 use Rattle.stored_fields.specs.Values.{StoredDocument, HasFields}
 use Rattle.stored_fields.specs.Places.{fdx_plan}
 use Rattle.stored_fields.specs.Documents.{fdt_plan}
-use Rattle.stored_fields.specs.Stores.{total_of, whole_store}
+use Rattle.stored_fields.specs.Stores.{total_of}
 use Rattle.stored_fields.specs.Writing.{IsStorableValue, IsStorableDocument}
 use Rattle.stored_fields.proofs.PlaceLemmas.{has_places}
 use Rattle.stored_fields.proofs.StandsLemmas.{all_stand}

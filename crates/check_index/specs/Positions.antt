@@ -8,9 +8,10 @@ use Rattle.lu_types.specs.Bits as bit
 use Rattle.lu_types.specs.Bits.{has_bit}
 use Rattle.lu_types.specs.Tables.{TableField, bits_at}
 use Rattle.lu_types.specs.declared.kind.FileKind.TheVariants.{Prx}
+use Rattle.lu_types.specs.Occurrences.{Occurrence}
 use Rattle.term_dict.specs.Dictionary.{Dictionary}
 use Rattle.freq_skips.specs.Terms.{TermData}
-use Rattle.positions.specs.Occurrences.{Occurrence, PostedTerm}
+use Rattle.positions.specs.Occurrences.{PostedTerm}
 use Rattle.positions.specs.Terms.{term_plan, posted_terms, prx_plan}
 use Rattle.positions.specs.Cursors.{StandsInBoth}
 use Rattle.segment_infos.specs.declared.infos.SegInfo.{SegInfo}

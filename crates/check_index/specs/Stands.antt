@@ -7,11 +7,12 @@ use Rattle.lu_types.specs.Names.{segment_name}
 use Rattle.lu_types.specs.Tables.{TableField}
 use Rattle.lu_types.specs.declared.stored.SharedStore.{SharedStore}
 use Rattle.lu_types.specs.declared.stored.Window.{Window}
+use Rattle.lu_types.specs.Stores.{whole_store, windowed}
 use Rattle.field_infos.specs.Fnm.{fnm_plan}
 use Rattle.stored_fields.specs.Values.{StoredDocument}
 use Rattle.stored_fields.specs.Places.{fdx_plan}
 use Rattle.stored_fields.specs.Documents.{fdt_plan}
-use Rattle.stored_fields.specs.Stores.{total_of, whole_store, windowed}
+use Rattle.stored_fields.specs.Stores.{total_of}
 use Rattle.term_dict.specs.Dictionary.{tis_plan}
 use Rattle.term_dict.specs.Index.{tii_plan}
 use Rattle.freq_skips.specs.Terms.{frq_plan}
@@ -25,7 +26,6 @@ use Rattle.term_vectors.specs.declared.layout.DocumentPlaces.{DocumentPlaces}
 use Rattle.term_vectors.specs.Places.{tvx_plan}
 use Rattle.term_vectors.specs.Fields.{VectorPlace, tvd_plan}
 use Rattle.term_vectors.specs.Vectors.{StoredVector, tvf_plan}
-use Rattle.term_vectors.specs.Stores.{windowed as windowed_vectors}
 use Rattle.segment_infos.specs.declared.infos.SegInfo.{SegInfo}
 use Rattle.check_index.specs.Files.{DocumentFiles, PartFiles, FolderFiles}
 use Rattle.check_index.specs.Locating.{packed_documents, packed_files}
@@ -91,7 +91,7 @@ pub record AreStoreVectors (part : StoreWindow) (fields : List TableField) (file
   pub slots_held : Holds files.tvd (λ _. tvd_plan fields part.window places) slots
   pub all : List (List StoredVector)
   pub vectors_held : Holds files.tvf (λ _. tvf_plan slots) all
-  pub windowed_is : vectors ≡ windowed_vectors part.window all
+  pub windowed_is : vectors ≡ windowed part.window all
 
 -- they are where some field has vectors and there is a `.tvx`; otherwise no document has vectors
 abbrev pub HoldVectors : SegInfo → List TableField → DocumentFiles → List (List StoredVector) → Type 0

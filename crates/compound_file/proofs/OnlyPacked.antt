@@ -7,7 +7,7 @@ use Rattle.lu_grammar.specs.Parts.{int64, num, text, spelling}
 use Rattle.lu_grammar.specs.Records.{Spells, first_broken}
 use Rattle.lu_grammar.specs.Plans.{done, and_then, times, each, gather}
 use Rattle.lu_grammar.specs.Meaning.{Spelled, bytes_of, AreGood, due_after, Reads}
-use Rattle.lu_grammar.proofs.Codecs.{all_unbroken}
+use Rattle.lu_grammar.proofs.Codecs.{all_unbroken, ends, value_of, split_records}
 use Rattle.compound_file.specs.Entries.{NamedPart, PartEntry, entry_number_of, first_start, Rise, spans}
 use Rattle.compound_file.specs.Cfs.{CfsRecord, entry, header_shape, entry_shape, content_shape, part_count_of, part_content_of, place_of, with_part_entry, after_entry, conditions_after, entry_conditions, entry_kind, part_plan, parts_plan, cfs_plan}
 use Rattle.compound_file.specs.Directories.{IsGoodEntry, AreGoodEntries}
@@ -16,7 +16,6 @@ use Rattle.compound_file.proofs.DirectoryLemmas.{Rise-first, no_entries, one_ent
 use Rattle.compound_file.proofs.ReadLemmas.{placed, none_of, closed}
 use Rattle.compound_file.proofs.PackLemmas.{length-entries_bytes}
 use Rattle.compound_file.proofs.WrittenLemmas.{entries_of}
-use Rattle.compound_file.proofs.SplitRecords.{ends, value_of, split_records}
 
 -- ---- entries
 

@@ -2,15 +2,10 @@
 use Rattle.std.specs.Prelude.{ℕ, ◌+◌, Bool, ◌&&◌, ◌==◌, List, [], ◌∷◌, ◌++◌, length, map, find, filter_map, flat_map, sum_by, Option, pos}
 use Rattle.lu_grammar.specs.Parts.{int64, num, text, spelling}
 use Rattle.lu_types.specs.declared.kind.FileKind.{FileKind}
-use Rattle.lu_types.specs.declared.kind.FileKind.TheVariants.{Cfs, Cfx, Fnm, Fdx, Fdt, Tis, Tii, Frq, Prx, Nrm, Tvx, Tvd, Tvf}
 use Rattle.lu_types.specs.declared.named_file.NamedFile.{NamedFile}
-use Rattle.lu_types.specs.Kinds.{turn}
+use Rattle.lu_types.specs.Kinds.{turn, part_kinds}
 use Rattle.lu_types.specs.Names.{segment_name, part_name}
 use Rattle.compound_file.specs.Entries.{NamedPart}
-
--- the kinds of files that are parts, in the order in which files are checked
-abbrev pub part_kinds : List FileKind
-part_kinds = Cfs ∷ Cfx ∷ Fnm ∷ Fdx ∷ Fdt ∷ Tis ∷ Tii ∷ Frq ∷ Prx ∷ Nrm ∷ Tvx ∷ Tvd ∷ Tvf ∷ []
 
 -- files of the two kinds are checked in one turn, so they are one kind
 abbrev pub is_same : FileKind → FileKind → Bool

@@ -8,25 +8,8 @@ ghost use Rattle.compound_file.specs.Packing.{is_same as is_one, file_of as file
 ghost use Rattle.compound_file.specs.Packs.{Packs, SizeWithin, part_of};
 
 use lu_prims::{OutOfMemory, put_i64, put_text, put_vint};
-use lu_types::{FileKind, NamedFile, Text, part_name, segment_name};
+use lu_types::{FileKind, NamedFile, PART_KINDS, Text, part_name, segment_name};
 use std::alloc::Global;
-
-/// The kinds of files that are parts, in the order in which files are checked.
-const PART_KINDS: [FileKind; 13] = [
-    FileKind::Cfs,
-    FileKind::Cfx,
-    FileKind::Fnm,
-    FileKind::Fdx,
-    FileKind::Fdt,
-    FileKind::Tis,
-    FileKind::Tii,
-    FileKind::Frq,
-    FileKind::Prx,
-    FileKind::Nrm,
-    FileKind::Tvx,
-    FileKind::Tvd,
-    FileKind::Tvf,
-];
 
 /// The bytes of an offset.
 const OFFSET_BYTES: usize = 8;

@@ -14,13 +14,14 @@ use Rattle.lu_grammar.proofs.Plans.{ok_of}
 use Rattle.lu_grammar.proofs.Records.{same_pair, TakesRecord, read_shape-judges, ShapeJudges}
 use Rattle.lu_grammar.proofs.Loops.{read_plan-and_then, then_ok, one-was}
 use Rattle.lu_grammar.proofs.Codecs.{all_unbroken, record_at-was, read_plan-ReadsTo, IsBytes-after}
+use Rattle.lu_types.specs.Occurrences.{Occurrence}
 use Rattle.freq_skips.specs.declared.rules.RuledTerm.{RuledTerm}
 use Rattle.freq_skips.specs.Records.{alone}
 use Rattle.freq_skips.specs.Levels.{number_or}
 use Rattle.freq_skips.specs.Entries.{no_posting}
 use Rattle.freq_skips.specs.Terms.{TermData}
 use Rattle.positions.specs.Records.{OccurrenceRecord, payload_shape, occurrence_shape, states_length, length_after, position_gap}
-use Rattle.positions.specs.Occurrences.{Occurrence, PostedTerm, Held, occurrence_of, occurrence_conditions, due_of, occurrence_kind, count_at, entries_plan}
+use Rattle.positions.specs.Occurrences.{PostedTerm, Held, occurrence_of, occurrence_conditions, due_of, occurrence_kind, count_at, entries_plan}
 use Rattle.positions.specs.Terms.{term_plan}
 use Rattle.positions.specs.Standing.{passed_kind, count_before, Skims}
 use Rattle.positions.specs.Written.{last_position, AreGoodOccurrences}

@@ -8,7 +8,8 @@ use Rattle.lu_grammar.proofs.Plans.{ok_of}
 use Rattle.lu_grammar.proofs.Parts.{IsBytes-drop}
 use Rattle.lu_grammar.proofs.Records.{at}
 use Rattle.lu_grammar.proofs.Codecs.{Writes, reads-read_plan}
-use Rattle.positions.specs.Occurrences.{Occurrence, PostedTerm}
+use Rattle.lu_types.specs.Occurrences.{Occurrence}
+use Rattle.positions.specs.Occurrences.{PostedTerm}
 use Rattle.positions.specs.Terms.{term_plan}
 use Rattle.positions.specs.Written.{written_record, record_bytes, document_occurrence_bytes, occurrences_bytes, last_length, last_position, IsHanded}
 use Rattle.positions.specs.Writing.{WriterState, occurrences_begun, document_begun, occurrence_added, HoldsTerm, HoldsDocument}

@@ -7,10 +7,11 @@ use Rattle.lu_grammar.specs.Bytes.{IsBytes}
 use Rattle.lu_grammar.specs.Records.{first_broken}
 use Rattle.lu_grammar.specs.Plans.{one, times}
 use Rattle.lu_grammar.proofs.Codecs.{Writes, Writes-none, Writes-record}
+use Rattle.lu_types.specs.Occurrences.{Occurrence}
 use Rattle.freq_skips.specs.Records.{is_odd}
 use Rattle.freq_skips.specs.Levels.{level_count}
 use Rattle.positions.specs.Records.{OccurrenceRecord, position_gap}
-use Rattle.positions.specs.Occurrences.{Occurrence, PostedTerm, Held, occurrence_of, with_occurrence, any_below, tells_other_sum, is_misled, due_with, due_of, occurrence_conditions, occurrence_kind}
+use Rattle.positions.specs.Occurrences.{PostedTerm, Held, occurrence_of, with_occurrence, any_below, tells_other_sum, is_misled, due_with, due_of, occurrence_conditions, occurrence_kind}
 use Rattle.positions.specs.Written.{written_parts, written_record, record_bytes, document_occurrence_bytes, last_length, last_position, AreGoodOccurrences}
 use Rattle.positions.proofs.WrittenRecords.{IsBefore, written-spells, written-force, written-payload, written-gap}
 

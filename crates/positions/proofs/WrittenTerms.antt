@@ -10,13 +10,14 @@ use Rattle.lu_grammar.specs.Bytes.{IsBytes}
 use Rattle.lu_grammar.specs.Records.{first_broken}
 use Rattle.lu_grammar.specs.Plans.{done, one, times, each}
 use Rattle.lu_grammar.proofs.Codecs.{Writes, Writes-none, Writes-done, Writes-and_then, Writes-turn}
+use Rattle.lu_types.specs.Occurrences.{Occurrence}
 use Rattle.freq_skips.specs.Levels.{level_count, stride, data_count}
 use Rattle.freq_skips.specs.Entries.{no_posting}
 use Rattle.freq_skips.specs.Walks.{point_at}
 use Rattle.freq_skips.specs.Records.{is_odd}
 use Rattle.freq_skips.proofs.Powers.{power-pos, quotient-below, multiple-next, multiple-index}
 use Rattle.positions.specs.Records.{OccurrenceRecord, position_gap}
-use Rattle.positions.specs.Occurrences.{Occurrence, PostedTerm, Held, nothing_held, closed, any_below, has_datum, datum_at, tells_other_sum, is_misled, due_with, occurrence_conditions, occurrence_kind, count_at, entry_plan, entries_plan}
+use Rattle.positions.specs.Occurrences.{PostedTerm, Held, nothing_held, closed, any_below, has_datum, datum_at, tells_other_sum, is_misled, due_with, occurrence_conditions, occurrence_kind, count_at, entry_plan, entries_plan}
 use Rattle.positions.specs.Terms.{term_plan}
 use Rattle.positions.specs.Written.{written_record, record_bytes, document_occurrence_bytes, occurrences_bytes, last_length, last_position, AreGoodOccurrences, IsHanded}
 use Rattle.positions.proofs.LevelTests.{any_below-none, other-none, other-false}

@@ -1,9 +1,9 @@
 -- What is written of the occurrences of a term beside its entries.
 use Rattle.std.specs.Prelude.{◌≡◌, ◌<◌, ◌≤◌, ℕ, false, List, [], length, take, slice_index_or}
+use Rattle.lu_types.specs.Occurrences.{Occurrence}
 use Rattle.freq_skips.specs.declared.rules.RuledTerm.{RuledTerm}
 use Rattle.freq_skips.specs.declared.writer.Handed.{Handed}
 use Rattle.freq_skips.specs.Written.{no_handed}
-use Rattle.positions.specs.Occurrences.{Occurrence}
 use Rattle.positions.specs.Written.{occurrences_bytes, AreGoodOccurrences}
 
 -- the occurrences of each entry are as many as the frequency that is handed to the writer of entries, and it is handed the bytes that the entries before have, as `begin_doc` answers them

@@ -4,12 +4,13 @@ use Rattle.lu_grammar.specs.Bytes.{Cursor, place_in}
 use Rattle.lu_grammar.specs.Parts.{vint}
 use Rattle.lu_grammar.specs.Reading.{read_part}
 use Rattle.lu_grammar.specs.Meaning.{ReadsTo}
+use Rattle.lu_types.specs.Occurrences.{Occurrence}
 use Rattle.freq_skips.specs.declared.rules.RuledTerm.{RuledTerm}
 use Rattle.freq_skips.specs.declared.skip_point.SkipPoint.{SkipPoint}
 use Rattle.freq_skips.specs.Terms.{TermData, term_plan as frq_term_plan}
 use Rattle.freq_skips.specs.Points.{IsPoint}
 use Rattle.positions.specs.Records.{states_length}
-use Rattle.positions.specs.Occurrences.{Occurrence, PostedTerm, count_at}
+use Rattle.positions.specs.Occurrences.{PostedTerm, count_at}
 use Rattle.positions.specs.Terms.{term_plan}
 use Rattle.positions.specs.Standing.{StandsIn}
 

@@ -1,6 +1,7 @@
 -- The occurrences of a term: what each stands for, and what it must meet (format page, "Positions").
 use Rattle.std.specs.Prelude.{ℕ, zero, suc, ◌+◌, ◌-◌, ◌/◌, ◌%◌, ◌^◌, Bool, false, not, ◌||◌, ◌&&◌, ◌==◌, nat_le, List, [], ◌∷◌, ◌++◌, length, if◌then◌else◌, slice_index_or}
 use Rattle.lu_types.specs.RuleNumbers as number
+use Rattle.lu_types.specs.Occurrences.{Occurrence}
 use Rattle.lu_grammar.specs.Records.{Condition}
 use Rattle.lu_grammar.specs.Plans.{Plan, done, and_then, Kind, times, each}
 use Rattle.freq_skips.specs.declared.rules.RuledTerm.{RuledTerm}
@@ -12,11 +13,6 @@ use Rattle.freq_skips.specs.Terms.{TermData}
 use Rattle.freq_skips.specs.Walks.{point_at}
 use Rattle.positions.specs.declared.due.DueOccurrence.{DueOccurrence}
 use Rattle.positions.specs.Records.{OccurrenceRecord, position_gap, length_after, occurrence_shape}
-
--- a place of the term in a document, and the payload there, empty where it has none
-pub record Occurrence : Type 0 where
-  pub position : ℕ
-  pub payload : List ℕ
 
 -- a term with what its part of `.frq` stands for
 pub record PostedTerm : Type 0 where

@@ -1,7 +1,7 @@
 -- The parts of an occurrence, as the record that they are.
+use Rattle.lu_types.specs.Occurrences.{Occurrence}
 use Rattle.positions.specs.declared.record.OccurrenceParts.{OccurrenceParts}
 use Rattle.positions.specs.declared.occurrences.Occ.{Occ}
-use Rattle.positions.specs.Occurrences.{Occurrence}
 use Rattle.positions.specs.Records.{OccurrenceRecord}
 
 -- the record of some parts

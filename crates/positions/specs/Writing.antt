@@ -1,7 +1,7 @@
 -- A writer of `.prx`, and what it holds.
 use Rattle.std.specs.Prelude.{◌≡◌, ◌≤◌, ◌<◌, ◌^◌, ℕ, Bool, false, List, [], ◌∷◌, ◌++◌, length, Option, Some, None}
 use Rattle.lu_grammar.specs.Bytes.{IsBytes}
-use Rattle.positions.specs.Occurrences.{Occurrence}
+use Rattle.lu_types.specs.Occurrences.{Occurrence}
 use Rattle.positions.specs.Written.{written_record, record_bytes, occurrences_bytes, last_length, last_position}
 
 -- a writer: the bytes of the file so far; of the term that is begun whether its field has payloads, and where it starts; of the document that is begun the payload length and the position of the last occurrence

@@ -3,12 +3,13 @@ use Rattle.std.specs.Prelude.{◌≡◌, ◌<◌, ◌≤◌, ◌^◌, ℕ, suc, 
 use Rattle.std.specs.List.{flat_map}
 use Rattle.lu_grammar.specs.Bytes.{IsBytes}
 use Rattle.lu_grammar.specs.Parts.{vint, num, spelling}
+use Rattle.lu_types.specs.Occurrences.{Occurrence}
 use Rattle.freq_skips.specs.Entries.{no_posting}
 use Rattle.freq_skips.specs.Levels.{level_count, stride, data_count}
 use Rattle.freq_skips.specs.Walks.{point_at}
 use Rattle.freq_skips.specs.Written.{optional_bytes}
 use Rattle.positions.specs.Records.{OccurrenceRecord}
-use Rattle.positions.specs.Occurrences.{Occurrence, PostedTerm}
+use Rattle.positions.specs.Occurrences.{PostedTerm}
 
 -- the length of a payload is stated where it is not the one of the occurrence before; none is before the first of a document
 abbrev pub restates : Option ℕ → ℕ → Bool

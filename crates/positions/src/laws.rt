@@ -3,6 +3,7 @@ ghost use Rattle.std.specs.Prelude.{◌≡◌, ◌<◌, ◌^◌, ◌+◌, ◌-�
 ghost use Rattle.lu_types.specs.RuleNumbers as number;
 ghost use Rattle.lu_grammar.specs.Bytes.{IsBytes, Cursor, place_in};
 ghost use Rattle.lu_grammar.specs.Meaning.{Reads, ReadsTo, FirstFault};
+ghost use Rattle.lu_types.specs.Occurrences.{Occurrence};
 ghost use Rattle.freq_skips.specs.declared.rules.RuledTerm.{RuledTerm};
 ghost use Rattle.freq_skips.specs.Entries.{no_posting};
 ghost use Rattle.freq_skips.specs.Terms.{TermData, term_plan as frq_term_plan};
@@ -11,7 +12,7 @@ ghost use Rattle.freq_skips.specs.Writing.{IsAsHanded};
 ghost use Rattle.positions.specs.Beside.{IsBeside};
 ghost use Rattle.freq_skips.specs.ProxPlaces.{HasProxPlaces};
 ghost use Rattle.positions.specs.Cursors.{StandsInBoth};
-ghost use Rattle.positions.specs.Occurrences.{Occurrence, PostedTerm};
+ghost use Rattle.positions.specs.Occurrences.{PostedTerm};
 ghost use Rattle.positions.specs.Written.{occurrences_bytes, AreGoodOccurrences, IsHanded};
 ghost use Rattle.positions.specs.Writing.{WriterState, occurrences_begun, document_begun, occurrence_added, HoldsTerm, HoldsDocument};
 ghost use Rattle.positions.specs.Terms.{IsTermFault, AreTermsUpTo, term_plan, terms_plan};

@@ -12,6 +12,7 @@ use Rattle.lu_grammar.specs.Parts.{byte, int32, int64, spelling}
 use Rattle.lu_grammar.specs.Records.{whole, Spells, first_broken}
 use Rattle.lu_grammar.specs.Plans.{Plan, done, due, each, times}
 use Rattle.lu_grammar.specs.Meaning.{Spelled, bytes_of, AreGood, due_after}
+use Rattle.lu_grammar.proofs.Codecs.{ends, value_of}
 use Rattle.lu_types.specs.RuleNumbers as rules
 use Rattle.segment_infos.specs.declared.infos.SegInfo.{SegInfo}
 use Rattle.segment_infos.specs.declared.record.TheConstants.{FORMAT_NUMBER, MOST_DOCUMENTS}
@@ -85,15 +86,6 @@ pub record MoreLines (n : ℕ) (before segments : List SegInfo) (bytes : List �
   pub count : length more ≡ n
   pub spelled : bytes ≡ flat_map line_bytes more
   pub are : AreLines segments
-
--- whether nothing more is due, and what the records stand for then
-abbrev pub ends : {V : Type 0} → Plan V CommitRecord → Bool
-ends (done v) = true
-ends (due shape conditions after) = false
-
-abbrev pub value_of : {V : Type 0} → V → Plan V CommitRecord → V
-value_of other (done v) = v
-value_of other (due shape conditions after) = other
 
 -- a record that is a segment
 pub record IsLineRecord (segments : List SegInfo) (r : CommitRecord) (front : List ℕ) : Type 0 where

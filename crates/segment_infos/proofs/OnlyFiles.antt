@@ -7,6 +7,7 @@ use Rattle.lu_grammar.specs.Parts.{int32, int64, spelling}
 use Rattle.lu_grammar.specs.Records.{whole, Spells, first_broken}
 use Rattle.lu_grammar.specs.Plans.{Plan, done, due, and_then, times}
 use Rattle.lu_grammar.specs.Meaning.{Spelled, bytes_of, AreGood, due_after, Reads}
+use Rattle.lu_grammar.proofs.Codecs.{ends, value_of, split_records}
 use Rattle.lu_prims.specs.Checksum.{checksum}
 use Rattle.lu_types.specs.RuleNumbers as rules
 use Rattle.segment_infos.specs.declared.infos.SegInfo.{SegInfo}
@@ -21,50 +22,7 @@ use Rattle.segment_infos.specs.Spelling.{line_bytes, map_bytes, heading_bytes, u
 use Rattle.segment_infos.proofs.SpelledPieces.{followed-spelled}
 use Rattle.segment_infos.proofs.GoodLines.{not_first}
 use Rattle.segment_infos.proofs.OnlyParts.{map-is}
-use Rattle.segment_infos.proofs.OnlyCommits.{ends, value_of, same_number, heading-is, lines-only}
-
--- ---- one plan and then another
-
--- what was read by the first, and then by the second
-pub record SplitRecords {V W : Type 0} (plan : Plan V CommitRecord) (next : V → Plan W CommitRecord) (place : ℕ) (ss : List (Spelled CommitRecord)) (w : W) : Type 0 where
-  pub value : V
-  pub first : List (Spelled CommitRecord)
-  pub second : List (Spelled CommitRecord)
-  pub all : bytes_of ss ≡ bytes_of first ++ bytes_of second
-  pub good : AreGood plan place first
-  pub none : due_after plan place first ≡ done value
-  pub others_good : AreGood (next value) (place + length (bytes_of first)) second
-  pub others_none : due_after (next value) (place + length (bytes_of first)) second ≡ done w
-
-pub split_records : {V W : Type 0} (plan : Plan V CommitRecord) (next : V → Plan W CommitRecord) (place : ℕ) (ss : List (Spelled CommitRecord)) (w : W) → AreGood (and_then plan next) place ss → due_after (and_then plan next) place ss ≡ done w
-    → SplitRecords plan next place ss w
-split_records (done v) next place ss w good none =
-    let same : place ≡ place + 0 = omega arith in
-    record {
-      value = v;
-      first = [];
-      second = ss;
-      all = refl;
-      good = tt;
-      none = refl;
-      others_good = subst (λ (p : ℕ). AreGood (next v) p ss) same good;
-      others_none = subst (λ (p : ℕ). due_after (next v) p ss ≡ done w) same none;
-    }
-split_records (due shape conditions after) next place [] w good none = absurd (true≢false (sym (ap ends none)))
-split_records {V} {W} (due shape conditions after) next place (s ∷ ss) w good none =
-    let there = place + length s.front in
-    let rest = split_records (after place s.it) next there ss w good.1 none in
-    let long : there + length (bytes_of rest.first) ≡ place + length (s.front ++ bytes_of rest.first) = omega (arith, length-append s.front (bytes_of rest.first)) in
-    record {
-      value = rest.value;
-      first = s ∷ rest.first;
-      second = rest.second;
-      all = ap (λ (t : List ℕ). s.front ++ t) rest.all ∙ sym (append_assoc s.front (bytes_of rest.first) (bytes_of rest.second));
-      good = (good.0, rest.good);
-      none = rest.none;
-      others_good = subst (λ (p : ℕ). AreGood (next rest.value) p rest.second) long rest.others_good;
-      others_none = subst (λ (p : ℕ). due_after (next rest.value) p rest.second ≡ done w) long rest.others_none;
-    }
+use Rattle.segment_infos.proofs.OnlyCommits.{same_number, heading-is, lines-only}
 
 -- ---- user data
 

@@ -5,7 +5,7 @@ use Rattle.std.specs.Str.Parse.{digits_value}
 use Rattle.lu_prims.specs.Base36.{base36}
 use Rattle.lu_types.specs.declared.kind.FileKind.{FileKind}
 use Rattle.lu_types.specs.declared.kind.FileKind.TheVariants as kinds
-use Rattle.lu_types.specs.Kinds.{extension}
+use Rattle.lu_types.specs.Kinds.{extension, part_kinds}
 use Rattle.lu_types.specs.Names.{greatest_segment, segment_name, part_name, IsPart}
 use Rattle.segment_infos.specs.declared.naming.LuceneName.{LuceneName}
 use Rattle.segment_infos.specs.declared.naming.LuceneName.TheVariants.{Commit, Part, Del, Sep}
@@ -43,10 +43,6 @@ abbrev pub IsLuceneName : List ℕ → Type 0
 IsLuceneName text = (name : LuceneName) × SpellsName text name
 
 -- ---- the name that a text spells
-
--- the kinds of which a segment has one file that is named by its extension
-abbrev pub part_kinds : List FileKind
-part_kinds = kinds.Cfs ∷ kinds.Cfx ∷ kinds.Fnm ∷ kinds.Fdx ∷ kinds.Fdt ∷ kinds.Tis ∷ kinds.Tii ∷ kinds.Frq ∷ kinds.Prx ∷ kinds.Nrm ∷ kinds.Tvx ∷ kinds.Tvd ∷ kinds.Tvf ∷ []
 
 -- the kind of a part by its extension; none where it is that of no part
 abbrev pub part_kind_of : List ℕ → Option FileKind

@@ -5,8 +5,8 @@ ghost use Rattle.segment_infos.specs.Format.{store_of, norm_gens_of, segment_of_
 
 use crate::infos::SegInfo;
 use crate::lists::NormGens;
-use crate::numbers::{count_of, given, is_negative, number_in};
-use crate::record::{Line, NormPart, PACKED, SharedStorePart};
+use crate::numbers::{count_or_zero, given, is_negative, segment_number_in};
+use crate::record::{NormPart, PACKED, SegmentLine, SharedStorePart};
 use lu_types::SharedStore;
 
 /// The number that a name spells, and 0 where it is no segment name.

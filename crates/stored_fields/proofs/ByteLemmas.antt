@@ -8,8 +8,9 @@ use Rattle.lu_types.specs.declared.stored.Stored.TheVariants.{Text, Binary}
 use Rattle.lu_grammar.specs.Bytes.{IsBytes}
 use Rattle.lu_grammar.specs.Parts.{int32, num, text, spelling}
 use Rattle.lu_grammar.proofs.Codecs.{IsBytes-cons, IsBytes-append, IsBytes-flat_map, IsBytes-spelling}
-use Rattle.stored_fields.specs.Format.{store_format, header_length}
+use Rattle.stored_fields.specs.Format.{store_format}
 use Rattle.lu_types.specs.StoredFields.{StoredField}
+use Rattle.lu_types.specs.Stores.{header_length}
 use Rattle.stored_fields.specs.Values.{StoredDocument}
 use Rattle.stored_fields.specs.Writing.{IsStorableValue, IsStorableField, IsStorableDocument, AreStorable, value_bits, content_bytes, value_bytes, document_bytes, fdt_bytes, places_from, place_bytes, fdx_bytes}
 use Rattle.stored_fields.proofs.WriteLemmas.{bits_fit}

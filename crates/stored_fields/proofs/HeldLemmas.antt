@@ -10,8 +10,9 @@ use Rattle.lu_grammar.specs.Parts.{int32, num, IsValue, spelling}
 use Rattle.lu_grammar.specs.Reading.{value_or}
 use Rattle.lu_grammar.specs.Plans.{Plan, done, and_then, each, Broken, read_file}
 use Rattle.lu_grammar.proofs.Codecs.{ok_of, Writes, read_file-Writes, Writes-due, Writes-done, Writes-and_then}
-use Rattle.stored_fields.specs.Format.{store_format, header_length}
+use Rattle.stored_fields.specs.Format.{store_format}
 use Rattle.lu_types.specs.StoredFields.{StoredField}
+use Rattle.lu_types.specs.Stores.{header_length}
 use Rattle.stored_fields.specs.Values.{StoredDocument}
 use Rattle.stored_fields.specs.Documents.{FdtRecord, format, header_shape}
 use Rattle.stored_fields.specs.Stores.{total_of}

@@ -3,10 +3,11 @@ use Rattle.std.proofs.Common.{List, ℕ, length, Some, refl}
 use Rattle.lu_types.specs.declared.stored.Window.{Window}
 use Rattle.lu_types.specs.FilePlans.{StandFor}
 use Rattle.lu_grammar.proofs.Codecs.{Reads-from}
+use Rattle.lu_types.specs.Stores.{windowed}
 use Rattle.stored_fields.specs.Values.{StoredDocument}
 use Rattle.stored_fields.specs.Places.{fdx_plan}
 use Rattle.stored_fields.specs.Documents.{fdt_plan}
-use Rattle.stored_fields.specs.Stores.{windowed, store_files}
+use Rattle.stored_fields.specs.Stores.{store_files}
 use Rattle.stored_fields.specs.Writing.{AreStorable, fdt_bytes, fdx_bytes, IsCheckable}
 use Rattle.stored_fields.proofs.ReadBackLemmas.{places_of, read_back}
 use Rattle.stored_fields.proofs.ByteLemmas.{of_fdx, of_fdt}

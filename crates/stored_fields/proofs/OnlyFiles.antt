@@ -13,13 +13,14 @@ use Rattle.lu_grammar.specs.Plans.{one, times, each, read_plan, read_file}
 use Rattle.lu_grammar.specs.Meaning.{bytes_of}
 use Rattle.lu_grammar.proofs.Codecs.{ok_pair, same_pair, ok_of, reads-read_plan, read_file-Reads, read_plan-and_then, then_ok, record_at-was, due_was, file_was}
 use Rattle.lu_grammar.proofs.Loops.{one-was}
-use Rattle.stored_fields.specs.Format.{store_format, header_length, format_shape, is_other_store_format}
+use Rattle.stored_fields.specs.Format.{store_format, format_shape, is_other_store_format}
 use Rattle.stored_fields.specs.Values.{StoredDocument, HasFields}
 use Rattle.stored_fields.specs.Places.{fdx_header_conditions, place_shape, fdx_place_conditions, places_kind, fdx_plan}
 use Rattle.stored_fields.specs.Documents.{FdtRecord, header_shape, format_conditions, is_within, next_document, fdt_plan}
-use Rattle.stored_fields.specs.Stores.{store_files, windowed}
+use Rattle.stored_fields.specs.Stores.{store_files}
 use Rattle.stored_fields.specs.Writing.{IsStorableDocument, AreStorable, document_bytes, fdt_bytes, places_from, place_bytes, fdx_bytes}
 use Rattle.std.specs.Prelude.{All}
+use Rattle.lu_types.specs.Stores.{windowed, header_length}
 use Rattle.stored_fields.proofs.SpotLemmas.{same_format}
 use Rattle.stored_fields.proofs.PlaceLemmas.{header_format, has_places}
 use Rattle.stored_fields.proofs.HeldLemmas.{places_many}

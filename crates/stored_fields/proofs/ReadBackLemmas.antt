@@ -14,11 +14,11 @@ use Rattle.lu_grammar.specs.Parts.{int32, num, groups, spelling}
 use Rattle.lu_grammar.specs.Records.{first_broken}
 use Rattle.lu_grammar.specs.Plans.{done, and_then, one, times, each, read_file}
 use Rattle.lu_grammar.proofs.Codecs.{Writes, Writes-due, Writes-done, Writes-and_then, Writes-none, read_file-Writes}
-use Rattle.stored_fields.specs.Format.{store_format, header_length, format_shape}
+use Rattle.lu_types.specs.Stores.{windowed, header_length}
+use Rattle.stored_fields.specs.Format.{store_format, format_shape}
 use Rattle.stored_fields.specs.Values.{StoredDocument, HasFields}
 use Rattle.stored_fields.specs.Places.{is_past_store, fdx_header_conditions, is_misplaced, fdx_place_conditions, places_kind, fdx_plan}
 use Rattle.stored_fields.specs.Documents.{format, count, count_of, header_shape, format_conditions, count_shape, start_conditions, values_kind, is_within, document_at, next_document, fdt_plan}
-use Rattle.stored_fields.specs.Stores.{windowed}
 use Rattle.stored_fields.specs.Writing.{IsStorableDocument, AreStorable, value_bytes, document_bytes, fdt_bytes, places_from, place_bytes, fdx_bytes, IsCheckable}
 use Rattle.stored_fields.proofs.PlaceLemmas.{last_push}
 use Rattle.stored_fields.proofs.WriteLemmas.{IsField, all_head, all_tail, writes_one, writes_values}

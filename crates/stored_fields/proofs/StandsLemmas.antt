@@ -11,11 +11,10 @@ use Rattle.lu_grammar.specs.Records.{first_broken}
 use Rattle.lu_grammar.specs.Plans.{Plan, done, and_then, times, each, read_plan, read_file}
 use Rattle.lu_grammar.specs.Meaning.{bytes_of}
 use Rattle.lu_grammar.proofs.Parts.{IsBytes-drop}
-use Rattle.lu_grammar.proofs.Codecs.{ok_pair, same_pair, ok_of, reads-read_plan, read_plan-and_then, then_ok, record_at-was, alone_was, due_was, file_was}
+use Rattle.lu_grammar.proofs.Codecs.{ok_pair, same_pair, ok_of, reads-read_plan, read_plan-and_then, then_ok, record_at-was, alone_was, due_was, file_was, int32_read}
 use Rattle.stored_fields.specs.Values.{StoredDocument}
 use Rattle.stored_fields.specs.Documents.{format, count, count_of, header_shape, format_conditions, count_shape, start_conditions, values_kind, is_within, document_at, next_document, fdt_plan}
 use Rattle.stored_fields.specs.Remaining.{values_at}
-use Rattle.stored_fields.proofs.FixedLemmas.{int32_read}
 use Rattle.stored_fields.proofs.ValueLemmas.{values_read}
 
 -- the cursor stands in the file

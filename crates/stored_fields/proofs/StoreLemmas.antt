@@ -8,15 +8,15 @@ use Rattle.lu_grammar.specs.Reading.{read, read_part, value_or}
 use Rattle.lu_grammar.specs.declared.bad.Bad.{Bad}
 use Rattle.stored_fields.specs.Remaining.{values_at}
 use Rattle.lu_grammar.specs.Meaning.{Reads}
-use Rattle.lu_grammar.proofs.Codecs.{ok_of, err_is_not_ok, same_pair, read_file-Reads}
+use Rattle.lu_grammar.proofs.Codecs.{ok_of, err_is_not_ok, same_pair, read_file-Reads, settled}
 use Rattle.lu_grammar.proofs.Records.{at}
 use Rattle.std.specs.Prelude.{All}
+use Rattle.lu_types.specs.Stores.{windowed}
 use Rattle.stored_fields.proofs.OnlyFiles.{windowed_named}
 use Rattle.stored_fields.specs.Values.{StoredDocument, HasFields}
 use Rattle.stored_fields.specs.Places.{fdx_plan}
 use Rattle.stored_fields.specs.Documents.{fdt_plan}
-use Rattle.stored_fields.specs.Stores.{places_in, documents_in, windowed, HaveNoFault}
-use Rattle.stored_fields.proofs.SpotLemmas.{settled}
+use Rattle.stored_fields.specs.Stores.{places_in, documents_in, HaveNoFault}
 use Rattle.stored_fields.proofs.PlaceLemmas.{has_places, place_is}
 use Rattle.stored_fields.proofs.StandsLemmas.{IsOn, Stands, all_stand}
 

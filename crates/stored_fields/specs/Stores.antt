@@ -1,12 +1,13 @@
 -- What the two files of a store stand for (format page, "Stored documents").
-use Rattle.std.specs.Prelude.{◌≡◌, ℕ, Bool, ◌-◌, ◌/◌, List, [], length, take, drop, ℤ, Option, Ok}
+use Rattle.std.specs.Prelude.{◌≡◌, ℕ, Bool, ◌-◌, ◌/◌, List, [], length, ℤ, Option, Ok}
 use Rattle.lu_types.specs.declared.kind.FileKind.TheVariants.{Fdx, Fdt}
 use Rattle.lu_types.specs.declared.stored.Window.{Window}
 use Rattle.lu_types.specs.FilePlans.{FilePlan, stands, needs}
 use Rattle.lu_grammar.specs.Bytes.{IsBytes, Cursor}
 use Rattle.lu_grammar.specs.Reading.{value_or}
 use Rattle.lu_grammar.specs.Plans.{read_plan, read_file}
-use Rattle.stored_fields.specs.Format.{header_length, place_length}
+use Rattle.lu_types.specs.Stores.{header_length, whole_store, windowed}
+use Rattle.stored_fields.specs.Format.{place_length}
 use Rattle.stored_fields.specs.Values.{StoredDocument}
 use Rattle.stored_fields.specs.Places.{fdx_plan}
 use Rattle.stored_fields.specs.Documents.{document_plan, fdt_plan}
@@ -14,14 +15,6 @@ use Rattle.stored_fields.specs.Documents.{document_plan, fdt_plan}
 -- how many documents a store has, by the length of its `.fdx`
 abbrev pub total_of : List ℕ → ℕ
 total_of fdx = (length fdx - header_length) / place_length
-
--- all documents of a store of so many
-abbrev pub whole_store : ℕ → Window
-whole_store total = record { offset = 0; count = total }
-
--- those of the documents that the window has
-abbrev pub windowed : {A : Type 0} → Window → List A → List A
-windowed window all = take window.count (drop window.offset all)
 
 -- ---- the two files, in order, and what they stand for: the documents in the window
 

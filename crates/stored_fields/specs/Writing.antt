@@ -5,10 +5,10 @@ use Rattle.lu_types.specs.declared.stored.Stored.{Stored}
 use Rattle.lu_types.specs.declared.stored.Stored.TheVariants.{Text, Binary}
 use Rattle.lu_types.specs.declared.stored.Window.{Window}
 use Rattle.lu_grammar.specs.Parts.{int32, int64, num, bytes, text, IsValue, spelling}
-use Rattle.stored_fields.specs.Format.{store_format, header_length, bit_tokenized, bit_binary}
+use Rattle.stored_fields.specs.Format.{store_format, bit_tokenized, bit_binary}
 use Rattle.lu_types.specs.StoredFields.{StoredField}
+use Rattle.lu_types.specs.Stores.{windowed, header_length}
 use Rattle.stored_fields.specs.Values.{StoredDocument, HasFields}
-use Rattle.stored_fields.specs.Stores.{windowed}
 
 -- ---- what can be written
 

@@ -1,11 +1,12 @@
 //! The laws of written documents, and the numbers that the format fixes: each stands on a function that does nothing.
-ghost use Rattle.std.specs.Prelude.{◌≡◌, ℕ, List, length, Some};
+ghost use Rattle.std.specs.Prelude.{◌≡◌, ℕ, List, length, Some, pos};
 ghost use Rattle.lu_types.specs.declared.stored.Window.{Window};
 ghost use Rattle.lu_types.specs.FilePlans.{StandFor};
 ghost use Rattle.lu_grammar.specs.Bytes.{IsBytes};
-ghost use Rattle.stored_fields.specs.Format.{store_format, header_length, place_length, greatest_place, bit_tokenized, bit_binary};
+ghost use Rattle.lu_types.specs.Stores.{windowed, header_length, greatest_place};
+ghost use Rattle.stored_fields.specs.Format.{store_format, place_length, bit_tokenized, bit_binary};
 ghost use Rattle.stored_fields.specs.Values.{StoredDocument};
-ghost use Rattle.stored_fields.specs.Stores.{store_files, windowed};
+ghost use Rattle.stored_fields.specs.Stores.{store_files};
 ghost use Rattle.stored_fields.specs.Writing.{AreStorable, IsCheckable, fdx_bytes, fdt_bytes};
 
 use crate::layout::{GREATEST_PLACE, HEADER_BYTES, PLACE_BYTES, STORE_FORMAT};
@@ -29,6 +30,6 @@ pub fn only_written_is_read()
 
 /// The numbers of the code are those that the definitions have.
 pub fn numbers_are_fixed()
-    ensures files { (STORE_FORMAT ≡ store_format) × (HEADER_BYTES ≡ header_length) × (PLACE_BYTES ≡ place_length) × (GREATEST_PLACE ≡ greatest_place) }
+    ensures files { (STORE_FORMAT ≡ store_format) × (HEADER_BYTES ≡ header_length) × (PLACE_BYTES ≡ place_length) × (GREATEST_PLACE ≡ pos greatest_place) }
     ensures bits { (TOKENIZED ≡ bit_tokenized) × (BINARY ≡ bit_binary) }
 {}

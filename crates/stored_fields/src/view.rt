@@ -40,8 +40,9 @@ pub struct StoredView<'a> {
 
 impl<'a> Model for StoredView<'a> {
     ghost use Rattle.std.specs.Prelude.{◌≡◌, ◌+◌, ◌^◌, ◌<◌, List};
+    ghost use Rattle.lu_types.specs.Stores.{windowed};
     ghost use Rattle.stored_fields.specs.Values.{StoredDocument};
-    ghost use Rattle.stored_fields.specs.Stores.{documents_in, windowed, HaveNoFault};
+    ghost use Rattle.stored_fields.specs.Stores.{documents_in, HaveNoFault};
 
     ghost Value = { List StoredDocument };
 

@@ -16,14 +16,14 @@ ghost use Rattle.term_index.specs.Points.{index_point_of, IsBoundedPoint, ShareF
 
 use crate::point::{IndexPoint, point_at};
 use crate::walk::{Passed, pass_interval};
-use lu_prims::{Cur, OutOfMemory};
+use lu_prims::{Cur, OutOfMemory, follow};
 use lu_types::rules::{
     TII_COUNT, TII_FORMAT, TII_INTERVALS, TII_PLACE, TII_PREFIX, TII_TERM, TRAILING, rule_of,
 };
 use lu_types::{CodecFault, FileKind, Spot, TermInfo};
 use std::alloc::Global;
 use term_dict::{
-    FORMAT, Heading, TermCursor, TermEntry, TermFile, TermNumbers, follow, heading_at,
+    FORMAT, Heading, TermCursor, TermEntry, TermFile, TermNumbers, heading_at,
 };
 
 /// How many entries the index of so many terms has: one for each interval that has begun.

@@ -6,7 +6,7 @@ use Rattle.std.proofs.lemmas.List.{append-nil, length-append}
 use Rattle.lu_grammar.specs.Parts.{vint, vlong, spelling}
 use Rattle.lu_model.specs.Index.{Span, VectorTerm}
 use Rattle.term_vectors.specs.declared.layout.DocumentPlaces.{DocumentPlaces}
-use Rattle.term_vectors.specs.Format.{header_length}
+use Rattle.lu_types.specs.Stores.{header_length}
 use Rattle.term_vectors.specs.Vectors.{StoredVector}
 use Rattle.term_vectors.specs.VectorBytes.{vector_header_bytes, vector_positions_bytes, span_bytes, vector_spans_bytes, vector_term_bytes, vector_terms_bytes, vector_bytes, vectors_bytes, tvf_bytes, vector_length_bytes, differences_bytes, document_fields_bytes, tvd_bytes, document_places_bytes, written_places, tvx_bytes}
 use Rattle.term_vectors.specs.VectorWriting.{difference_from, begun_places_bytes, vector_start, last_start, last_vector_text, last_vector_position, last_vector_end}

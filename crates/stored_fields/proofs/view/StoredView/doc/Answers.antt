@@ -1,6 +1,7 @@
 use Rattle.std.proofs.Common.{◌≡◌, ◌<◌, ◌^◌, [], List, get_or, sym, ap, ◌∙◌, arith, rules, pos, to_z, of_z, w64}
+use Rattle.lu_types.specs.Stores.{windowed}
 use Rattle.stored_fields.specs.Values.{StoredDocument}
-use Rattle.stored_fields.specs.Stores.{documents_in, windowed}
+use Rattle.stored_fields.specs.Stores.{documents_in}
 use Rattle.stored_fields.proofs.StoreLemmas.{number_in_window, number_in_store, stands_here, not_counted, document_values}
 use Rattle.stored_fields.proofs.view.StoredView.doc.Goals as goal
 

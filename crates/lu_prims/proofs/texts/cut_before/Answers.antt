@@ -1,7 +1,7 @@
 use Rattle.std.proofs.Common.{subst, List, ℕ}
 use Rattle.std.specs.Str.{IsCharBoundary}
 use Rattle.std.proofs.lemmas.Str.{IsUtf8-take}
-use Rattle.term_vectors.proofs.texts.cut_before.Goals as goal
+use Rattle.lu_prims.proofs.texts.cut_before.Goals as goal
 
 pub returns-clause-front : goal.returns-clause-front
 returns-clause-front c =

@@ -14,9 +14,6 @@ abbrev pub value_of : {V R : Type 0} → V → Plan V R → V
 value_of other (done v) = v
 value_of other (due shape conditions after) = other
 
-pub not_due : {V R : Type 0} (plan : Plan V R) (v : V) → ends plan ≡ false → plan ≡ done v → ⊥
-not_due plan v more none = true≢false (sym (ap ends none) ∙ more)
-
 -- what was read by the first, and then by the second
 pub record SplitRecords {V W R : Type 0} (plan : Plan V R) (next : V → Plan W R) (place : ℕ) (ss : List (Spelled R)) (w : W) : Type 0 where
   pub value : V

@@ -1,4 +1,4 @@
--- A number of eight bytes.
+-- Numbers of four and of eight bytes.
 use Rattle.std.proofs.Common.{◌≡◌, ℕ, ◌<◌, ◌≤◌, true, false, ltb, List, length, Result, Ok, Err, refl, sym, ap, ◌∙◌, ℤ, inl, inr}
 use Rattle.std.proofs.lemmas.Bool.{cases_lt, lt-ltb, le-ltb}
 use Rattle.lu_grammar.specs.declared.bad.Bad.{Bad}
@@ -8,7 +8,8 @@ use Rattle.lu_grammar.specs.Parts.{int32, int64}
 use Rattle.lu_grammar.specs.Reading.{◌>>=◌, read, read_part, signed_of}
 use Rattle.std.specs.Int.{w32, w64}
 use Rattle.std.proofs.Common.{take}
-use Rattle.lu_grammar.proofs.Codecs.{ok_pair, same_pair, err_is_not_ok}
+use Rattle.lu_grammar.proofs.Records.{ok_pair, same_pair}
+use Rattle.lu_grammar.proofs.Plans.{err_is_not_ok}
 
 -- where there are eight bytes they are a number
 pub int64_there : (bs : List ℕ) → 8 ≤ length bs → read int64 bs ≡ Ok (signed_of w64 (take 8 bs), 8)

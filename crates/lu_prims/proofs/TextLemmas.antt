@@ -1,9 +1,12 @@
--- UTF-8 in two pieces.
+-- Texts in two pieces: their order by what follows what they share, and UTF-8.
 use Rattle.std.proofs.Common.{◌≡◌, ℕ, Bool, true, false, ◌&&◌, List, [], ◌∷◌, ◌++◌, length, take, drop, refl, sym, ap, subst, ◌∙◌, append_assoc, arith}
 use Rattle.std.specs.Str.{IsUtf8, is_utf8}
 use Rattle.std.proofs.Math.Utf8.{encode, encodes, scalars, scalar}
 use Rattle.std.proofs.lemmas.Str.{encode_same, length-encode, len_utf8_bounds, IsUtf8-append, is_utf8-from_IsUtf8, IsUtf8-from_is_utf8}
 use Rattle.std.proofs.lemmas.List.{length-append, take-append-drop}
+use Rattle.lu_prims.specs.Order.{byte_rank, text_cmp, bytes_cmp}
+use Rattle.lu_prims.proofs.OrderLemmas.{level_front}
+use Rattle.lu_prims.proofs.Units.{text_cmp_is}
 
 both : (a b : Bool) → (a && b) ≡ true → b ≡ true
 both true b e = e
@@ -30,3 +33,8 @@ is_utf8-not_after bs from front not_text = go (is_utf8 bs) refl
     go : (b : Bool) → is_utf8 bs ≡ b → b ≡ false
     go true e = absurd (not_text (IsUtf8-rest (take from bs) (drop from bs) front (subst IsUtf8 (sym (take-append-drop from bs)) (IsUtf8-from_is_utf8 bs e))))
     go false e = refl
+
+-- texts that share their first bytes are as the bytes that follow
+pub text_cmp-tail : (s x : List ℕ) (p : ℕ) → IsUtf8 s → IsUtf8 (take p s ++ x) → text_cmp s (take p s ++ x) ≡ bytes_cmp (drop p s) x
+text_cmp-tail s x p hs ht =
+    text_cmp_is s (take p s ++ x) hs ht ∙ ap (λ (t : List ℕ). bytes_cmp t (take p s ++ x)) (sym (take-append-drop p s)) ∙ level_front byte_rank (take p s) (drop p s) x

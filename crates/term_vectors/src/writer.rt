@@ -4,12 +4,11 @@ ghost use Rattle.term_vectors.specs.VectorWriting.{IsTermWhole, IsVectorWhole, I
 
 use crate::layout::{OFFSETS, POSITIONS, VECTOR_FORMAT};
 use crate::occurrences::OffsetPair;
-use crate::texts::follow;
 use crate::vectors::{Heading, kept_count};
 use crate::written::{
     differences_at_last, put_difference, put_pair, put_places, put_term, put_vector,
 };
-use lu_prims::{OutOfMemory, put_i32, put_vint};
+use lu_prims::{OutOfMemory, follow, put_i32, put_vint};
 use lu_types::Bytes;
 use std::alloc::Global;
 use std::marker::Model;

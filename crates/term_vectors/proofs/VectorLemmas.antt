@@ -33,8 +33,8 @@ module _ (wanted : ℕ) (c b d : Cursor) (count bits : ℕ) (first : read_part n
       let differ : eqb c.place wanted ≡ false = ne_eqb c.place wanted other in
       two_breaks num byte (λ n k. heading n k) (heading_conditions wanted c.place) c b d count bits 106 first second (rw differ refl)
 
-  pub bits_of_heading : c.place ≡ wanted → 3 < bits → record_at heading_shape (heading_conditions wanted c.place) c ≡ Err 107
-  bits_of_heading is lt =
+  pub heading_bits : c.place ≡ wanted → 3 < bits → record_at heading_shape (heading_conditions wanted c.place) c ≡ Err 107
+  heading_bits is lt =
       let same : eqb c.place wanted ≡ true = eq-eqb c.place wanted is in
       let over : ltb 3 bits ≡ true = lt-ltb 3 bits lt in
       two_breaks num byte (λ n k. heading n k) (heading_conditions wanted c.place) c b d count bits 107 first second (rw (same, over) refl)

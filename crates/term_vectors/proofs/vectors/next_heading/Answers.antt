@@ -2,7 +2,7 @@ use Rattle.std.proofs.Common.{◌≡◌, sym, ◌∙◌, arith}
 use Rattle.lu_grammar.specs.Parts.{byte, num}
 use Rattle.term_vectors.specs.Vectors.{heading, heading_conditions}
 use Rattle.term_vectors.proofs.FormatLemmas.{two_unread, two_half}
-use Rattle.term_vectors.proofs.VectorLemmas.{heading_given, heading_elsewhere, bits_of_heading}
+use Rattle.term_vectors.proofs.VectorLemmas.{heading_given, heading_elsewhere, heading_bits}
 use Rattle.term_vectors.proofs.vectors.next_heading.Goals as goal
 
 pub returns-in-Err : goal.returns-in-Err
@@ -18,7 +18,7 @@ returns-then-start-wanted c =
 
 pub returns-then-bits : goal.returns-then-bits
 returns-then-bits c =
-    bits_of_heading c.args.wanted c.args.here.now c.num.new.self c.u8.new.self c.in-Ok.count c.in-Ok-u8.bits c.in-Ok.ensures.takes c.in-Ok-u8.ensures (sym c.place-start.ensures ∙ c.if-start-wanted.false) (omega arith)
+    heading_bits c.args.wanted c.args.here.now c.num.new.self c.u8.new.self c.in-Ok.count c.in-Ok-u8.bits c.in-Ok.ensures.takes c.in-Ok-u8.ensures (sym c.place-start.ensures ∙ c.if-start-wanted.false) (omega arith)
 
 pub returns-else-bits : goal.returns-else-bits
 returns-else-bits c =

@@ -1,5 +1,5 @@
 -- The files that are read for a segment, in the order in which files are checked (docs/FORMAT.md, "Commits in a folder").
-use Rattle.std.specs.Prelude.{ℕ, List, [], ◌∷◌, ◌++◌, map, Option, Some, None, if◌then◌else◌, option_map, option_and_then, slice_get}
+use Rattle.std.specs.Prelude.{ℕ, List, ◌++◌, map, Option, Some, None, if◌then◌else◌, option_map, option_and_then, slice_get}
 use Rattle.std.specs.List.{filter_map}
 use Rattle.lu_types.specs.declared.kind.FileKind.{FileKind}
 use Rattle.lu_types.specs.declared.kind.FileKind.TheVariants as kinds

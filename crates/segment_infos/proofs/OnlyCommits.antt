@@ -10,7 +10,7 @@ use Rattle.std.proofs.lemmas.List.Quantifiers.{all_pairs_push}
 use Rattle.std.proofs.lemmas.List.Sums.{sum_by_push}
 use Rattle.lu_grammar.specs.Parts.{byte, int32, int64, spelling}
 use Rattle.lu_grammar.specs.Records.{whole, Spells, first_broken}
-use Rattle.lu_grammar.specs.Plans.{Plan, done, due, each, times}
+use Rattle.lu_grammar.specs.Plans.{done, each, times}
 use Rattle.lu_grammar.specs.Meaning.{Spelled, bytes_of, AreGood, due_after}
 use Rattle.lu_grammar.proofs.Codecs.{ends, value_of}
 use Rattle.lu_types.specs.RuleNumbers as rules

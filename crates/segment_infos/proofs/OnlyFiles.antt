@@ -1,11 +1,11 @@
 -- The records of a commit, one after another.
-use Rattle.std.proofs.Common.{◌≡◌, ℕ, ◌+◌, ◌<◌, ◌^◌, pos, not, List, [], ◌∷◌, ◌++◌, length, flat_map, take, None, refl, sym, ap, subst, ◌∙◌, append_assoc, arith}
+use Rattle.std.proofs.Common.{◌≡◌, ℕ, ◌+◌, ◌<◌, ◌^◌, pos, not, List, [], ◌∷◌, ◌++◌, length, flat_map, take, None, refl, sym, ap, subst, ◌∙◌, arith}
 use Rattle.std.specs.Ordering.{int_eq}
 use mathlib.Core.Bool.{true≢false}
-use Rattle.std.proofs.lemmas.List.{append-nil, length-append, take_at}
+use Rattle.std.proofs.lemmas.List.{append-nil, take_at}
 use Rattle.lu_grammar.specs.Parts.{int32, int64, spelling}
 use Rattle.lu_grammar.specs.Records.{whole, Spells, first_broken}
-use Rattle.lu_grammar.specs.Plans.{Plan, done, due, and_then, times}
+use Rattle.lu_grammar.specs.Plans.{done, times}
 use Rattle.lu_grammar.specs.Meaning.{Spelled, bytes_of, AreGood, due_after, Reads}
 use Rattle.lu_grammar.proofs.Codecs.{ends, value_of, split_records}
 use Rattle.lu_prims.specs.Checksum.{checksum}

@@ -1,5 +1,5 @@
 -- Lucene names: what they say, their one spelling, and the name that a text spells (docs/FORMAT.md, "Names of files").
-use Rattle.std.specs.Prelude.{◌≡◌, ℕ, ◌^◌, ◌<◌, ◌≤◌, Bool, ◌&&◌, ◌==◌, List, [], ◌∷◌, ◌++◌, drop, find, Option, Some, None, codes, nat_lt, nat_le, is_some, if◌then◌else◌, bytes_eq, slice_index}
+use Rattle.std.specs.Prelude.{◌≡◌, ℕ, ◌^◌, ◌<◌, ◌≤◌, Bool, ◌&&◌, ◌==◌, List, ◌++◌, drop, find, Option, Some, None, codes, nat_lt, nat_le, is_some, if◌then◌else◌, bytes_eq, slice_index}
 use Rattle.std.specs.List.{before_first, after_first}
 use Rattle.std.specs.Str.Parse.{digits_value}
 use Rattle.lu_prims.specs.Base36.{base36}

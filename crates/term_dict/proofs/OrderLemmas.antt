@@ -1,16 +1,13 @@
--- The order of terms by the bytes that follow what their texts share.
-use Rattle.std.proofs.Common.{◌≡◌, ℕ, List, ◌++◌, take, drop, Option, None, refl, sym, ap, ◌∙◌}
+-- A field that is not there, and a text beside itself.
+use Rattle.std.proofs.Common.{◌≡◌, ℕ, List, Option, None, refl, sym, ap, ◌∙◌}
 use Rattle.std.specs.Option.{unwrap_or}
 use Rattle.std.specs.Prelude.{slice_get}
-use Rattle.std.specs.Str.{IsUtf8}
 use Rattle.std.specs.declared.cmp.Ordering.{Ordering}
 use Rattle.std.specs.declared.cmp.Ordering.TheVariants.{Less, Equal, Greater}
 use Rattle.std.specs.Ordering.{ordering_reverse}
 use Rattle.std.proofs.lemmas.Option.{unwrap_or-slice_get}
-use Rattle.std.proofs.lemmas.List.{take-append-drop}
-use Rattle.lu_prims.specs.Order.{byte_rank, text_cmp, bytes_cmp}
-use Rattle.lu_prims.proofs.OrderLemmas.{level_front}
-use Rattle.lu_prims.proofs.Units.{text_cmp_is, text_order}
+use Rattle.lu_prims.specs.Order.{text_cmp}
+use Rattle.lu_prims.proofs.Units.{text_order}
 use Rattle.lu_types.specs.Tables.{TableField}
 use Rattle.term_dict.specs.Terms.{field_of, no_field}
 

@@ -1,5 +1,5 @@
 //! The last term that was read, and how the next one follows from it.
-ghost use Rattle.std.specs.Prelude.{◌≡◌, ◌+◌, ◌^◌, ◌<◌, ◌≤◌, ◌++◌, ◌==◌, List, length, take, MatchOption, IfOk, OnOk, IsOk, None, vec_capacity};
+ghost use Rattle.std.specs.Prelude.{◌≡◌, ◌+◌, ◌^◌, ◌<◌, ◌≤◌, ◌++◌, ◌==◌, List, length, take, MatchOption, IfOk, OnOk, None, vec_capacity};
 ghost use Rattle.std.specs.Str.{IsUtf8, is_utf8};
 ghost use Rattle.lu_grammar.specs.Records.{first_broken};
 ghost use Rattle.term_dict.specs.Canonical.{shared};

@@ -1,6 +1,6 @@
 //! The order of terms (format page, "Terms").
 ghost use Rattle.std.specs.Prelude.{◌≡◌};
-ghost use Rattle.lu_prims.specs.Order.{byte_rank, text_cmp, bytes_cmp};
+ghost use Rattle.lu_prims.specs.Order.{text_cmp};
 ghost use Rattle.term_dict.specs.Terms.{field_of, is_indexed};
 
 use lu_prims::utf16_cmp;

@@ -22,9 +22,7 @@ use lu_types::rules::{
 };
 use lu_types::{CodecFault, FileKind, Spot, TermInfo};
 use std::alloc::Global;
-use term_dict::{
-    FORMAT, Heading, TermCursor, TermEntry, TermFile, TermNumbers, heading_at,
-};
+use term_dict::{FORMAT, Heading, TermCursor, TermEntry, TermFile, TermNumbers, heading_at};
 
 /// How many entries the index of so many terms has: one for each interval that has begun.
 pub(crate) fn entry_count(numbers: &TermNumbers) -> u32

@@ -1,12 +1,7 @@
--- The order of texts by the bytes that follow what they share, and what a sound last text is.
-use Rattle.std.proofs.Common.{◌≡◌, ℕ, Bool, true, false, cond, List, [], ◌++◌, length, take, drop, Option, Some, None, refl, sym, ap, ◌∙◌}
+-- What a sound last text is, and the text that stands before the next one.
+use Rattle.std.proofs.Common.{◌≡◌, Bool, true, false, cond, [], length, Option, Some, None, refl, sym, ap}
 use Rattle.std.specs.Option.{unwrap_or}
-use Rattle.std.specs.Str.{IsUtf8}
 use Rattle.std.specs.declared.cmp.Ordering.{Ordering}
-use Rattle.std.proofs.lemmas.List.{take-append-drop}
-use Rattle.lu_prims.specs.Order.{byte_rank, text_cmp, bytes_cmp}
-use Rattle.lu_prims.proofs.OrderLemmas.{level_front}
-use Rattle.lu_prims.proofs.Units.{text_cmp_is}
 use Rattle.term_vectors.specs.declared.texts.LastText.{LastText}
 use Rattle.term_vectors.specs.InnerTexts.{text_before, IsSoundText}
 

@@ -1,7 +1,6 @@
 //! The text of the last term of a vector that was read, and how the next one follows from it (format page, "Term vectors").
-ghost use Rattle.std.specs.Prelude.{◌≡◌, ◌++◌, ◌≤◌, ◌+◌, true, [], length, take, Some, None, IsOk, IfOk, OnOk, vec_capacity};
+ghost use Rattle.std.specs.Prelude.{◌≡◌, ◌++◌, ◌≤◌, ◌+◌, true, [], length, take, Some, None, IfOk, vec_capacity};
 ghost use Rattle.std.specs.Str.{IsUtf8, is_utf8};
-ghost use Rattle.lu_prims.specs.Order.{byte_rank, bytes_cmp};
 ghost use Rattle.lu_grammar.specs.Answers.{Gives};
 ghost use Rattle.lu_grammar.specs.Records.{first_broken, read_shape};
 ghost use Rattle.term_vectors.specs.Vectors.{term_shape, text_after, is_above, term_conditions};

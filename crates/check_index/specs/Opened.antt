@@ -5,7 +5,7 @@ use Rattle.term_index.specs.Seeking.{AreChecked}
 use Rattle.lu_types.specs.Bits as bit
 use Rattle.lu_types.specs.Bits.{has_bit}
 use Rattle.lu_types.specs.Tables.{bits_at}
-use Rattle.positions.specs.Occurrences.{Occurrence}
+use Rattle.lu_types.specs.Occurrences.{Occurrence}
 use Rattle.lu_types.specs.Terms.{term_rules}
 use Rattle.freq_skips.specs.declared.rules.RuledTerm.{RuledTerm}
 use Rattle.freq_skips.specs.Terms.{TermData, term_of}

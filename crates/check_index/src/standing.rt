@@ -3,7 +3,7 @@ ghost use Rattle.std.specs.Prelude.{◌≡◌, ℕ, List, IfOk, IfSome, option_c
 ghost use Rattle.term_index.specs.Seeking.{searched, names_of};
 ghost use Rattle.check_index.specs.Files.{file_at};
 ghost use Rattle.check_index.specs.Vectors.{HaveSome, vectors_seen};
-ghost use Rattle.positions.specs.Occurrences.{Occurrence};
+ghost use Rattle.lu_types.specs.Occurrences.{Occurrence};
 ghost use Rattle.check_index.specs.Positions.{bytes_if_any as bytes_there};
 ghost use Rattle.check_index.specs.Opened.{IsTermOf, entries_of, skips_of, IsPointOf, KeepsPositions, StandsAt, occurrences_of};
 

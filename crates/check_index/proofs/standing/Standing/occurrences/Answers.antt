@@ -7,7 +7,7 @@ use Rattle.term_dict.specs.Terms.{DictionaryTerm}
 use Rattle.check_index.specs.Terms.{lists_in}
 use Rattle.check_index.specs.Segments.{SegmentValue}
 use Rattle.freq_skips.specs.Points.{IsPoint}
-use Rattle.positions.specs.Occurrences.{Occurrence}
+use Rattle.lu_types.specs.Occurrences.{Occurrence}
 use Rattle.check_index.specs.Opened.{no_data, data_of, ruled_term, KeepsPositions, StandsAt, occurrences_of}
 use Rattle.check_index.proofs.KnownTerms.{point-in, among-kept, among-some}
 use Rattle.check_index.proofs.standing.Standing.occurrences.Goals as goal

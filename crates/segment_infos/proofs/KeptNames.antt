@@ -24,10 +24,10 @@ use Rattle.segment_infos.proofs.ListedNames.{texts-more}
 
 -- ---- each name that a line refers to has its own spelling
 
-all-none : {A : Type 0} (P : A → Type 0) → All P []
+pub all-none : {A : Type 0} (P : A → Type 0) → All P []
 all-none P k d within = absurd (omega arith)
 
-all-one : {A : Type 0} (P : A → Type 0) (x : A) → P x → All P (x ∷ [])
+pub all-one : {A : Type 0} (P : A → Type 0) (x : A) → P x → All P (x ∷ [])
 all-one P x is zero d within = is
 all-one P x is (suc k) d within = absurd (omega arith)
 

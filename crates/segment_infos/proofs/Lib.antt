@@ -23,4 +23,5 @@ pub mod Decimals
 pub mod ListedNames
 pub mod NameSets
 pub mod KeptNames
+pub mod OwnFiles
 pub mod RemovableNames

@@ -1,6 +1,6 @@
 //! Drawn commits: their bytes put together as the format page says, read and written again, cut at every length and changed at
 //! every byte.
-ghost use Rattle.std.specs.Prelude.{◌<◌};
+ghost use Rattle.std.specs.Prelude.{◌<◌, IfOk};
 
 use crate::tests::changed;
 use crate::{read, write};
@@ -95,7 +95,9 @@ fn put_front(
     draw: &mut Draw,
     out: &mut Vec<u8>,
     number: u32,
-) -> Result<u32, OutOfMemory> {
+) -> Result<u32, OutOfMemory>
+    ensures { IfOk result (λ most. most < 1000) }
+{
     let name = segment_name(alloc, number)?;
     let text = name.as_str();
     if text.len() < 100 {
@@ -114,6 +116,14 @@ fn put_front(
     Ok(if has_deletions { size } else { 0 })
 }
 
+/// How many documents are deleted, where so many can be.
+fn drawn_deletions(draw: &mut Draw, most: u32) -> u32
+    requires { most < 1000 }
+    ensures { result < 1000 }
+{
+    if most > 0 { draw.below(most) } else { 0 }
+}
+
 /// The line of a segment.
 fn put_line(
     alloc: Global,
@@ -124,8 +134,7 @@ fn put_line(
     let most = put_front(alloc, draw, out, number)?;
     put_norms(draw, out)?;
     out.push([0x01, 0xff][draw.below(2) as usize])?;
-    let deleted = if most > 0 { draw.below(most) } else { 0 };
-    put_i32(out, deleted as i32)?;
+    put_i32(out, drawn_deletions(draw, most) as i32)?;
     out.push(draw.below(2) as u8)?;
     put_map(draw, out, 3)
 }

@@ -12,16 +12,9 @@ ghost use Rattle.freq_skips.specs.Finding.{CanSearch, LevelsLeft, LevelStands, H
 use crate::datum::{Point, good_datum};
 use crate::following::{Following, NO_POINT};
 use crate::level::quotient;
-use crate::levels::level_length;
+use crate::levels::{LevelBounds, level_length};
 use crate::rules::RuledTerm;
 use lu_prims::{Cur, Steps};
-
-/// Where the data of a level start, and where the level below starts, if there is one.
-#[derive(Clone, Copy, Debug, PartialEq, Eq)]
-pub struct LevelBounds {
-    pub data: usize,
-    pub end: usize,
-}
 
 /// The place behind so many bytes, where their number is told.
 fn place_behind(start: usize, length: Option<u64>) -> usize

@@ -56,6 +56,14 @@ impl<'a> Passing<'a> {
     }
 }
 
+/// A term whose entries are good: the bytes of the file, and where the entries start in them.
+#[derive(Clone, Copy, Debug, PartialEq, Eq)]
+pub struct CheckedEntries<'a> {
+    pub frq: &'a [u8],
+    pub term: RuledTerm,
+    pub start: usize,
+}
+
 /// Checks the entries of a term, from where they are to start.
 pub fn check_entries<'a>(cur: Cur<'a>, term: &RuledTerm) -> Result<Passing<'a>, Spot>
     ensures { MatchResult result

@@ -2,6 +2,7 @@
 #![tactic(auto)]
 
 mod checking;
+mod cursor;
 mod document;
 mod fields;
 pub mod laws;
@@ -15,6 +16,7 @@ mod view;
 mod writer;
 mod written;
 
+pub use cursor::{DocVector, VectorCursor};
 pub use document::{VectorDoc, VectorField};
 pub use fields::{StoreWindow, check_fields};
 pub use layout::DocumentPlaces;

@@ -24,7 +24,13 @@ pub use occurrences::OffsetPair;
 pub use places::check_places;
 pub use terms::VectorTerms;
 pub use view::VectorView;
-pub use writer::{VectorFiles, VectorWriter};
+pub use writer::{Lacking, VectorFiles, VectorWriter};
 
 #[cfg(test)]
+mod drawn_tests;
+#[cfg(test)]
+mod handing;
+#[cfg(test)]
 mod tests;
+#[cfg(test)]
+mod writer_tests;

@@ -15,3 +15,4 @@ pub mod VectorWriting
 pub mod InnerViews
 pub mod InnerTerms
 pub mod InnerSlots
+pub mod InnerCursors

@@ -2,6 +2,7 @@
 #![tactic(auto)]
 
 mod checking;
+mod cursor;
 mod document;
 mod fields;
 pub mod laws;
@@ -15,6 +16,7 @@ mod view;
 mod writer;
 mod written;
 
+pub use cursor::{DocVector, VectorCursor};
 pub use document::{VectorDoc, VectorField};
 pub use fields::{StoreWindow, check_fields};
 pub use layout::DocumentPlaces;
@@ -22,7 +24,13 @@ pub use occurrences::OffsetPair;
 pub use places::check_places;
 pub use terms::VectorTerms;
 pub use view::VectorView;
-pub use writer::{VectorFiles, VectorWriter};
+pub use writer::{Lacking, VectorFiles, VectorWriter};
 
 #[cfg(test)]
+mod drawn_tests;
+#[cfg(test)]
+mod handing;
+#[cfg(test)]
 mod tests;
+#[cfg(test)]
+mod writer_tests;

@@ -81,6 +81,16 @@ impl Model for VectorWriter {
     } };
 }
 
+/// What lacks of what was announced: vectors of the last document, terms of its last vector, and positions and pairs of the last
+/// term of that. Where nothing lacks, all are 0.
+#[derive(Clone, Copy, Debug, PartialEq, Eq)]
+pub struct Lacking {
+    pub vectors: u32,
+    pub terms: u32,
+    pub positions: u32,
+    pub pairs: u32,
+}
+
 /// A file of its header alone.
 fn header(alloc: Global) -> Result<Vec<u8>, OutOfMemory>
     ensures { IfOk result (λ file. file.items ≡ no_vectors_written.tvf) }
@@ -120,6 +130,21 @@ impl VectorWriter {
             lacks_positions: 0,
             lacks_pairs: 0,
         })
+    }
+
+    /// What lacks of what was announced.
+    pub fn lacks(&self) -> Lacking
+        ensures vectors { result.vectors ≡ self.now.lacks_vectors }
+        ensures terms { result.terms ≡ self.now.lacks_terms }
+        ensures positions { result.positions ≡ self.now.lacks_positions }
+        ensures pairs { result.pairs ≡ self.now.lacks_spans }
+    {
+        Lacking {
+            vectors: self.lacks_vectors,
+            terms: self.lacks_terms,
+            positions: self.lacks_positions,
+            pairs: self.lacks_pairs,
+        }
     }
 
     /// Begins a document of so many vectors, where nothing lacks. An `Err` leaves the writer as it was.

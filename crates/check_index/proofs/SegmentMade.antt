@@ -12,10 +12,11 @@ use Rattle.lu_types.specs.declared.kind.FileKind.TheVariants.{Cfs, Cfx, Fnm, Fdx
 use Rattle.lu_types.specs.declared.stored.SharedStore.{SharedStore}
 use Rattle.lu_types.specs.declared.stored.Window.{Window}
 use Rattle.lu_types.proofs.FileLaws.{followed_by-was}
+use Rattle.lu_types.specs.Stores.{whole_store, windowed}
 use Rattle.field_infos.specs.Fnm.{fnm_plan}
 use Rattle.stored_fields.specs.Places.{fdx_plan}
 use Rattle.stored_fields.specs.Documents.{fdt_plan}
-use Rattle.stored_fields.specs.Stores.{total_of, whole_store, windowed, store_files}
+use Rattle.stored_fields.specs.Stores.{total_of, store_files}
 use Rattle.term_dict.specs.Dictionary.{tis_plan}
 use Rattle.term_dict.specs.Index.{tii_plan}
 use Rattle.freq_skips.specs.Terms.{frq_plan}
@@ -27,15 +28,14 @@ use Rattle.term_vectors.specs.declared.layout.DocumentPlaces.{DocumentPlaces}
 use Rattle.term_vectors.specs.Places.{tvx_plan}
 use Rattle.term_vectors.specs.Fields.{VectorPlace, tvd_plan}
 use Rattle.term_vectors.specs.Vectors.{tvf_plan}
-use Rattle.term_vectors.specs.Stores.{windowed as windowed_vectors}
 use Rattle.segment_infos.specs.declared.infos.SegInfo.{SegInfo}
 use Rattle.check_index.specs.Files.{DocumentFiles, IndexFiles, PartFiles, FolderFiles, file_at, AreDocumentBytes, AreIndexBytes, AreBytes}
-use Rattle.check_index.specs.Locating.{packed_part, packed_documents, packed_index, packed_files, compound_files, own_parts, document_parts, located_parts}
+use Rattle.check_index.specs.Locating.{packed_part, packed_documents, packed_index, packed_files, compound_files, own_part_files, document_parts, located_parts}
 use Rattle.check_index.specs.Documents.{norm_fields, field_files, window_of, stored_files, deletion_files}
 use Rattle.check_index.specs.Terms.{TermLists, infos_of, listed_terms, term_files}
 use Rattle.positions.specs.Terms.{prx_plan}
 use Rattle.check_index.specs.Positions.{no_positions, position_files}
-use Rattle.check_index.specs.Norms.{norm_count, norms_from, column_files, is_separate, needed_file, separate_file, separate_files, norm_files}
+use Rattle.check_index.specs.Norms.{count_with_norms, norms_from, column_files, is_separate, needed_file, separate_file, separate_files, norm_files}
 use Rattle.check_index.specs.Vectors.{store_part, have_vectors, no_vectors, part_vectors, document_vectors}
 use Rattle.check_index.specs.Segments.{content_files, side_files, segment_files}
 use Rattle.check_index.proofs.ReadBytes.{read-bytes}
@@ -82,10 +82,10 @@ module _ (folder : FolderFiles) (line : SegInfo) (made : AreBytes folder) where
   abbrev packed_own : FilePlan PartFiles
   packed_own = followed_by (compound_files Cfs folder.cfs) (λ held. stands (packed_files (segment_name line.number) held))
 
-  own-made : AreMade (own_parts folder line)
+  own-made : AreMade (own_part_files folder line)
   own-made = asked-made line.compound folder.parts packed_own (followed-made (compound_files Cfs folder.cfs) (λ held. stands (packed_files (segment_name line.number) held)) (compound-made Cfs folder.cfs made.cfs) (λ a stand. tt))
 
-  own-bytes : (files : PartFiles) → StandFor (own_parts folder line) files → ArePartBytes files
+  own-bytes : (files : PartFiles) → StandFor (own_part_files folder line) files → ArePartBytes files
   own-bytes files h = go line.compound h
     where
       go : (b : Bool) → StandFor (where_needed b folder.parts packed_own) files → ArePartBytes files
@@ -114,11 +114,11 @@ module _ (folder : FolderFiles) (line : SegInfo) (made : AreBytes folder) where
   after_own own = followed_by (document_parts folder line.store own.documents) (λ documents. stands (with_documents own documents))
 
   located-made : AreMade (located_parts folder line)
-  located-made = followed-made (own_parts folder line) after_own own-made (λ own stand. followed-made (document_parts folder line.store own.documents) (λ documents. stands (with_documents own documents)) (shared-made line.store own.documents) (λ d stand. tt))
+  located-made = followed-made (own_part_files folder line) after_own own-made (λ own stand. followed-made (document_parts folder line.store own.documents) (λ documents. stands (with_documents own documents)) (shared-made line.store own.documents) (λ d stand. tt))
 
   located-bytes : (files : PartFiles) → StandFor (located_parts folder line) files → ArePartBytes files
   located-bytes files h =
-      let first = followed_by-was (own_parts folder line) after_own files h in
+      let first = followed_by-was (own_part_files folder line) after_own files h in
       let own = own-bytes first.0 first.1 in
       let next = followed_by-was (document_parts folder line.store first.0.documents) (λ (documents : DocumentFiles). stands (with_documents first.0 documents)) files first.2 in
       subst ArePartBytes (sym next.2) (own.0, shared-bytes line.store first.0.documents next.0 own.1 next.1)
@@ -148,9 +148,9 @@ module _ (folder : FolderFiles) (line : SegInfo) (made : AreBytes folder) where
 
   norms-made : (nrm : Option (List ℕ)) (fields : List TableField) → ForSome nrm IsBytes → AreMade (norm_files nrm folder.separate line fields)
   norms-made nrm fields held =
-      let columns = needed-made Nrm nrm (λ _. nrm_plan (norm_count fields) line.size) (λ _ columns. stands (norms_from 0 columns fields)) held (λ bytes v reads. tt) in
+      let columns = needed-made Nrm nrm (λ _. nrm_plan (count_with_norms fields) line.size) (λ _ columns. stands (norms_from 0 columns fields)) held (λ bytes v reads. tt) in
       followed-made (column_files nrm line.size fields) (separate_files line.norm_gens fields line.size folder.separate (length fields))
-      (asked-made (nat_lt 0 (norm_count fields)) (map (λ _. None) fields) (needs Nrm nrm (λ _. nrm_plan (norm_count fields) line.size) (λ _ columns. stands (norms_from 0 columns fields))) columns)
+      (asked-made (nat_lt 0 (count_with_norms fields)) (map (λ _. None) fields) (needs Nrm nrm (λ _. nrm_plan (count_with_norms fields) line.size) (λ _ columns. stands (norms_from 0 columns fields))) columns)
       (λ norms stand. each-made (separate_file line.norm_gens fields line.size folder.separate) (range_with_len 0 (length fields)) norms
       (λ number so_far. asked-made (is_separate line.norm_gens fields number) so_far (needed_file line.size folder.separate number so_far)
       (needed-made (Sep number) (file_at folder.separate number) (λ _. separate_plan line.size) (λ _ column. stands (slice_set so_far number (Some column))) (made.separate number) (λ bytes v reads. tt))))
@@ -163,12 +163,12 @@ module _ (folder : FolderFiles) (line : SegInfo) (made : AreBytes folder) where
   vectors-made : (files : DocumentFiles) (fields : List TableField) → AreDocumentBytes files → AreMade (document_vectors files line fields)
   vectors-made files fields held =
       let part = store_part line.store line.size files.fdx in
-      let last = λ (slots : List (List VectorPlace)). needs Tvf files.tvf (λ _. tvf_plan slots) (λ _ all. stands (windowed_vectors part.window all)) in
+      let last = λ (slots : List (List VectorPlace)). needs Tvf files.tvf (λ _. tvf_plan slots) (λ _ all. stands (windowed part.window all)) in
       let next = λ (places : List DocumentPlaces). needs Tvd files.tvd (λ _. tvd_plan fields part.window places) (λ _ slots. last slots) in
       asked-made (have_vectors fields && is_some files.tvx) (no_vectors line.size) (part_vectors part files fields)
       (needed-made Tvx files.tvx (λ _. tvx_plan part.total) (λ _ places. next places) held.tvx
       (λ tvx places reads. needed-made Tvd files.tvd (λ _. tvd_plan fields part.window places) (λ _ slots. last slots) held.tvd
-      (λ tvd slots also. needed-made Tvf files.tvf (λ _. tvf_plan slots) (λ _ all. stands (windowed_vectors part.window all)) held.tvf (λ tvf all too. tt))))
+      (λ tvd slots also. needed-made Tvf files.tvf (λ _. tvf_plan slots) (λ _ all. stands (windowed part.window all)) held.tvf (λ tvf all too. tt))))
 
   contents-made : (files : PartFiles) → ArePartBytes files → AreMade (content_files files line)
   contents-made files held =

@@ -14,7 +14,7 @@ use Rattle.lu_model.specs.Valid.{IsIndexedTerm}
 use Rattle.lu_model.proofs.Words.{Each}
 use Rattle.lu_model.proofs.Each.{all-from_each, each-from_all, each-from_pairs}
 use Rattle.term_dict.specs.Dictionary.{Dictionary, tis_plan}
-use Rattle.term_dict.specs.Terms.{DictionaryTerm, no_term, term_cmp as dictionary_cmp}
+use Rattle.term_dict.specs.Terms.{DictionaryTerm, no_term, dictionary_term_cmp}
 use Rattle.term_dict.specs.Facts.{IsTermOfSegment, AreGoodTerms}
 use Rattle.term_dict.proofs.FactLemmas.{good-terms}
 use Rattle.compound_file.specs.Entries.{NamedPart}
@@ -24,7 +24,7 @@ use Rattle.check_index.specs.Files.{PartFiles, FolderFiles, IsShort, AreShort}
 use Rattle.check_index.specs.Locating.{packed_files}
 use Rattle.check_index.specs.Documents.{norm_fields}
 use Rattle.check_index.specs.Indexed.{indexed_terms}
-use Rattle.check_index.specs.Segments.{Segment, segment_files}
+use Rattle.check_index.specs.Segments.{SegmentValue, segment_files}
 use Rattle.check_index.specs.Stands.{Holds, AreOwn}
 use Rattle.check_index.proofs.ReadBytes.{read-bytes}
 use Rattle.check_index.proofs.PartLemmas.{file-within, named-within}
@@ -59,16 +59,16 @@ texts-short : (bytes : List ℕ) (d : Dictionary) → AreTexts bytes d → lengt
 texts-short bytes d texts few = each-from_all (λ (t : DictionaryTerm). length t.text < 2 ^ 31) d.terms (λ k e lt.
     subst (λ (t : DictionaryTerm). length t.text < 2 ^ 31) (get_or_default d.terms k no_term e lt) (let le = texts.short k in omega (arith, le, few)))
 
-module _ (folder : FolderFiles) (line : SegInfo) (x : Segment) (h : StandFor (segment_files folder line) x) where
+module _ (folder : FolderFiles) (line : SegInfo) (x : SegmentValue) (h : StandFor (segment_files folder line) x) where
   terms-is : x.index.terms ≡ indexed_terms x.index.fields x.dictionary.terms x.lists x.occurrences
-  terms-is = let by = stands-by_files folder line x h in ap (λ (y : Segment). y.index.terms) by.value
+  terms-is = let by = stands-by_files folder line x h in ap (λ (y : SegmentValue). y.index.terms) by.value
 
   pub indexed-rise : IsStrictlySortedBy term_cmp (map (term_of x.index.fields) x.index.terms)
   indexed-rise =
       let by = stands-by_files folder line x h in
       let good = terms-good x.index.fields line.size by.own.index.tis x.dictionary by.tis in
       subst (λ (ts : List IndexedTerm). IsStrictlySortedBy term_cmp (map (term_of x.index.fields) ts)) (sym terms-is)
-      (terms-rise x.index.fields x.dictionary.terms x.lists x.occurrences (each-from_pairs (λ a b. dictionary_cmp x.index.fields a b ≡ Less) x.dictionary.terms good.rise))
+      (terms-rise x.index.fields x.dictionary.terms x.lists x.occurrences (each-from_pairs (λ a b. dictionary_term_cmp x.index.fields a b ≡ Less) x.dictionary.terms good.rise))
 
   pub indexed-few : length x.index.terms < 2 ^ 31
   indexed-few =

@@ -13,7 +13,7 @@ use Rattle.lu_model.proofs.Each.{all-from_each}
 use Rattle.lu_model.specs.Index.{IndexedTerm}
 use Rattle.lu_model.specs.Contents.{field_at}
 use Rattle.lu_model.specs.Valid.{IsIndexedTerm, AreNorms, IsValid}
-use Rattle.stored_fields.specs.Values.{Document}
+use Rattle.stored_fields.specs.Values.{StoredDocument}
 use Rattle.stored_fields.specs.Places.{fdx_plan}
 use Rattle.stored_fields.specs.Stores.{total_of}
 use Rattle.stored_fields.proofs.PlaceLemmas.{has_places}
@@ -27,7 +27,7 @@ use Rattle.check_index.specs.Files.{DocumentFiles, PartFiles, FolderFiles, IsSho
 use Rattle.check_index.specs.Locating.{packed_documents}
 use Rattle.check_index.specs.Documents.{norm_fields, window_of}
 use Rattle.check_index.specs.Vectors.{store_part, have_vectors, no_vectors, part_vectors}
-use Rattle.check_index.specs.Segments.{Segment, segment_files}
+use Rattle.check_index.specs.Segments.{SegmentValue, segment_files}
 use Rattle.check_index.specs.Stands.{Holds, AreOwn, AreShared, AreDocuments, AreStored, HoldStored}
 use Rattle.check_index.proofs.PartLemmas.{file-within, named-within}
 use Rattle.check_index.proofs.ReadBytes.{read-bytes}
@@ -76,7 +76,7 @@ module _ (fields : List TableField) where
   none-many zero = refl
   none-many (suc size) = ap suc (none-many size)
 
-  part-are : (store : Option SharedStore) (size : ℕ) (files : DocumentFiles) (stored : List Document) (vectors : List (List StoredVector)) → HoldStored store size (length fields) files.fdx files.fdt stored → IsShort files.tvf
+  part-are : (store : Option SharedStore) (size : ℕ) (files : DocumentFiles) (stored : List StoredDocument) (vectors : List (List StoredVector)) → HoldStored store size (length fields) files.fdx files.fdt stored → IsShort files.tvf
       → StandFor (part_vectors (store_part store size files.fdx) files fields) vectors → AreAll size fields vectors
   part-are None size files stored vectors held short h = let part = store_part None size files.fdx in vectors-of fields part.total part.window files.tvx files.tvd files.tvf vectors (omega arith) short h
   part-are (Some store) size files stored vectors held short h = go files.fdx held h
@@ -87,12 +87,12 @@ module _ (fields : List TableField) where
           let places = has_places (total_of fdx) (window_of store size) fdx held.places (read_file-Reads (fdx_plan (total_of fdx) (window_of store size)) fdx held.places held.places_held) in
           vectors-of fields (total_of fdx) (window_of store size) files.tvx files.tvd files.tvf vectors places.within short h
 
-  all-are : (asked : Bool) (store : Option SharedStore) (size : ℕ) (files : DocumentFiles) (stored : List Document) (vectors : List (List StoredVector)) → HoldStored store size (length fields) files.fdx files.fdt stored → IsShort files.tvf
+  all-are : (asked : Bool) (store : Option SharedStore) (size : ℕ) (files : DocumentFiles) (stored : List StoredDocument) (vectors : List (List StoredVector)) → HoldStored store size (length fields) files.fdx files.fdt stored → IsShort files.tvf
       → StandFor (where_needed asked (no_vectors size) (part_vectors (store_part store size files.fdx) files fields)) vectors → AreAll size fields vectors
   all-are true store size files stored vectors held short h = part-are store size files stored vectors held short h
   all-are false store size files stored vectors held short is = subst (AreAll size fields) (sym is) (none-many size, all-from_each (AreVectors fields) (no_vectors size) (none-each size))
 
-module _ (folder : FolderFiles) (line : SegInfo) (x : Segment) (short : AreShort folder) (h : StandFor (segment_files folder line) x) where
+module _ (folder : FolderFiles) (line : SegInfo) (x : SegmentValue) (short : AreShort folder) (h : StandFor (segment_files folder line) x) where
   pub vectors-valid : AreAll line.size x.index.fields x.index.vectors
   vectors-valid =
       let by = stands-by_files folder line x h in
@@ -104,7 +104,7 @@ module _ (folder : FolderFiles) (line : SegInfo) (x : Segment) (short : AreShort
   pub index-valid : IsLine line → IsValid x.index
   index-valid is_line =
       let by = stands-by_files folder line x h in
-      let size : line.size ≡ x.index.size = sym (ap (λ (s : Segment). s.index.size) by.value) in
+      let size : line.size ≡ x.index.size = sym (ap (λ (s : SegmentValue). s.index.size) by.value) in
       let fine = fields-are line.has_prox (norm_fields line) by.own.index.fnm x.index.fields by.fnm in
       let stored = stored-are line.store line.size (length x.index.fields) by.documents.fdx by.documents.fdt x.index.stored by.stored in
       let deleted = deleted-are (is_some line.del_gen) line.size line.deleted folder.del x.index.deleted by.del in

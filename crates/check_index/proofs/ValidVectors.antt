@@ -16,13 +16,14 @@ use Rattle.lu_grammar.specs.Plans.{done, and_then, read_plan}
 use Rattle.lu_grammar.specs.Meaning.{Reads}
 use Rattle.lu_grammar.proofs.Files.{read_file-Reads}
 use Rattle.lu_grammar.proofs.Parts.{IsBytes-drop}
-use Rattle.lu_grammar.proofs.Codecs.{ok_pair, same_pair, then_ok, read_plan-and_then, due_was, record_at-was, alone_was, file_was, read_part-place}
+use Rattle.lu_grammar.proofs.Codecs.{ok_pair, same_pair, then_ok, read_plan-and_then, due_was, record_at-was, alone_was, file_was, read_part-place, int32_read}
 use Rattle.lu_types.specs.Bits as bit
 use Rattle.lu_types.specs.Bits.{has_bit}
 use Rattle.lu_types.specs.FilePlans.{StandFor}
 use Rattle.lu_types.specs.RuleNumbers as rules
 use Rattle.lu_types.specs.Tables.{TableField}
 use Rattle.lu_types.specs.declared.stored.Window.{Window}
+use Rattle.lu_types.specs.Stores.{windowed}
 use Rattle.lu_model.specs.Index.{VectorTerm}
 use Rattle.lu_model.specs.Valid.{IsVectorTerm, IsVector}
 use Rattle.lu_model.proofs.Words.{Each, EachPair}
@@ -32,8 +33,7 @@ use Rattle.term_vectors.specs.Format.{format_shape, headed}
 use Rattle.term_vectors.specs.Places as tvx
 use Rattle.term_vectors.specs.Fields.{VectorPlace, has_vectors, is_within, tvd_plan}
 use Rattle.term_vectors.specs.Vectors.{TvfRecord, format, heading, StoredVector, format_conditions, heading_shape, count_of_heading, bits_of_heading, heading_conditions, terms_plan, vector_plan, vectors_plan, all_plan, tvf_plan}
-use Rattle.term_vectors.specs.Stores.{windowed, vector_files, AreVectors}
-use Rattle.term_vectors.proofs.FixedLemmas.{int32_read}
+use Rattle.term_vectors.specs.Stores.{vector_files, AreVectors}
 use Rattle.term_vectors.proofs.LeftLemmas.{plan_in}
 use Rattle.term_vectors.proofs.ValidVectors.{part_value, terms_are}
 use Rattle.check_index.specs.Files.{IsShort}

@@ -11,7 +11,7 @@ use Rattle.lu_types.specs.declared.fault.CodecFault.{CodecFault}
 use Rattle.lu_types.specs.declared.fault.CodecFault.TheVariants as faults
 use Rattle.lu_types.specs.declared.stored.SharedStore.{SharedStore}
 use Rattle.lu_types.proofs.FileLaws.{followed_by-was}
-use Rattle.stored_fields.specs.Values.{Document}
+use Rattle.stored_fields.specs.Values.{StoredDocument}
 use Rattle.stored_fields.specs.Places.{fdx_plan}
 use Rattle.stored_fields.specs.Stores.{total_of}
 use Rattle.stored_fields.proofs.PlaceLemmas.{has_places}
@@ -34,7 +34,7 @@ fault-seen view seen files faults.OutOfMemory h = tt
 -- ---- the store
 
 -- a segment whose stored documents stand takes no more than its store has
-stored-within : (store : Option SharedStore) (size fields : ℕ) (fdx fdt : Option (List ℕ)) (stored : List Document) → StandFor (stored_files store size fields fdx fdt) stored → IsWithin (store_part store size fdx)
+stored-within : (store : Option SharedStore) (size fields : ℕ) (fdx fdt : Option (List ℕ)) (stored : List StoredDocument) → StandFor (stored_files store size fields fdx fdt) stored → IsWithin (store_part store size fdx)
 stored-within None size fields fdx fdt stored h = omega arith
 stored-within (Some store) size fields None fdt stored h = absurd h
 stored-within (Some store) size fields (Some fdx) fdt stored (places, reads, rest) =

@@ -6,7 +6,8 @@ use Rattle.lu_types.specs.Bits.{has_bit}
 use Rattle.lu_types.specs.FilePlans.{FilePlan, where_needed}
 use Rattle.lu_types.specs.Tables.{TableField}
 use Rattle.lu_types.specs.declared.stored.SharedStore.{SharedStore}
-use Rattle.stored_fields.specs.Stores.{total_of, whole_store}
+use Rattle.lu_types.specs.Stores.{whole_store}
+use Rattle.stored_fields.specs.Stores.{total_of}
 use Rattle.term_vectors.specs.declared.fields.StoreWindow.{StoreWindow}
 use Rattle.term_vectors.specs.Vectors.{StoredVector}
 use Rattle.term_vectors.specs.Stores.{vector_files}

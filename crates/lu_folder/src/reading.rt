@@ -9,32 +9,15 @@ ghost use Rattle.segment_infos.specs.LuceneNames.{IsName, name_spelling};
 ghost use Rattle.segment_infos.specs.Referring.{del_names, sep_names_from, norm_names};
 ghost use Rattle.segment_infos.specs.Values.{IsLine};
 ghost use Rattle.lu_folder.specs.Limits.{file_limit};
-ghost use Rattle.lu_folder.specs.Reading.{own_part as own_part_of, packed_store as packed_store_of, document_part as document_part_of, holder as holder_of, parts_read, read_names as names_read, kind_of as kind_named, first_too_large};
+ghost use Rattle.lu_folder.specs.Reading.{own_part as own_part_of, packed_store as packed_store_of, document_part as document_part_of, holder as holder_of, parts_read, read_names as names_read, kind_of_name as kind_named, first_too_large};
 
 use crate::choosing::FILE_LIMIT;
 use crate::fault::FolderFault;
 use lu_dir::{Dir, LoadFault, Loaded, load};
 use lu_prims::OutOfMemory;
-use lu_types::{FileKind, SharedStore};
+use lu_types::{FRONT_KINDS, FileKind, SharedStore, VECTOR_KINDS};
 use segment_infos::{LuceneName, NormGens, SegInfo, name_text};
 use std::alloc::Global;
-
-/// The kinds of the parts up to the norms, in the order in which files are checked.
-const FRONT_KINDS: [FileKind; 10] = [
-    FileKind::Cfs,
-    FileKind::Cfx,
-    FileKind::Fnm,
-    FileKind::Fdx,
-    FileKind::Fdt,
-    FileKind::Tis,
-    FileKind::Tii,
-    FileKind::Frq,
-    FileKind::Prx,
-    FileKind::Nrm,
-];
-
-/// The kinds of the parts behind the deleted documents.
-const VECTOR_KINDS: [FileKind; 3] = [FileKind::Tvx, FileKind::Tvd, FileKind::Tvf];
 
 /// The number of a segment that has its own parts outside a compound file.
 fn own_part(info: &SegInfo) -> Option<u32>
@@ -189,7 +172,7 @@ fn spellings(alloc: Global, names: &[LuceneName]) -> Result<Vec<String>, OutOfMe
 }
 
 /// The kind of the file that a name names.
-fn kind_of(name: LuceneName) -> FileKind
+fn kind_of_name(name: LuceneName) -> FileKind
     ensures { result ≡ kind_named name }
 {
     match name {
@@ -232,7 +215,7 @@ pub fn read_segment<D: Dir>(
     match load(alloc, dir, &spelled, FILE_LIMIT) {
         Ok(loaded) => Ok(loaded),
         Err(LoadFault::TooLarge(place)) => {
-            Err(FolderFault::FileTooLarge(kind_of(names[place as usize])))
+            Err(FolderFault::FileTooLarge(kind_of_name(names[place as usize])))
         }
         Err(LoadFault::Failed) => Err(FolderFault::Failed),
         Err(LoadFault::OutOfMemory) => Err(FolderFault::OutOfMemory),

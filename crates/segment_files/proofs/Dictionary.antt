@@ -13,7 +13,7 @@ use Rattle.lu_types.specs.Tables.{TableField}
 use Rattle.lu_model.specs.Index.{IndexedTerm, term_cmp}
 use Rattle.lu_model.specs.Contents.{term_of}
 use Rattle.lu_model.proofs.Words.{Each}
-use Rattle.term_dict.specs.Terms.{DictionaryTerm, no_term, last_term, field_of, is_indexed, is_above, term_cmp as dictionary_cmp}
+use Rattle.term_dict.specs.Terms.{DictionaryTerm, no_term, last_term, field_of, is_indexed, is_above, dictionary_term_cmp as dictionary_cmp}
 use Rattle.term_dict.specs.Dictionary.{within, tis_plan}
 use Rattle.term_dict.specs.Index.{tii_plan}
 use Rattle.term_dict.specs.Laws.{StandIn, dictionary_written}

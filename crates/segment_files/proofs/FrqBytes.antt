@@ -9,7 +9,7 @@ use Rattle.freq_skips.specs.declared.rules.RuledTerm.{RuledTerm}
 use Rattle.freq_skips.specs.declared.writer.Handed.{Handed}
 use Rattle.freq_skips.specs.declared.writer.Mark.{Mark}
 use Rattle.freq_skips.specs.Entries.{Posting}
-use Rattle.freq_skips.specs.Written.{optional_bytes, canonical_parts, entry_parts_bytes, entry_bytes, entries_bytes, front_bytes, written_postings, AreInOrder, SkipLevel, mark_after, written_skip, data_bytes, data_number, level_above, with_length, skip_bytes}
+use Rattle.freq_skips.specs.Written.{optional_bytes, canonical_parts, entry_parts_bytes, entry_bytes, entries_bytes, bytes_to_child, written_postings, AreInOrder, SkipLevel, mark_after, written_skip, data_bytes, data_number, level_above, with_level_length, skip_bytes}
 use Rattle.freq_skips.specs.Writing.{FrqWriting, bytes_so_far, levels_due, lowest, skips, term_bytes, finished, term_written, IsFinishable}
 use Rattle.freq_skips.proofs.LeadLemmas.{IsHandedOver, level_for, all-lead}
 use Rattle.freq_skips.proofs.WrittenEntries.{Stated}
@@ -48,14 +48,14 @@ optional-bytes p false None h = IsBytes-nil
 optional-bytes p false (Some v) h = absurd h
 
 module _ (t : RuledTerm) (ps : List Posting) where
-  datum-bytes : (r : SkipLevel) (m : ℕ) → Leads t ps r → m < data_number r → IsBytes (front_bytes (written_skip r m) ++ optional_bytes vlong (written_skip r m).child)
+  datum-bytes : (r : SkipLevel) (m : ℕ) → Leads t ps r → m < data_number r → IsBytes (bytes_to_child (written_skip r m) ++ optional_bytes vlong (written_skip r m).child)
   datum-bytes r m leads lt =
       let d = written_skip r m in
       let small = leads.small m lt in
       let doc : d.doc < 2 ^ 32 = doubled r.payloads ((mark_after r (suc m)).doc - (mark_after r m).doc) (omega (arith, small.0)) in
       let freq : d.freq < 2 ^ 31 = omega (arith, small.1) in
       let prox : d.prox < 2 ^ 31 = omega (arith, small.2) in
-      IsBytes-append (front_bytes d) (optional_bytes vlong d.child)
+      IsBytes-append (bytes_to_child d) (optional_bytes vlong d.child)
       (IsBytes-append (spelling vint d.doc ++ optional_bytes num d.payload ++ spelling num d.freq) (spelling num d.prox)
       (IsBytes-append (spelling vint d.doc ++ optional_bytes num d.payload) (spelling num d.freq)
       (IsBytes-append (spelling vint d.doc) (optional_bytes num d.payload) (IsBytes-spelling vint d.doc doc) IsBytes-nil) (IsBytes-spelling num d.freq freq)) (IsBytes-spelling num d.prox prox))
@@ -69,9 +69,9 @@ module _ (t : RuledTerm) (ps : List Posting) where
   data-bytes r zero leads le = subst IsBytes (sym (data_bytes-none r)) IsBytes-nil
   data-bytes r (suc m) leads le =
       subst IsBytes (sym (data_bytes-more r m))
-      (IsBytes-append (data_bytes r m) (front_bytes (written_skip r m) ++ optional_bytes vlong (written_skip r m).child) (data-bytes r m leads (omega arith)) (datum-bytes r m leads (omega arith)))
+      (IsBytes-append (data_bytes r m) (bytes_to_child (written_skip r m) ++ optional_bytes vlong (written_skip r m).child) (data-bytes r m leads (omega arith)) (datum-bytes r m leads (omega arith)))
 
-  length-bytes : (n : ℕ) (bytes : List ℕ) → length bytes < 2 ^ 63 → IsBytes bytes → IsBytes (with_length n bytes)
+  length-bytes : (n : ℕ) (bytes : List ℕ) → length bytes < 2 ^ 63 → IsBytes bytes → IsBytes (with_level_length n bytes)
   length-bytes zero bytes small fits = fits
   length-bytes (suc n) bytes small fits = IsBytes-append (spelling vlong (length bytes)) bytes (IsBytes-spelling vlong (length bytes) small) fits
 
@@ -80,7 +80,7 @@ module _ (t : RuledTerm) (ps : List Posting) where
   skips-bytes (suc k) r lead =
       let own = data_bytes r (data_number r) in
       subst IsBytes (sym (skip_bytes-next r k (suc k) refl))
-      (IsBytes-append (skip_bytes k (level_above r)) (with_length r.number own) (skips-bytes k (level_above r) lead.1) (length-bytes r.number own lead.0.bytes_small (data-bytes r (data_number r) lead.0 (omega arith))))
+      (IsBytes-append (skip_bytes k (level_above r)) (with_level_length r.number own) (skips-bytes k (level_above r) lead.1) (length-bytes r.number own lead.0.bytes_small (data-bytes r (data_number r) lead.0 (omega arith))))
 
 -- ---- the term
 

@@ -15,21 +15,21 @@ use Rattle.lu_model.proofs.Words.{Each}
 use Rattle.lu_model.proofs.Each.{all-from_each}
 use Rattle.doc_marks.specs.Norms.{norm_header, nrm_plan, nrm_spelling, column_of, AreColumns}
 use Rattle.doc_marks.proofs.NormLaws.{nrm-reads}
-use Rattle.check_index.specs.Norms.{FieldNorms, norm_count, norms_from}
+use Rattle.check_index.specs.Norms.{FieldNorms, count_with_norms, norms_from}
 use Rattle.check_index.specs.Stands.{Holds, Either, HoldColumns}
 use Rattle.segment_files.specs.Parts.{have_norms, norm_columns}
 
 abbrev one_if : Bool → ℕ
 one_if b = cond b 1 0
 
-counted : (f : TableField) (fields : List TableField) → norm_count (f ∷ fields) ≡ one_if (has_norms f.bits) + norm_count fields
+counted : (f : TableField) (fields : List TableField) → count_with_norms (f ∷ fields) ≡ one_if (has_norms f.bits) + count_with_norms fields
 counted f fields = sum_by-cons (λ (field : TableField). one_if (has_norms field.bits)) f fields
 
 -- one field more
-counted-no : (f : TableField) (fields : List TableField) → has_norms f.bits ≡ false → norm_count (f ∷ fields) ≡ norm_count fields
+counted-no : (f : TableField) (fields : List TableField) → has_norms f.bits ≡ false → count_with_norms (f ∷ fields) ≡ count_with_norms fields
 counted-no f fields lacks = let one = counted f fields in let none : one_if (has_norms f.bits) ≡ 0 = ap one_if lacks in omega (arith, one, none)
 
-counted-yes : (f : TableField) (fields : List TableField) → has_norms f.bits ≡ true → norm_count (f ∷ fields) ≡ suc (norm_count fields)
+counted-yes : (f : TableField) (fields : List TableField) → has_norms f.bits ≡ true → count_with_norms (f ∷ fields) ≡ suc (count_with_norms fields)
 counted-yes f fields has = let one = counted f fields in let some : one_if (has_norms f.bits) ≡ 1 = ap one_if has in omega (arith, one, some)
 
 module _ (size : ℕ) where
@@ -38,7 +38,7 @@ module _ (size : ℕ) where
   IsColumn column = (length column ≡ size) × IsBytes column
 
   -- as many columns as fields that have norms, each with a byte for each document
-  columns-each : (fields : List TableField) (norms : FieldNorms) → AllZip (AreNorms size) fields norms → Each IsColumn (norm_columns norms) × (length (norm_columns norms) ≡ norm_count fields)
+  columns-each : (fields : List TableField) (norms : FieldNorms) → AllZip (AreNorms size) fields norms → Each IsColumn (norm_columns norms) × (length (norm_columns norms) ≡ count_with_norms fields)
   columns-each [] [] h = (tt, refl)
   columns-each [] (n ∷ norms) h = absurd h
   columns-each (f ∷ fields) [] h = absurd h
@@ -67,7 +67,7 @@ module _ (size : ℕ) where
       ∙ ap (λ (tail : FieldNorms). Some column ∷ tail) rest
 
   -- where no field has norms
-  no-norms : (fields : List TableField) (norms : FieldNorms) → norm_count fields ≡ 0 → AllZip (AreNorms size) fields norms → norms ≡ map (λ _. None) fields
+  no-norms : (fields : List TableField) (norms : FieldNorms) → count_with_norms fields ≡ 0 → AllZip (AreNorms size) fields norms → norms ≡ map (λ _. None) fields
   no-norms [] [] none h = refl
   no-norms [] (n ∷ norms) none h = absurd h
   no-norms (f ∷ fields) [] none h = absurd h
@@ -90,15 +90,15 @@ module _ (size : ℕ) where
   pub columns-held : (fields : List TableField) (norms : FieldNorms) → AllZip (AreNorms size) fields norms → HoldColumns size fields (cond (have_norms fields) (Some (nrm_spelling (norm_columns norms))) None) norms
   columns-held fields norms h = go (have_norms fields) refl
     where
-      are : Each IsColumn (norm_columns norms) × (length (norm_columns norms) ≡ norm_count fields)
+      are : Each IsColumn (norm_columns norms) × (length (norm_columns norms) ≡ count_with_norms fields)
       are = columns-each fields norms h
 
       go : (b : Bool) → have_norms fields ≡ b
-          → Either b ((cs : List (List ℕ)) × Holds (cond b (Some (nrm_spelling (norm_columns norms))) None) (λ _. nrm_plan (norm_count fields) size) cs × (norms ≡ norms_from 0 cs fields)) norms (map (λ _. None) fields)
+          → Either b ((cs : List (List ℕ)) × Holds (cond b (Some (nrm_spelling (norm_columns norms))) None) (λ _. nrm_plan (count_with_norms fields) size) cs × (norms ≡ norms_from 0 cs fields)) norms (map (λ _. None) fields)
       go true some = (
         norm_columns norms,
-        nrm-reads (norm_columns norms) (norm_count fields) size (record { number = are.1; each = λ k lt. columns-at (norm_columns norms) k are.0 (let e = are.1 in omega (arith, e, lt)) })
+        nrm-reads (norm_columns norms) (count_with_norms fields) size (record { number = are.1; each = λ k lt. columns-at (norm_columns norms) k are.0 (let e = are.1 in omega (arith, e, lt)) })
             (IsBytes-append norm_header (flat_map (λ (c : List ℕ). c) (norm_columns norms)) header-bytes (IsBytes-flat_map (λ (c : List ℕ). c) (norm_columns norms) (all-from_each (λ (c : List ℕ). IsBytes c) (norm_columns norms) (columns-bytes (norm_columns norms) are.0)))),
         sym (norms-again [] fields norms h),
       )
-      go false none = no-norms fields norms (let e = ltb-false 0 (norm_count fields) none in omega (arith, e)) h
+      go false none = no-norms fields norms (let e = ltb-false 0 (count_with_norms fields) none in omega (arith, e)) h

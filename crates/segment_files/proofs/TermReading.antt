@@ -24,7 +24,7 @@ use Rattle.positions.proofs.BesideLemmas.{beside-handed}
 use Rattle.positions.proofs.WritingLemmas.{written-read}
 use Rattle.positions.proofs.OmittedLemmas.{omitted-read}
 use Rattle.check_index.specs.Positions.{TermOccurrences}
-use Rattle.check_index.specs.Indexed.{omitted_entry, given_entries, indexed_term}
+use Rattle.check_index.specs.Indexed.{omitted_entry, given_entries, indexed_term_of}
 use Rattle.segment_files.specs.Postings.{PostingIntervals, PostingParts, term_writing, prx_entries, prx_bytes, handed_from}
 use Rattle.segment_files.proofs.Handing.{IsGoodEntry, handed-length, entries-length, order-is, prox-rising}
 use Rattle.segment_files.proofs.PrxBytes.{IsGiven, all-omitted, all-given, prx_bytes-omitted, IsBeside-given}
@@ -104,7 +104,7 @@ module _ (fields : List TableField) (size : ℕ) (o : PostingIntervals) (count :
         let same : (behind f t).prx ≡ f.prx = ap (λ (bytes : List ℕ). f.prx ++ bytes) (prx_bytes-omitted (has_bit bit.payloads bits) t.entries none) ∙ append-nil f.prx in
         let postings : s.0.postings ≡ written_postings true (length f.frq) 0 (handed_here t) = s.1.postings ∙ ap (λ (b : Bool). written_postings b (length f.frq) 0 (handed_here t)) omit in
         let entries : map omitted_entry s.0.postings ≡ t.entries = ap (λ (ps : List Posting). map omitted_entry ps) postings ∙ again-omitted (has_bit bit.payloads bits) (length f.frq) 0 0 t.entries none in
-        let is : (others : TermOccurrences) → indexed_term fields (line_here fields size o count f t) s.0 others ≡ t =
+        let is : (others : TermOccurrences) → indexed_term_of fields (line_here fields size o count f t) s.0 others ≡ t =
         λ others. ap (λ (b : Bool). made (cond b (map omitted_entry s.0.postings) (given_entries s.0.postings others))) omit ∙ ap made entries in
         record {
           value = s.0;

@@ -20,7 +20,7 @@ use Rattle.positions.specs.Cursors.{posted_term}
 use Rattle.positions.proofs.TurnLemmas.{terms-more as posted-more}
 use Rattle.term_dict.specs.Terms.{DictionaryTerm}
 use Rattle.check_index.specs.Positions.{TermOccurrences, no_positions}
-use Rattle.check_index.specs.Indexed.{indexed_term, indexed_terms}
+use Rattle.check_index.specs.Indexed.{indexed_term_of, indexed_terms}
 use Rattle.segment_files.specs.Postings.{PostingIntervals, PostingParts, no_parts, kept_terms, term_writing, prx_bytes, with_all_postings}
 use Rattle.segment_files.proofs.Reading.{numbers_for, kept_here, line_here, ruled_here, parts_behind, CanStand, TermRead}
 use Rattle.segment_files.proofs.FrqBytes.{term-bytes}

@@ -8,7 +8,7 @@ use Rattle.lu_model.specs.Index.{Index}
 use Rattle.field_infos.specs.Spelling.{fnm_spelling}
 use Rattle.doc_marks.specs.Norms.{nrm_spelling}
 use Rattle.check_index.specs.Files.{IndexFiles, PartFiles}
-use Rattle.check_index.specs.Norms.{FieldNorms, norm_count}
+use Rattle.check_index.specs.Norms.{FieldNorms, count_with_norms}
 use Rattle.check_index.specs.Vectors.{have_vectors}
 use Rattle.segment_files.specs.declared.options.WriteOptions.{WriteOptions}
 use Rattle.segment_files.specs.Postings.{PostingIntervals, PostingParts, kept_terms, parts_of, lines_written, tis_bytes, tii_bytes}
@@ -20,7 +20,7 @@ keep_positions fields = list_any (λ field. has_bit bit.indexed field.bits && no
 
 -- some field has norms
 abbrev pub have_norms : List TableField → Bool
-have_norms fields = nat_lt 0 (norm_count fields)
+have_norms fields = nat_lt 0 (count_with_norms fields)
 
 -- the norms of the fields that have them
 abbrev pub norm_columns : FieldNorms → List (List ℕ)

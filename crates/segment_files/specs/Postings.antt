@@ -4,11 +4,12 @@ use Rattle.std.specs.List.{fold}
 use Rattle.lu_types.specs.Bits as bit
 use Rattle.lu_types.specs.Bits.{has_bit}
 use Rattle.lu_types.specs.Tables.{TableField, bits_at}
-use Rattle.lu_model.specs.Index.{Occurrence as IndexedOccurrence, Occurrences, given, omitted, frequency, IndexedEntry, IndexedTerm}
+use Rattle.lu_model.specs.Index.{KeptOccurrences, given, omitted, frequency, IndexedEntry, IndexedTerm}
+use Rattle.lu_types.specs.Occurrences.{Occurrence as IndexedOccurrence}
 use Rattle.freq_skips.specs.declared.writer.Handed.{Handed}
 use Rattle.freq_skips.specs.Writing.{FrqWriting, finished, skip_delta}
-use Rattle.positions.specs.Occurrences.{Occurrence}
-use Rattle.positions.specs.Written.{document_bytes, occurrences_bytes}
+use Rattle.lu_types.specs.Occurrences.{Occurrence}
+use Rattle.positions.specs.Written.{document_occurrence_bytes, occurrences_bytes}
 use Rattle.term_dict.specs.Terms.{DictionaryTerm}
 use Rattle.term_dict.specs.Writing.{TermsWritten, numbers_written}
 use Rattle.term_dict.specs.Canonical.{canonical_tis, canonical_tii}
@@ -20,7 +21,7 @@ abbrev pub prx_occurrence : IndexedOccurrence → Occurrence
 prx_occurrence o = record { position = o.position; payload = o.payload }
 
 -- the occurrences that stand in `.prx`: none where they are omitted
-abbrev pub prx_occurrences : Occurrences → List Occurrence
+abbrev pub prx_occurrences : KeptOccurrences → List Occurrence
 prx_occurrences (given occurrences) = map prx_occurrence occurrences
 prx_occurrences omitted = []
 
@@ -37,7 +38,7 @@ abbrev pub handed_from : Bool → ℕ → List IndexedEntry → List Handed
 handed_from payloads before [] = []
 handed_from payloads before (e ∷ es) =
     (record { doc = e.document; freq = frequency e.occurrences; prox = before })
-    ∷ handed_from payloads (before + length (document_bytes payloads None 0 (prx_occurrences e.occurrences))) es
+    ∷ handed_from payloads (before + length (document_occurrence_bytes payloads None 0 (prx_occurrences e.occurrences))) es
 
 -- ---- terms
 

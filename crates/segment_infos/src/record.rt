@@ -1,7 +1,7 @@
 //! The records of `segments_N` as they stand in the file, before anything is asked of them.
 ghost use Rattle.std.specs.Prelude.{◌≡◌};
 
-use crate::lists::{NormGens, Pairs};
+use crate::lists::{MapPairs, NormGens};
 use std::marker::Model;
 
 /// The format number of a commit.
@@ -57,7 +57,7 @@ pub struct Heading {
 
 /// The shared store of a segment.
 #[derive(Drop)]
-pub struct StorePart<'a> {
+pub struct SharedStorePart<'a> {
     pub name: Lent<'a>,
     pub flag: u8,
 }
@@ -69,7 +69,7 @@ pub struct FrontPart<'a> {
     pub size: i32,
     pub del_gen: i64,
     pub offset: i32,
-    pub store: Option<StorePart<'a>>,
+    pub store: Option<SharedStorePart<'a>>,
 }
 
 /// What is said of its norms.
@@ -92,12 +92,12 @@ pub struct FlagPart {
 #[derive(Drop)]
 pub struct MapPart {
     pub count: i32,
-    pub pairs: Pairs,
+    pub pairs: MapPairs,
 }
 
 /// A segment.
 #[derive(Drop)]
-pub struct Line<'a> {
+pub struct SegmentLine<'a> {
     pub front: FrontPart<'a>,
     pub norms: NormPart,
     pub flags: FlagPart,

@@ -14,8 +14,9 @@ use Rattle.lu_grammar.specs.Reading.{read_part}
 use Rattle.lu_grammar.specs.Records.{first_broken, record_at}
 use Rattle.lu_grammar.specs.Plans.{Plan, done, due, and_then, Broken, read_plan}
 use Rattle.lu_grammar.proofs.Codecs.{read_due, read_due_broken, alone_read, alone_breaks}
+use Rattle.lu_types.specs.Stores.{greatest_place}
 use Rattle.term_vectors.specs.declared.layout.DocumentPlaces.{DocumentPlaces}
-use Rattle.term_vectors.specs.Format.{greatest_place, vector_format, format_shape, format_rule, headed}
+use Rattle.term_vectors.specs.Format.{vector_format, format_shape, format_rule, headed}
 use Rattle.term_vectors.specs.Fields.{TvdRecord, VectorPlace, format, count, number, difference, stated, format_conditions, count_shape, count_conditions, is_among, number_shape, number_conditions, numbers_plan, difference_shape, difference_conditions, further_plan, placed, document_plan, is_within, documents_plan, tvd_plan}
 use Rattle.term_vectors.specs.InnerFields.{HasFieldNumbers}
 use Rattle.term_vectors.proofs.Steps.{Continues, record-left, led-left, then-left, then-broken, then-broken_so, Continues-then, Continues-ok, Continues-err}

@@ -8,13 +8,12 @@ use Rattle.lu_grammar.specs.Parts.{int32, int64}
 use Rattle.lu_grammar.specs.Reading.{◌>>=◌, read_part}
 use Rattle.lu_grammar.specs.Records.{whole, part, read_shape, record_at}
 use Rattle.lu_grammar.specs.Plans.{read_plan, read_file}
-use Rattle.lu_grammar.proofs.Codecs.{ok_pair, same_pair, ok_of, then_ok, due_was, record_at-was, alone_was, file_was, read_shape-part}
+use Rattle.lu_grammar.proofs.Codecs.{ok_pair, same_pair, ok_of, then_ok, due_was, record_at-was, alone_was, file_was, read_shape-part, int64_read, int32_read}
 use Rattle.term_vectors.specs.declared.layout.DocumentPlaces.{DocumentPlaces}
 use Rattle.term_vectors.specs.Format.{place_of_number, headed, format_shape}
 use Rattle.term_vectors.specs.Places.{TvxRecord, format, places, format_conditions, places_shape, places_conditions, stated_places, places_plan, tvx_plan}
 use Rattle.term_vectors.specs.InnerFields.{IsStatedAt}
 use Rattle.term_vectors.proofs.Steps.{headed_was}
-use Rattle.term_vectors.proofs.FixedLemmas.{int64_read, int32_read}
 use Rattle.term_vectors.proofs.PlaceLemmas.{reads_places}
 
 -- two numbers that stand there are the places

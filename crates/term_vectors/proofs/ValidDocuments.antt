@@ -10,16 +10,16 @@ use Rattle.lu_grammar.specs.Bytes.{IsBytes, Cursor, start_of, place_in}
 use Rattle.lu_grammar.specs.Parts.{int32}
 use Rattle.lu_grammar.specs.Reading.{value_or}
 use Rattle.lu_grammar.specs.Plans.{read_file}
-use Rattle.lu_grammar.proofs.Codecs.{ok_of, due_was, file_was, alone_was, record_at-was, read_file-Reads, place_in-after}
+use Rattle.lu_grammar.proofs.Codecs.{ok_of, due_was, file_was, alone_was, record_at-was, read_file-Reads, place_in-after, int32_read}
 use Rattle.lu_grammar.proofs.Parts.{IsBytes-drop}
+use Rattle.lu_types.specs.Stores.{windowed}
 use Rattle.term_vectors.specs.declared.layout.DocumentPlaces.{DocumentPlaces}
 use Rattle.term_vectors.specs.Format.{format_shape}
 use Rattle.term_vectors.specs.Places.{tvx_plan}
 use Rattle.term_vectors.specs.Fields.{VectorPlace, format, format_conditions, is_within, documents_plan, tvd_plan}
 use Rattle.term_vectors.specs.Vectors.{StoredVector, all_plan, tvf_plan}
-use Rattle.term_vectors.specs.Stores.{AreVectors, windowed, places_in, slots_in, stored_vectors_in, vector_files}
+use Rattle.term_vectors.specs.Stores.{AreVectors, places_in, slots_in, stored_vectors_in, vector_files}
 use Rattle.term_vectors.specs.InnerViews.{HaveNoFault}
-use Rattle.term_vectors.proofs.FixedLemmas.{int32_read}
 use Rattle.term_vectors.proofs.StatedLemmas.{tvx_stated}
 use Rattle.term_vectors.proofs.StandLemmas.{store-documents, windowed-many, windowed-get, tvf_was}
 use Rattle.term_vectors.proofs.Unasked.{slots-read, slots_file}

@@ -4,22 +4,15 @@ use Rattle.std.specs.Ordering.{int_eq}
 use Rattle.lu_grammar.specs.Parts.{int32}
 use Rattle.lu_grammar.specs.Records.{Shape, whole, part, Condition}
 use Rattle.lu_grammar.specs.Plans.{Plan, done, and_then}
+use Rattle.lu_types.specs.Stores.{greatest_place}
 
 -- the format number of each of the files
 abbrev pub vector_format : ℤ
 vector_format = pos 4
 
--- the bytes of the header of each of the files
-abbrev pub header_length : ℕ
-header_length = 4
-
 -- the bytes of a document in `.tvx`
 abbrev pub document_length : ℕ
 document_length = 16
-
--- the greatest place in a file, position and offset: 2^31 - 1
-abbrev pub greatest_place : ℕ
-greatest_place = 2147483647
 
 -- a start is the end before and a difference, modulo this: 2^32
 abbrev pub start_modulus : ℕ

@@ -11,6 +11,8 @@ pub mod InnerVectors
 pub mod Walks
 pub mod VectorBytes
 pub mod Writable
+pub mod VectorWriting
 pub mod InnerViews
 pub mod InnerTerms
 pub mod InnerSlots
+pub mod InnerCursors

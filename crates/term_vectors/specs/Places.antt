@@ -5,8 +5,9 @@ use Rattle.lu_types.specs.RuleNumbers as rules
 use Rattle.lu_grammar.specs.Parts.{int64}
 use Rattle.lu_grammar.specs.Records.{Shape, whole, part, Condition}
 use Rattle.lu_grammar.specs.Plans.{Plan, done, due}
+use Rattle.lu_types.specs.Stores.{header_length}
 use Rattle.term_vectors.specs.declared.layout.DocumentPlaces.{DocumentPlaces}
-use Rattle.term_vectors.specs.Format.{header_length, format_shape, format_rule, place_of_number, headed}
+use Rattle.term_vectors.specs.Format.{format_shape, format_rule, place_of_number, headed}
 
 -- a record of `.tvx`: the format number, or the places of a document, none where a number is no place
 pub data TvxRecord : Type 0 where

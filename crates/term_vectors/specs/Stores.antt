@@ -1,8 +1,9 @@
 -- What the three files of a store stand for (format page, "Term vectors").
-use Rattle.std.specs.Prelude.{◌≡◌, ◌≢◌, ◌<◌, ◌^◌, ℕ, List, [], length, take, drop, Option, Ok, All, AllPairs}
+use Rattle.std.specs.Prelude.{◌≡◌, ◌≢◌, ◌<◌, ◌^◌, ℕ, List, [], length, Option, Ok, All, AllPairs}
 use Rattle.lu_types.specs.Tables.{TableField}
 use Rattle.lu_types.specs.declared.kind.FileKind.TheVariants.{Tvx, Tvd, Tvf}
 use Rattle.lu_types.specs.declared.stored.Window.{Window}
+use Rattle.lu_types.specs.Stores.{windowed}
 use Rattle.lu_types.specs.FilePlans.{FilePlan, stands, needs}
 use Rattle.lu_grammar.specs.Bytes.{IsBytes}
 use Rattle.lu_grammar.specs.Reading.{value_or}
@@ -12,14 +13,6 @@ use Rattle.term_vectors.specs.declared.layout.DocumentPlaces.{DocumentPlaces}
 use Rattle.term_vectors.specs.Places.{tvx_plan}
 use Rattle.term_vectors.specs.Fields.{VectorPlace, no_window, tvd_plan}
 use Rattle.term_vectors.specs.Vectors.{StoredVector, tvf_plan}
-
--- all documents of a store of so many
-abbrev pub whole_store : ℕ → Window
-whole_store total = record { offset = 0; count = total }
-
--- those of the documents that the window has
-abbrev pub windowed : {A : Type 0} → Window → List A → List A
-windowed window all = take window.count (drop window.offset all)
 
 -- the three files, in order, of a store of so many documents, of which a segment with these fields takes a window, and what they stand for:
 -- the vectors of each document in the window

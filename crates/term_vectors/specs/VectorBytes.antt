@@ -4,7 +4,8 @@ use Rattle.std.specs.List.{flat_map}
 use Rattle.lu_grammar.specs.Parts.{int32, int64, vint, num, vlong, spelling}
 use Rattle.lu_model.specs.Index.{Span, VectorTerm}
 use Rattle.term_vectors.specs.declared.layout.DocumentPlaces.{DocumentPlaces}
-use Rattle.term_vectors.specs.Format.{vector_format, header_length, start_modulus}
+use Rattle.lu_types.specs.Stores.{header_length}
+use Rattle.term_vectors.specs.Format.{vector_format, start_modulus}
 use Rattle.term_vectors.specs.Vectors.{StoredVector}
 
 -- the header of each of the files

@@ -9,8 +9,9 @@ use Rattle.lu_types.specs.RuleNumbers as rules
 use Rattle.lu_grammar.specs.Parts.{byte, vint, num, bytes}
 use Rattle.lu_grammar.specs.Records.{Shape, whole, part, Condition}
 use Rattle.lu_grammar.specs.Plans.{Plan, done, due, and_then}
+use Rattle.lu_types.specs.Stores.{greatest_place}
 use Rattle.lu_model.specs.Index.{Span, VectorTerm, FieldVector}
-use Rattle.term_vectors.specs.Format.{greatest_place, start_modulus, bit_positions, bit_offsets, format_shape, format_rule, headed}
+use Rattle.term_vectors.specs.Format.{start_modulus, bit_positions, bit_offsets, format_shape, format_rule, headed}
 use Rattle.term_vectors.specs.Fields.{VectorPlace}
 
 -- a record of `.tvf`: the format number; how many terms a vector has, and its bits; how many bytes a text shares with the text before, its other bytes,

@@ -7,7 +7,7 @@ use Rattle.lu_types.specs.declared.stored.Window.{Window}
 use Rattle.lu_model.specs.Valid.{IsSmall, IsVectorTerm}
 use Rattle.term_vectors.specs.Fields.{has_vectors}
 use Rattle.term_vectors.specs.Vectors.{StoredVector}
-use Rattle.term_vectors.specs.Stores.{windowed}
+use Rattle.lu_types.specs.Stores.{windowed}
 use Rattle.term_vectors.specs.VectorBytes.{tvd_bytes, tvf_bytes}
 
 -- a vector that an index can have, whatever the table: its number is one, its bits mean something, and its terms rise

@@ -20,7 +20,7 @@ use lu_types::{CodecFault, FileKind, Spot};
 use std::alloc::Global;
 
 /// Passes the fields of so many vectors in `.tvd`, which have no fault.
-fn skip_numbers(beside: &mut Cur<'_>, count: u32)
+pub fn skip_numbers(beside: &mut Cur<'_>, count: u32)
     requires { (x : List ℕ × Cursor) × (read_plan (numbers_plan false [] count []) beside.old ≡ Ok x) }
     ensures { (ns : List ℕ) (d : Cursor) → read_plan (numbers_plan false [] count []) beside.old ≡ Ok (ns, d) → beside.new ≡ d }
 {

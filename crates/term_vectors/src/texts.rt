@@ -1,16 +1,14 @@
 //! The text of the last term of a vector that was read, and how the next one follows from it (format page, "Term vectors").
-ghost use Rattle.std.specs.Prelude.{◌≡◌, ◌++◌, ◌≤◌, ◌+◌, true, [], length, take, Some, None, IsOk, IfOk, OnOk, vec_capacity};
+ghost use Rattle.std.specs.Prelude.{◌≡◌, ◌++◌, ◌≤◌, ◌+◌, true, [], length, take, Some, None, IfOk, vec_capacity};
 ghost use Rattle.std.specs.Str.{IsUtf8, is_utf8};
-ghost use Rattle.lu_prims.specs.Order.{byte_rank};
 ghost use Rattle.lu_grammar.specs.Answers.{Gives};
 ghost use Rattle.lu_grammar.specs.Records.{first_broken, read_shape};
 ghost use Rattle.term_vectors.specs.Vectors.{term_shape, text_after, is_above, term_conditions};
-ghost use Rattle.term_vectors.specs.InnerTexts.{text_before, IsSoundText, term_record, bytes_cmp};
+ghost use Rattle.term_vectors.specs.InnerTexts.{text_before, IsSoundText, term_record};
 
-use lu_prims::{Bad, Cur, OutOfMemory};
+use lu_prims::{Bad, Cur, OutOfMemory, follow, follow_text, tail_cmp};
 use lu_types::rules::{VECTOR_FREQ, VECTOR_ORDER, VECTOR_PREFIX, VECTOR_UTF8};
 use std::alloc::Global;
-use std::cmp::Ordering;
 
 /// The record of a term: how many bytes its text shares with the text before, the bytes that follow them, and how often it stands
 /// in the field.
@@ -47,64 +45,6 @@ pub fn entry_at<'a>(cur: &mut Cur<'a>) -> Result<VectorTermEntry<'a>, Bad>
         suffix,
         freq,
     })
-}
-
-/// Where a byte of UTF-8 stands in the order of UTF-16 units: the lead bytes EE and EF, of U+E000 to U+FFFF, come after all
-/// others.
-#[tactic(auto, unfolding(lu_prims::specs::Order::byte_rank))]
-fn rank(byte: u8) -> u8
-    ensures { result ≡ byte_rank byte }
-{
-    match byte {
-        0xEE | 0xEF => byte + 0x10,
-        0xF0.. => byte - 2,
-        _ => byte,
-    }
-}
-
-/// Compares the bytes that follow what two texts share, in UTF-16 order.
-fn tail_cmp(a: &[u8], b: &[u8]) -> Ordering
-    ensures { result ≡ bytes_cmp a.now b.now }
-{
-    let shared = a.len().min(b.len());
-    for place in 0..shared {
-        if a[place] != b[place] {
-            return rank(a[place]).cmp(&rank(b[place]));
-        }
-    }
-    a.len().cmp(&b.len())
-}
-
-/// The last place at or before the prefix where the text may be cut.
-fn cut_before(text: &[u8], prefix: usize) -> usize
-    requires { IsUtf8 text.now }
-    ensures bound { result ≤ prefix }
-    ensures front { IsUtf8 (take result text.now) }
-{
-    unsafe { str::from_utf8_unchecked(text) }.floor_char_boundary(prefix)
-}
-
-/// Whether the bytes are UTF-8, where those before a place are.
-fn is_text(bytes: &[u8], from: usize) -> bool
-    requires within { from ≤ length bytes.now }
-    requires front { IsUtf8 (take from bytes.now) }
-    ensures { result ≡ is_utf8 bytes.now }
-{
-    match str::from_utf8(bytes.split_at(from).1) {
-        Ok(_) => true,
-        Err(_) => false,
-    }
-}
-
-/// Keeps so many bytes of the text and appends the suffix. An `Err` leaves the text that was kept.
-pub fn follow(text: &mut Vec<u8>, prefix: usize, suffix: &[u8]) -> Result<(), OutOfMemory>
-    ensures ok { OnOk result (text.new.items ≡ take prefix text.old.items ++ suffix.now) }
-    ensures capacity { vec_capacity text.old ≤ vec_capacity text.new }
-    ensures room { prefix ≤ length text.old.items → prefix + length suffix.now ≤ vec_capacity text.old → IsOk result }
-{
-    text.truncate(prefix);
-    text.extend_from_slice(suffix)?;
-    Ok(())
 }
 
 impl LastText {
@@ -179,11 +119,8 @@ impl LastText {
             × (valid ≡ is_utf8 self.new.bytes.items)) }
         ensures some { self.new.is_some ≡ true }
     {
-        let prefix = entry.prefix as usize;
-        let cut = cut_before(self.bytes.as_slice(), prefix);
         self.is_some = true;
-        follow(&mut self.bytes, prefix, entry.suffix)?;
-        Ok(is_text(self.bytes.as_slice(), cut))
+        follow_text(&mut self.bytes, entry.prefix as usize, entry.suffix)
     }
 
     /// Makes the text that of the entry; or answers the first rule that the entry breaks after this text, if there is one.

@@ -1,7 +1,8 @@
 //! The vectors of a segment: checked once, and then lent (format page, "Term vectors").
 ghost use Rattle.std.specs.Prelude.{◌≡◌, ◌+◌, ◌≤◌, ◌<◌, ◌^◌, [], length, get_or, All, IfOk, Some};
 ghost use Rattle.lu_types.specs.FilePlans.{Judges};
-ghost use Rattle.term_vectors.specs.Stores.{AreVectors, whole_store, vector_files};
+ghost use Rattle.lu_types.specs.Stores.{whole_store};
+ghost use Rattle.term_vectors.specs.Stores.{AreVectors, vector_files};
 
 use crate::checking::check_vectors;
 use crate::document::VectorDoc;
@@ -30,8 +31,9 @@ pub struct VectorView<'a> {
 
 impl<'a> Model for VectorView<'a> {
     ghost use Rattle.std.specs.Prelude.{List};
+    ghost use Rattle.lu_types.specs.Stores.{windowed};
     ghost use Rattle.term_vectors.specs.Vectors.{StoredVector};
-    ghost use Rattle.term_vectors.specs.Stores.{windowed, places_in, slots_in, stored_vectors_in};
+    ghost use Rattle.term_vectors.specs.Stores.{places_in, slots_in, stored_vectors_in};
     ghost use Rattle.term_vectors.specs.InnerViews.{HaveNoFault};
 
     ghost Value = { List (List StoredVector) };

@@ -3,12 +3,13 @@ use Rattle.lu_types.specs.declared.kind.FileKind.TheVariants.{Tvf}
 use Rattle.lu_types.specs.Judging.{IsBrokenSo}
 use Rattle.lu_grammar.specs.Bytes.{Cursor, start_of}
 use Rattle.lu_grammar.specs.Plans.{read_plan, Broken}
+use Rattle.lu_types.proofs.SpotLemmas.{spot-broken}
 use Rattle.term_vectors.specs.declared.layout.DocumentPlaces.{DocumentPlaces}
 use Rattle.term_vectors.specs.Fields.{VectorPlace, no_window, documents_plan}
 use Rattle.term_vectors.specs.Vectors.{StoredVector, tvf_plan}
 use Rattle.term_vectors.specs.Stores.{places_in, slots_in}
 use Rattle.term_vectors.proofs.Steps.{Continues-same}
-use Rattle.term_vectors.proofs.Endings.{spot-broken, file-broken, file-broken_so, file-trailing, file-whole}
+use Rattle.term_vectors.proofs.Endings.{file-broken, file-broken_so, file-trailing, file-whole}
 use Rattle.term_vectors.proofs.PlaceLemmas.{IsBehindFormat}
 use Rattle.term_vectors.proofs.StatedLemmas.{tvx_stated, stated_once}
 use Rattle.term_vectors.proofs.DocumentLemmas.{no_places}

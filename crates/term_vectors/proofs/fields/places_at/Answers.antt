@@ -3,8 +3,8 @@ use Rattle.std.specs.Option.{unwrap_or}
 use Rattle.lu_grammar.specs.Bytes.{Cursor, moved}
 use Rattle.lu_grammar.specs.Parts.{int64}
 use Rattle.lu_grammar.specs.Reading.{read_part}
+use Rattle.lu_grammar.proofs.Codecs.{int64_read, int64_not_bad}
 use Rattle.term_vectors.specs.Format.{place_of_number}
-use Rattle.term_vectors.proofs.FixedLemmas.{int64_read, int64_not_bad}
 use Rattle.term_vectors.proofs.StatedLemmas.{stated_at}
 use Rattle.term_vectors.proofs.fields.places_at.Goals as goal
 

@@ -9,10 +9,11 @@ use Rattle.lu_types.specs.Judging.{IsFault}
 use Rattle.lu_grammar.specs.Meaning.{Reads}
 use Rattle.lu_grammar.proofs.Codecs.{read_file-Reads}
 use Rattle.std.proofs.Common.{ℕ, Some, Result, Err}
+use Rattle.lu_types.specs.Stores.{windowed}
 use Rattle.term_vectors.specs.Places.{tvx_plan}
 use Rattle.term_vectors.specs.Fields.{tvd_plan}
 use Rattle.term_vectors.specs.Vectors.{StoredVector, tvf_plan}
-use Rattle.term_vectors.specs.Stores.{windowed, places_in, slots_in, stored_vectors_in, vector_files}
+use Rattle.term_vectors.specs.Stores.{places_in, slots_in, stored_vectors_in, vector_files}
 use Rattle.term_vectors.proofs.Unasked.{slots_file}
 use Rattle.term_vectors.proofs.StandLemmas.{windowed-many}
 use Rattle.term_vectors.proofs.ValidDocuments.{values_valid}

@@ -14,10 +14,10 @@ use Rattle.lu_model.proofs.Words.{Each}
 use Rattle.lu_model.proofs.Each.{each-from_all}
 use Rattle.field_infos.specs.Fnm.{fnm_plan}
 use Rattle.field_infos.specs.Spelling.{fnm_spelling}
-use Rattle.stored_fields.specs.Values.{Document}
+use Rattle.stored_fields.specs.Values.{StoredDocument}
 use Rattle.stored_fields.specs.Places.{fdx_plan}
 use Rattle.stored_fields.specs.Documents.{fdt_plan}
-use Rattle.stored_fields.specs.Stores.{whole_store}
+use Rattle.lu_types.specs.Stores.{whole_store}
 use Rattle.stored_fields.specs.Writing.{fdx_bytes, fdt_bytes}
 use Rattle.term_dict.specs.Dictionary.{Dictionary, tis_plan}
 use Rattle.term_dict.specs.Index.{tii_plan}
@@ -36,10 +36,10 @@ use Rattle.check_index.specs.Files.{PartFiles, FolderFiles}
 use Rattle.check_index.specs.Terms.{infos_of, listed_terms}
 use Rattle.check_index.specs.Positions.{TermOccurrences, no_positions}
 use Rattle.check_index.specs.Indexed.{indexed_terms}
-use Rattle.check_index.specs.Norms.{FieldNorms, norm_count, norms_from}
+use Rattle.check_index.specs.Norms.{FieldNorms, count_with_norms, norms_from}
 use Rattle.check_index.specs.Vectors.{have_vectors, no_vectors}
-use Rattle.check_index.specs.Segments.{Segment, Contents, Columns, segment_of, segment_files}
-use Rattle.check_index.specs.Stands.{Holds, AreOwn, Either, AreStored, AreVectors, HoldColumns, HoldVectors, SegmentStands}
+use Rattle.check_index.specs.Segments.{SegmentValue, Contents, Columns, segment_value, segment_files}
+use Rattle.check_index.specs.Stands.{Holds, AreOwn, Either, AreStored, AreStoreVectors, HoldColumns, HoldVectors, SegmentStands}
 use Rattle.check_index.proofs.ReadBytes.{read-bytes}
 use Rattle.check_index.proofs.StandsLaws.{stands-from}
 use Rattle.segment_files.specs.declared.options.WriteOptions.{WriteOptions}
@@ -144,15 +144,15 @@ module _ (options : WriteOptions) (index : Index) (v : IsValid index) (fit : too
   abbrev columns : Columns
   columns = record { norms = index.norms; deleted = []; vectors = index.vectors }
 
-  abbrev segment : Segment
-  segment = segment_of index.size contents columns
+  abbrev segment : SegmentValue
+  segment = segment_value index.size contents columns
 
   -- ---- file by file
 
   fnm-held : Reads (fnm_plan (keep_positions index.fields) None) (fnm_spelling index.fields) index.fields
   fnm-held = fnm-read index.fields v.fields v.names
 
-  good-documents : (documents : List Document) → Each (λ (values : Document). IsSmall (length values)) documents → Each (λ (values : Document). All (IsGoodValue (length index.fields)) values) documents → Each (IsGoodDocument (length index.fields)) documents
+  good-documents : (documents : List StoredDocument) → Each (λ (values : StoredDocument). IsSmall (length values)) documents → Each (λ (values : StoredDocument). All (IsGoodValue (length index.fields)) values) documents → Each (IsGoodDocument (length index.fields)) documents
   good-documents [] few values = tt
   good-documents (d ∷ documents) few values = ((few.0, values.0), good-documents documents few.1 values.1)
 
@@ -160,7 +160,7 @@ module _ (options : WriteOptions) (index : Index) (v : IsValid index) (fit : too
   store-held =
       subst (λ (n : ℕ). AreStored (λ _. n) (whole_store n) (length index.fields) (Some (fdx_bytes index.stored)) (Some (fdt_bytes index.stored)) index.stored) v.stored
       (stored-held (length index.fields) index.stored v.fields.few
-      (good-documents index.stored (each-from_all (λ (values : Document). IsSmall (length values)) index.stored v.few_values) (each-from_all (λ (values : Document). All (IsGoodValue (length index.fields)) values) index.stored v.values)) fdt-small)
+      (good-documents index.stored (each-from_all (λ (values : StoredDocument). IsSmall (length values)) index.stored v.few_values) (each-from_all (λ (values : StoredDocument). All (IsGoodValue (length index.fields)) values) index.stored v.values)) fdt-small)
 
   dictionary-held : Reads (tis_plan index.fields index.size (length (tis_bytes written))) (tis_bytes written) dictionary
   dictionary-held = tis-read index.fields index.size o index.terms intervals v.small writable frq-small prx-small
@@ -185,7 +185,7 @@ module _ (options : WriteOptions) (index : Index) (v : IsValid index) (fit : too
 
   -- the vectors' files stand for the vectors, where a field has vectors
   abbrev pub HoldOwnVectors : Type 0
-  HoldOwnVectors = have_vectors index.fields ≡ true → AreVectors (record { total = length index.vectors; window = whole_store (length index.vectors) }) index.fields (canonical_store true index.stored index.vectors) index.vectors
+  HoldOwnVectors = have_vectors index.fields ≡ true → AreStoreVectors (record { total = length index.vectors; window = whole_store (length index.vectors) }) index.fields (canonical_store true index.stored index.vectors) index.vectors
 
   module _ (own_vectors : HoldOwnVectors) (diagnostics : List MapPair) where
     abbrev folder : FolderFiles
@@ -200,10 +200,10 @@ module _ (options : WriteOptions) (index : Index) (v : IsValid index) (fit : too
 
     vectors-stand : HoldVectors line index.fields parts.documents index.vectors
     vectors-stand =
-        subst (λ (n : ℕ). Either (have_vectors index.fields && is_some parts.documents.tvx) (AreVectors (record { total = n; window = whole_store n }) index.fields parts.documents index.vectors) index.vectors (no_vectors n)) v.vectors
+        subst (λ (n : ℕ). Either (have_vectors index.fields && is_some parts.documents.tvx) (AreStoreVectors (record { total = n; window = whole_store n }) index.fields parts.documents index.vectors) index.vectors (no_vectors n)) v.vectors
         (vectors-held index.fields index.stored index.vectors (good-vectors index.vectors (each-from_all (λ (d : List StoredVector). All (IsVector index.fields) d) index.vectors v.vector_fields)) own_vectors)
 
-    vectors-there : (b : Bool) → (b ≡ true → AreVectors (record { total = length index.vectors; window = whole_store (length index.vectors) }) index.fields (canonical_store true index.stored index.vectors) index.vectors)
+    vectors-there : (b : Bool) → (b ≡ true → AreStoreVectors (record { total = length index.vectors; window = whole_store (length index.vectors) }) index.fields (canonical_store true index.stored index.vectors) index.vectors)
         → IfThere (canonical_store b index.stored index.vectors).tvx × IfThere (canonical_store b index.stored index.vectors).tvd × IfThere (canonical_store b index.stored index.vectors).tvf
     vectors-there true h =
         let a = h refl in
@@ -216,8 +216,8 @@ module _ (options : WriteOptions) (index : Index) (v : IsValid index) (fit : too
     prx-there true = read-bytes (prx_plan index.fields dictionary.numbers index.size (infos_of dictionary) read.values) postings.prx read.occurrences read.positions
     prx-there false = tt
 
-    nrm-there : (b : Bool) → Either b ((columns : List (List ℕ)) × Holds (cond b (Some (nrm_spelling (norm_columns index.norms))) None) (λ _. nrm_plan (norm_count index.fields) index.size) columns × (index.norms ≡ norms_from 0 columns index.fields)) index.norms (map (λ _. None) index.fields) → IfThere (cond b (Some (nrm_spelling (norm_columns index.norms))) None)
-    nrm-there true h = read-bytes (nrm_plan (norm_count index.fields) index.size) (nrm_spelling (norm_columns index.norms)) h.0 h.1
+    nrm-there : (b : Bool) → Either b ((columns : List (List ℕ)) × Holds (cond b (Some (nrm_spelling (norm_columns index.norms))) None) (λ _. nrm_plan (count_with_norms index.fields) index.size) columns × (index.norms ≡ norms_from 0 columns index.fields)) index.norms (map (λ _. None) index.fields) → IfThere (cond b (Some (nrm_spelling (norm_columns index.norms))) None)
+    nrm-there true h = read-bytes (nrm_plan (count_with_norms index.fields) index.size) (nrm_spelling (norm_columns index.norms)) h.0 h.1
     nrm-there false h = tt
 
     bytes-there : AreBytesThere parts
@@ -291,5 +291,5 @@ module _ (options : WriteOptions) (index : Index) (v : IsValid index) (fit : too
     unfolding index_made
     is-index none = ap (λ (terms : List IndexedTerm). index_made terms []) again ∙ ap (λ (deleted : List ℕ). index_made index.terms deleted) (sym none)
 
-    pub files-stand : index.deleted ≡ [] → (x : Segment) × StandFor (segment_files folder line) x × (x.index ≡ index)
+    pub files-stand : index.deleted ≡ [] → (x : SegmentValue) × StandFor (segment_files folder line) x × (x.index ≡ index)
     files-stand none = (segment, stands-from folder line segment stands, is-index none)

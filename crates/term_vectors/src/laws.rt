@@ -7,11 +7,13 @@ ghost use Rattle.lu_types.specs.Tables.{TableField};
 ghost use Rattle.lu_types.specs.declared.stored.Window.{Window};
 ghost use Rattle.lu_grammar.specs.Bytes.{IsBytes, Cursor};
 ghost use Rattle.lu_grammar.specs.Plans.{read_plan};
-ghost use Rattle.lu_types.specs.Stores.{header_length, greatest_place};
+ghost use Rattle.lu_types.specs.Stores.{header_length, greatest_place, windowed};
 ghost use Rattle.lu_model.specs.Index.{Span, VectorTerm};
 ghost use Rattle.lu_model.specs.Valid.{IsVectorTerm};
 ghost use Rattle.term_vectors.specs.Format.{vector_format, document_length, start_modulus, bit_positions, bit_offsets};
 ghost use Rattle.term_vectors.specs.Stores.{AreVectors, vector_files};
+ghost use Rattle.term_vectors.specs.VectorBytes.{tvx_bytes, tvd_bytes, tvf_bytes};
+ghost use Rattle.term_vectors.specs.Writable.{AreWritableVectors, IsCheckableWindow};
 ghost use Rattle.term_vectors.specs.Vectors.{StoredVector, terms_plan};
 ghost use Rattle.term_vectors.specs.VectorWriting.{VectorWriting, IsTermWhole, no_vectors_written, with_document_begun, with_vector_begun, with_term_begun, with_position, with_span, HoldsDocuments, HoldsOpenDocument, BegunVector, HoldsOpenVector, HoldsOpenTerm, begun_vector, begun_term, with_one_position, with_one_span};
 
@@ -33,6 +35,13 @@ pub fn documents_are_good()
     ensures { (total : ℕ) (window : Window) (fields : List TableField) (tvx tvd tvf : List ℕ) (value : List (List StoredVector)) → IsBytes tvd → IsBytes tvf
         → window.offset + window.count ≤ total → length tvf < 2 ^ 31
         → StandFor (vector_files total window fields (Some tvx) (Some tvd) (Some tvf)) value → All (AreVectors fields) value }
+{}
+
+/// What the writer gives for some documents, each with vectors that an index can have, is read as exactly these documents, through any
+/// window of them.
+pub fn written_is_read()
+    ensures { (documents : List (List StoredVector)) (fields : List TableField) (window : Window) → All AreWritableVectors documents → IsCheckableWindow fields window documents
+        → StandFor (vector_files (length documents) window fields (Some (tvx_bytes documents)) (Some (tvd_bytes documents)) (Some (tvf_bytes documents))) (windowed window documents) }
 {}
 
 /// What a writer holds. Documents: it begins with none; with a document begun it holds these and an open one without vectors; once that

@@ -48,7 +48,7 @@ invariant_of-result c =
     let columns = columns_of line.size c.in-Ok-open_columns.columns in
     let whole = segment_value line.size contents columns in
     let stands : StandFor (segment_files folder line) whole =
-        segment-stands (λ (s : SegmentValue). s) folder line (part_files_of c.in-Ok.files) c.in-Ok.ensures contents c.in-Ok-open_contents.ensures.judged columns whole c.in-Ok-open_columns.ensures.judged refl in
+    segment-stands (λ (s : SegmentValue). s) folder line (part_files_of c.in-Ok.files) c.in-Ok.ensures contents c.in-Ok-open_contents.ensures.judged columns whole c.in-Ok-open_columns.ensures.judged refl in
     record {
       valid = index-valid folder line whole c.requires.short stands c.requires.line;
       checked = c.in-Ok-open_contents.ensures.checked;

@@ -10,8 +10,8 @@ use Rattle.lu_types.proofs.FileLaws.{followed_by-stand}
 use Rattle.lu_model.specs.Contents.{field_at, has_norms}
 use Rattle.lu_model.specs.Valid.{IsVector}
 use Rattle.lu_model.proofs.Words.{Each}
-use Rattle.stored_fields.specs.Values.{Document}
-use Rattle.stored_fields.specs.Stores.{whole_store}
+use Rattle.stored_fields.specs.Values.{StoredDocument}
+use Rattle.lu_types.specs.Stores.{whole_store}
 use Rattle.term_vectors.specs.declared.fields.StoreWindow.{StoreWindow}
 use Rattle.term_vectors.specs.Vectors.{StoredVector}
 use Rattle.check_index.specs.Norms.{FieldNorms, is_separate, needed_file, separate_file}
@@ -67,7 +67,7 @@ no-vectors fields (d ∷ documents) none h =
     ap (λ (x : List StoredVector). x ∷ documents) (no-vector fields d none h.0) ∙ ap (λ (rest : List (List StoredVector)). [] ∷ rest) (no-vectors fields documents none h.1)
 
 -- the three files of a segment that has its store to itself, where they stand for the vectors if a field has vectors
-pub vectors-held : (fields : List TableField) (stored : List Document) (documents : List (List StoredVector)) → Each (Each (IsVector fields)) documents
+pub vectors-held : (fields : List TableField) (stored : List StoredDocument) (documents : List (List StoredVector)) → Each (Each (IsVector fields)) documents
     → (have_vectors fields ≡ true → AreVectors (record { total = length documents; window = whole_store (length documents) }) fields (canonical_store true stored documents) documents)
     → Either (have_vectors fields && is_some (canonical_store (have_vectors fields) stored documents).tvx)
         (AreVectors (record { total = length documents; window = whole_store (length documents) }) fields (canonical_store (have_vectors fields) stored documents) documents) documents (no_vectors (length documents))

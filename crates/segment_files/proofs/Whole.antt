@@ -14,10 +14,10 @@ use Rattle.lu_model.proofs.Words.{Each}
 use Rattle.lu_model.proofs.Each.{each-from_all}
 use Rattle.field_infos.specs.Fnm.{fnm_plan}
 use Rattle.field_infos.specs.Spelling.{fnm_spelling}
-use Rattle.stored_fields.specs.Values.{Document}
+use Rattle.stored_fields.specs.Values.{StoredDocument}
 use Rattle.stored_fields.specs.Places.{fdx_plan}
 use Rattle.stored_fields.specs.Documents.{fdt_plan}
-use Rattle.stored_fields.specs.Stores.{whole_store}
+use Rattle.lu_types.specs.Stores.{whole_store}
 use Rattle.stored_fields.specs.Writing.{fdx_bytes, fdt_bytes}
 use Rattle.term_dict.specs.Dictionary.{Dictionary, tis_plan}
 use Rattle.term_dict.specs.Index.{tii_plan}
@@ -152,7 +152,7 @@ module _ (options : WriteOptions) (index : Index) (v : IsValid index) (fit : too
   fnm-held : Reads (fnm_plan (keep_positions index.fields) None) (fnm_spelling index.fields) index.fields
   fnm-held = fnm-read index.fields v.fields v.names
 
-  good-documents : (documents : List Document) → Each (λ (values : Document). IsSmall (length values)) documents → Each (λ (values : Document). All (IsGoodValue (length index.fields)) values) documents → Each (IsGoodDocument (length index.fields)) documents
+  good-documents : (documents : List StoredDocument) → Each (λ (values : StoredDocument). IsSmall (length values)) documents → Each (λ (values : StoredDocument). All (IsGoodValue (length index.fields)) values) documents → Each (IsGoodDocument (length index.fields)) documents
   good-documents [] few values = tt
   good-documents (d ∷ documents) few values = ((few.0, values.0), good-documents documents few.1 values.1)
 
@@ -160,7 +160,7 @@ module _ (options : WriteOptions) (index : Index) (v : IsValid index) (fit : too
   store-held =
       subst (λ (n : ℕ). AreStored (λ _. n) (whole_store n) (length index.fields) (Some (fdx_bytes index.stored)) (Some (fdt_bytes index.stored)) index.stored) v.stored
       (stored-held (length index.fields) index.stored v.fields.few
-      (good-documents index.stored (each-from_all (λ (values : Document). IsSmall (length values)) index.stored v.few_values) (each-from_all (λ (values : Document). All (IsGoodValue (length index.fields)) values) index.stored v.values)) fdt-small)
+      (good-documents index.stored (each-from_all (λ (values : StoredDocument). IsSmall (length values)) index.stored v.few_values) (each-from_all (λ (values : StoredDocument). All (IsGoodValue (length index.fields)) values) index.stored v.values)) fdt-small)
 
   dictionary-held : Reads (tis_plan index.fields index.size (length (tis_bytes written))) (tis_bytes written) dictionary
   dictionary-held = tis-read index.fields index.size o index.terms intervals v.small writable frq-small prx-small

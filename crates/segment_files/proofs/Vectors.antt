@@ -1,0 +1,75 @@
+-- The vectors are read as those of the index.
+use Rattle.std.proofs.Common.{◌≡◌, ◌≢◌, ℕ, zero, suc, ◌+◌, ◌^◌, ◌<◌, true, List, [], ◌∷◌, length, Some, refl, sym, subst, arith}
+use Rattle.std.specs.Prelude.{All, AllPairs}
+use Rattle.lu_types.specs.Bits as bit
+use Rattle.lu_types.specs.Bits.{has_bit}
+use Rattle.lu_types.specs.FilePlans.{StandFor}
+use Rattle.lu_types.specs.Stores.{whole_store, windowed}
+use Rattle.lu_types.specs.Tables.{TableField}
+use Rattle.lu_model.specs.Contents.{field_at}
+use Rattle.lu_model.specs.Valid.{IsSmall, IsVector}
+use Rattle.lu_model.proofs.Words.{Each}
+use Rattle.lu_model.proofs.Each.{all-from_each, each-from_all}
+use Rattle.stored_fields.specs.Values.{StoredDocument}
+use Rattle.term_vectors.specs.declared.fields.StoreWindow.{StoreWindow}
+use Rattle.term_vectors.specs.Fields.{has_vectors}
+use Rattle.term_vectors.specs.Vectors.{StoredVector}
+use Rattle.term_vectors.specs.VectorBytes.{tvx_bytes, tvd_bytes, tvf_bytes}
+use Rattle.term_vectors.specs.Stores.{vector_files}
+use Rattle.term_vectors.specs.Writable.{IsWritableVector, AreWritableVectors}
+use Rattle.term_vectors.proofs.WrittenFiles.{written_stand}
+use Rattle.check_index.specs.Stands.{AreVectors}
+use Rattle.check_index.proofs.StandsLemmas.{part-was}
+use Rattle.check_index.proofs.ValidBits.{bits-same}
+use Rattle.segment_files.specs.Stores.{canonical_store}
+use Rattle.segment_files.proofs.Stored.{windowed-all}
+
+-- a field with vectors is one that there is
+field-there : (n : ℕ) (fields : List TableField) → has_bit bit.vectors (field_at n fields).bits ≡ true → n < length fields
+field-there n [] h = cc
+field-there zero (field ∷ fields) h = omega arith
+field-there (suc n) (field ∷ fields) h = let rest = field-there n fields h in omega (arith, rest)
+
+module _ (fields : List TableField) (few : length fields < 2 ^ 31) where
+  writable-vectors : (vectors : List StoredVector) → Each (IsVector fields) vectors → Each IsWritableVector vectors
+  writable-vectors [] h = tt
+  writable-vectors (v ∷ vectors) h =
+      let there = field-there v.field fields h.0.field in
+      (record { field = omega (arith, there, few); bits = h.0.bits; few = h.0.few; rise = h.0.rise; terms = h.0.terms }, writable-vectors vectors h.1)
+
+  named-vectors : (vectors : List StoredVector) → Each (IsVector fields) vectors → Each (λ (v : StoredVector). has_vectors fields v.field ≡ true) vectors
+  named-vectors [] h = tt
+  named-vectors (v ∷ vectors) h = (subst (λ (bits : ℕ). has_bit bit.vectors bits ≡ true) (sym (bits-same v.field fields)) h.0.field, named-vectors vectors h.1)
+
+  -- what is so of the vectors of a document of a valid index
+  pub record AreIndexVectors (vectors : List StoredVector) : Type 0 where
+    pub few_vectors : IsSmall (length vectors)
+    pub apart : AllPairs (λ v w. v.field ≢ w.field) vectors
+    pub each : All (IsVector fields) vectors
+
+  writable-documents : (documents : List (List StoredVector)) → Each AreIndexVectors documents → Each AreWritableVectors documents
+  writable-documents [] h = tt
+  writable-documents (d ∷ documents) h =
+      (record { few = h.0.few_vectors; apart = h.0.apart; each = all-from_each IsWritableVector d (writable-vectors d (each-from_all (IsVector fields) d h.0.each)) }, writable-documents documents h.1)
+
+  named-documents : (documents : List (List StoredVector)) → Each AreIndexVectors documents → Each (λ (d : List StoredVector). All (λ v. has_vectors fields v.field ≡ true) d) documents
+  named-documents [] h = tt
+  named-documents (d ∷ documents) h =
+      (all-from_each (λ (v : StoredVector). has_vectors fields v.field ≡ true) d (named-vectors d (each-from_all (IsVector fields) d h.0.each)), named-documents documents h.1)
+
+  -- the three files of a segment that has its store to itself
+  pub vectors-read : (stored : List StoredDocument) (documents : List (List StoredVector)) → Each AreIndexVectors documents → length (tvd_bytes documents) < 2 ^ 31 → length (tvf_bytes documents) < 2 ^ 31
+      → AreVectors (record { total = length documents; window = whole_store (length documents) }) fields (canonical_store true stored documents) documents
+  vectors-read stored documents good tvd_small tvf_small =
+      let whole = whole_store (length documents) in
+      let all = windowed-all documents in
+      let part : StoreWindow = record { total = length documents; window = whole } in
+      part-was part fields (canonical_store true stored documents) documents
+      (subst (λ (seen : List (List StoredVector)). StandFor (vector_files (length documents) whole fields (Some (tvx_bytes documents)) (Some (tvd_bytes documents)) (Some (tvf_bytes documents))) seen) all
+      (written_stand documents fields whole (all-from_each AreWritableVectors documents (writable-documents documents good)) (record {
+        tvd_short = tvd_small;
+        tvf_short = tvf_small;
+        within = omega arith;
+        named = subst (λ (seen : List (List StoredVector)). All (All (λ v. has_vectors fields v.field ≡ true)) seen) (sym all)
+            (all-from_each (λ (d : List StoredVector). All (λ v. has_vectors fields v.field ≡ true) d) documents (named-documents documents good));
+      })))

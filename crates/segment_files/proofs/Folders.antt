@@ -13,7 +13,8 @@ use Rattle.lu_model.proofs.Words.{Each}
 use Rattle.lu_model.proofs.Each.{all-from_each}
 use Rattle.compound_file.specs.Entries.{NamedPart, part_named}
 use Rattle.compound_file.specs.Cfs.{cfs_plan}
-use Rattle.compound_file.specs.Packing.{part_kinds, is_same, file_of, packed_in, packed_parts, cfs_bytes}
+use Rattle.compound_file.specs.Packing.{is_same, file_of, packed_in, packed_parts, cfs_bytes}
+use Rattle.lu_types.specs.Kinds.{part_kinds}
 use Rattle.compound_file.proofs.FoundLemmas.{part_named-file_of}
 use Rattle.compound_file.proofs.PackedLemmas.{packed-parts}
 use Rattle.compound_file.proofs.WrittenLemmas.{cfs-reads}

@@ -34,7 +34,7 @@ use Rattle.positions.proofs.OmittedLemmas.{omitted-read}
 use Rattle.term_dict.specs.Terms.{DictionaryTerm}
 use Rattle.term_dict.specs.Writing.{numbers_of}
 use Rattle.check_index.specs.Positions.{TermOccurrences}
-use Rattle.check_index.specs.Indexed.{indexed_occurrence, omitted_entry, given_entries, indexed_entries, indexed_term_of}
+use Rattle.check_index.specs.Indexed.{omitted_entry, given_entries, indexed_entries, indexed_term_of}
 use Rattle.segment_files.specs.Postings.{PostingIntervals, PostingParts, KeptTerm, kept_term, term_writing, dictionary_line, with_postings, prx_occurrence, prx_occurrences, prx_entries, prx_bytes, handed_from}
 use Rattle.segment_files.proofs.Handing.{IsGoodEntry, documents_of, handed-length, entries-length, order-is, prox-rising}
 use Rattle.segment_files.proofs.PrxBytes.{IsGiven, all-omitted, all-given, prx_bytes-omitted, IsBeside-given}
@@ -55,11 +55,11 @@ again-omitted payloads place last before (e ∷ es) h =
     let rest = map omitted_entry (written_postings true here e.document (handed_from payloads more es)) in
     ap (λ (o : KeptOccurrences). entry_made e.document o ∷ rest) (sym h.0) ∙ ap (λ (tail : List IndexedEntry). e ∷ tail) (again-omitted payloads here e.document more es h.1)
 
-occurrences-again : (os : List IndexedOccurrence) → map indexed_occurrence (map prx_occurrence os) ≡ os
+occurrences-again : (os : List IndexedOccurrence) → map prx_occurrence os ≡ os
 occurrences-again [] = refl
 occurrences-again (o ∷ os) = ap (λ (tail : List IndexedOccurrence). o ∷ tail) (occurrences-again os)
 
-given-again : (o : KeptOccurrences) (os : List IndexedOccurrence) → o ≡ given os → given (map indexed_occurrence (prx_occurrences o)) ≡ o
+given-again : (o : KeptOccurrences) (os : List IndexedOccurrence) → o ≡ given os → given (prx_occurrences o) ≡ o
 given-again o os is = rw is (ap given (occurrences-again os))
 
 pub again-given : (bits place last before : ℕ) (es : List IndexedEntry) → Each (IsGiven bits) es

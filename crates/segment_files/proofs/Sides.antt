@@ -16,7 +16,7 @@ use Rattle.term_vectors.specs.declared.fields.StoreWindow.{StoreWindow}
 use Rattle.term_vectors.specs.Vectors.{StoredVector}
 use Rattle.check_index.specs.Norms.{FieldNorms, is_separate, needed_file, separate_file}
 use Rattle.check_index.specs.Vectors.{have_vectors, no_vectors}
-use Rattle.check_index.specs.Stands.{Either, AreVectors}
+use Rattle.check_index.specs.Stands.{Either, AreStoreVectors}
 use Rattle.segment_files.specs.Stores.{canonical_store}
 
 -- ---- separate norms
@@ -68,12 +68,12 @@ no-vectors fields (d ∷ documents) none h =
 
 -- the three files of a segment that has its store to itself, where they stand for the vectors if a field has vectors
 pub vectors-held : (fields : List TableField) (stored : List StoredDocument) (documents : List (List StoredVector)) → Each (Each (IsVector fields)) documents
-    → (have_vectors fields ≡ true → AreVectors (record { total = length documents; window = whole_store (length documents) }) fields (canonical_store true stored documents) documents)
+    → (have_vectors fields ≡ true → AreStoreVectors (record { total = length documents; window = whole_store (length documents) }) fields (canonical_store true stored documents) documents)
     → Either (have_vectors fields && is_some (canonical_store (have_vectors fields) stored documents).tvx)
-        (AreVectors (record { total = length documents; window = whole_store (length documents) }) fields (canonical_store (have_vectors fields) stored documents) documents) documents (no_vectors (length documents))
+        (AreStoreVectors (record { total = length documents; window = whole_store (length documents) }) fields (canonical_store (have_vectors fields) stored documents) documents) documents (no_vectors (length documents))
 vectors-held fields stored documents good h = go (have_vectors fields) refl
   where
     go : (b : Bool) → have_vectors fields ≡ b
-        → Either (b && is_some (canonical_store b stored documents).tvx) (AreVectors (record { total = length documents; window = whole_store (length documents) }) fields (canonical_store b stored documents) documents) documents (no_vectors (length documents))
+        → Either (b && is_some (canonical_store b stored documents).tvx) (AreStoreVectors (record { total = length documents; window = whole_store (length documents) }) fields (canonical_store b stored documents) documents) documents (no_vectors (length documents))
     go true is = h is
     go false is = no-vectors fields documents is good

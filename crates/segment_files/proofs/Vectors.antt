@@ -18,8 +18,7 @@ use Rattle.term_vectors.specs.VectorBytes.{tvx_bytes, tvd_bytes, tvf_bytes}
 use Rattle.term_vectors.specs.Stores.{vector_files}
 use Rattle.term_vectors.specs.Writable.{IsWritableVector, AreWritableVectors}
 use Rattle.term_vectors.proofs.WrittenFiles.{written_stand}
-use Rattle.check_index.specs.Stands.{AreVectors}
-use Rattle.check_index.proofs.StandsLemmas.{part-was}
+use Rattle.check_index.specs.Stands.{AreStoreVectors}
 use Rattle.check_index.proofs.ValidBits.{bits-same}
 use Rattle.segment_files.specs.Stores.{canonical_store}
 use Rattle.segment_files.proofs.Stored.{windowed-all}
@@ -29,6 +28,12 @@ field-there : (n : ℕ) (fields : List TableField) → has_bit bit.vectors (fiel
 field-there n [] h = cc
 field-there zero (field ∷ fields) h = omega arith
 field-there (suc n) (field ∷ fields) h = let rest = field-there n fields h in omega (arith, rest)
+
+-- three files that stand for vectors, file by file
+was-held : (fields : List TableField) (part : StoreWindow) (stored : List StoredDocument) (documents : List (List StoredVector))
+    → StandFor (vector_files part.total part.window fields (Some (tvx_bytes documents)) (Some (tvd_bytes documents)) (Some (tvf_bytes documents))) documents → AreStoreVectors part fields (canonical_store true stored documents) documents
+was-held fields part stored documents (places, reads, (slots, also, (all, held, is))) =
+    record { places = places; places_held = reads; slots = slots; slots_held = also; all = all; vectors_held = held; windowed_is = is }
 
 module _ (fields : List TableField) (few : length fields < 2 ^ 31) where
   writable-vectors : (vectors : List StoredVector) → Each (IsVector fields) vectors → Each IsWritableVector vectors
@@ -59,12 +64,12 @@ module _ (fields : List TableField) (few : length fields < 2 ^ 31) where
 
   -- the three files of a segment that has its store to itself
   pub vectors-read : (stored : List StoredDocument) (documents : List (List StoredVector)) → Each AreIndexVectors documents → length (tvd_bytes documents) < 2 ^ 31 → length (tvf_bytes documents) < 2 ^ 31
-      → AreVectors (record { total = length documents; window = whole_store (length documents) }) fields (canonical_store true stored documents) documents
+      → AreStoreVectors (record { total = length documents; window = whole_store (length documents) }) fields (canonical_store true stored documents) documents
   vectors-read stored documents good tvd_small tvf_small =
       let whole = whole_store (length documents) in
       let all = windowed-all documents in
       let part : StoreWindow = record { total = length documents; window = whole } in
-      part-was part fields (canonical_store true stored documents) documents
+      was-held fields part stored documents
       (subst (λ (seen : List (List StoredVector)). StandFor (vector_files (length documents) whole fields (Some (tvx_bytes documents)) (Some (tvd_bytes documents)) (Some (tvf_bytes documents))) seen) all
       (written_stand documents fields whole (all-from_each AreWritableVectors documents (writable-documents documents good)) (record {
         tvd_short = tvd_small;

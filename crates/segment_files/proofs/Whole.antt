@@ -1,11 +1,12 @@
 -- The canonical files of an index stand for it.
-use Rattle.std.proofs.Common.{◌≡◌, ℕ, ◌^◌, ◌<◌, ◌≤◌, Bool, true, false, cond, List, [], ◌∷◌, length, map, Option, Some, None, refl, sym, ap, subst, ◌∙◌, arith}
-use Rattle.std.specs.Prelude.{◌&&◌, All, is_some}
+use Rattle.std.proofs.Common.{◌≡◌, ◌≢◌, ℕ, ◌^◌, ◌<◌, ◌≤◌, Bool, true, false, cond, List, [], ◌∷◌, length, map, Option, Some, None, refl, sym, ap, subst, ◌∙◌, arith}
+use Rattle.std.specs.Prelude.{◌&&◌, All, AllPairs, is_some}
 use Rattle.lu_grammar.specs.Bytes.{IsBytes}
 use Rattle.lu_grammar.specs.Meaning.{Reads}
 use Rattle.lu_types.specs.Bits as bit
 use Rattle.lu_types.specs.Bits.{has_bit}
 use Rattle.lu_types.specs.FilePlans.{StandFor}
+use Rattle.lu_types.proofs.FileLaws.{one_meaning}
 use Rattle.lu_types.specs.Tables.{TableField, bits_at}
 use Rattle.lu_model.specs.Index.{IndexedTerm, Index}
 use Rattle.lu_model.specs.Contents.{field_at}
@@ -36,10 +37,10 @@ use Rattle.check_index.specs.Files.{PartFiles, FolderFiles}
 use Rattle.check_index.specs.Terms.{infos_of, listed_terms}
 use Rattle.check_index.specs.Positions.{TermOccurrences, no_positions}
 use Rattle.check_index.specs.Indexed.{indexed_terms}
-use Rattle.check_index.specs.Norms.{FieldNorms, norm_count, norms_from}
+use Rattle.check_index.specs.Norms.{FieldNorms, count_with_norms, norms_from}
 use Rattle.check_index.specs.Vectors.{have_vectors, no_vectors}
-use Rattle.check_index.specs.Segments.{Segment, Contents, Columns, segment_of, segment_files}
-use Rattle.check_index.specs.Stands.{Holds, AreOwn, Either, AreStored, AreVectors, HoldColumns, HoldVectors, SegmentStands}
+use Rattle.check_index.specs.Segments.{SegmentValue, Contents, Columns, segment_value, segment_files}
+use Rattle.check_index.specs.Stands.{Holds, AreOwn, Either, AreStored, AreStoreVectors, HoldColumns, HoldVectors, SegmentStands}
 use Rattle.check_index.proofs.ReadBytes.{read-bytes}
 use Rattle.check_index.proofs.StandsLaws.{stands-from}
 use Rattle.segment_files.specs.declared.options.WriteOptions.{WriteOptions}
@@ -47,7 +48,7 @@ use Rattle.segment_files.specs.Postings.{PostingIntervals, PostingParts, no_part
 use Rattle.segment_files.specs.Stores.{canonical_store}
 use Rattle.segment_files.specs.Parts.{keep_positions, have_norms, norm_columns, intervals_of, postings_of, canonical_parts_of}
 use Rattle.segment_files.specs.Written.{packed_file, packed_if, canonical_files, all_written, first_past, too_large_file}
-use Rattle.segment_files.specs.Lines.{new_line, folder_with}
+use Rattle.segment_files.specs.Lines.{new_line, folder_with, StandsForIndex}
 use Rattle.segment_files.proofs.Handing.{IsGoodEntry}
 use Rattle.segment_files.proofs.PrxBytes.{all-omitted, prx_bytes-omitted}
 use Rattle.segment_files.proofs.Reading.{numbers_for, CanStand}
@@ -58,6 +59,7 @@ use Rattle.segment_files.proofs.Fields.{fnm-read, all-omit}
 use Rattle.segment_files.proofs.NormColumns.{columns-held}
 use Rattle.segment_files.proofs.Stored.{IsGoodValue, IsGoodDocument, stored-held}
 use Rattle.segment_files.proofs.Sides.{separate-stand, vectors-held}
+use Rattle.segment_files.proofs.Vectors.{AreIndexVectors, vectors-read}
 use Rattle.segment_files.proofs.Limits.{IsWithinLimit, ArePartsWithin, parts-within, packed-within}
 use Rattle.segment_files.proofs.Unposted.{nothing-added}
 use Rattle.segment_files.proofs.Folders.{PartBytes, IfThere, AreBytesThere, own-parts}
@@ -144,8 +146,8 @@ module _ (options : WriteOptions) (index : Index) (v : IsValid index) (fit : too
   abbrev columns : Columns
   columns = record { norms = index.norms; deleted = []; vectors = index.vectors }
 
-  abbrev segment : Segment
-  segment = segment_of index.size contents columns
+  abbrev segment : SegmentValue
+  segment = segment_value index.size contents columns
 
   -- ---- file by file
 
@@ -185,7 +187,7 @@ module _ (options : WriteOptions) (index : Index) (v : IsValid index) (fit : too
 
   -- the vectors' files stand for the vectors, where a field has vectors
   abbrev pub HoldOwnVectors : Type 0
-  HoldOwnVectors = have_vectors index.fields ≡ true → AreVectors (record { total = length index.vectors; window = whole_store (length index.vectors) }) index.fields (canonical_store true index.stored index.vectors) index.vectors
+  HoldOwnVectors = have_vectors index.fields ≡ true → AreStoreVectors (record { total = length index.vectors; window = whole_store (length index.vectors) }) index.fields (canonical_store true index.stored index.vectors) index.vectors
 
   module _ (own_vectors : HoldOwnVectors) (diagnostics : List MapPair) where
     abbrev folder : FolderFiles
@@ -200,10 +202,10 @@ module _ (options : WriteOptions) (index : Index) (v : IsValid index) (fit : too
 
     vectors-stand : HoldVectors line index.fields parts.documents index.vectors
     vectors-stand =
-        subst (λ (n : ℕ). Either (have_vectors index.fields && is_some parts.documents.tvx) (AreVectors (record { total = n; window = whole_store n }) index.fields parts.documents index.vectors) index.vectors (no_vectors n)) v.vectors
+        subst (λ (n : ℕ). Either (have_vectors index.fields && is_some parts.documents.tvx) (AreStoreVectors (record { total = n; window = whole_store n }) index.fields parts.documents index.vectors) index.vectors (no_vectors n)) v.vectors
         (vectors-held index.fields index.stored index.vectors (good-vectors index.vectors (each-from_all (λ (d : List StoredVector). All (IsVector index.fields) d) index.vectors v.vector_fields)) own_vectors)
 
-    vectors-there : (b : Bool) → (b ≡ true → AreVectors (record { total = length index.vectors; window = whole_store (length index.vectors) }) index.fields (canonical_store true index.stored index.vectors) index.vectors)
+    vectors-there : (b : Bool) → (b ≡ true → AreStoreVectors (record { total = length index.vectors; window = whole_store (length index.vectors) }) index.fields (canonical_store true index.stored index.vectors) index.vectors)
         → IfThere (canonical_store b index.stored index.vectors).tvx × IfThere (canonical_store b index.stored index.vectors).tvd × IfThere (canonical_store b index.stored index.vectors).tvf
     vectors-there true h =
         let a = h refl in
@@ -216,8 +218,8 @@ module _ (options : WriteOptions) (index : Index) (v : IsValid index) (fit : too
     prx-there true = read-bytes (prx_plan index.fields dictionary.numbers index.size (infos_of dictionary) read.values) postings.prx read.occurrences read.positions
     prx-there false = tt
 
-    nrm-there : (b : Bool) → Either b ((columns : List (List ℕ)) × Holds (cond b (Some (nrm_spelling (norm_columns index.norms))) None) (λ _. nrm_plan (norm_count index.fields) index.size) columns × (index.norms ≡ norms_from 0 columns index.fields)) index.norms (map (λ _. None) index.fields) → IfThere (cond b (Some (nrm_spelling (norm_columns index.norms))) None)
-    nrm-there true h = read-bytes (nrm_plan (norm_count index.fields) index.size) (nrm_spelling (norm_columns index.norms)) h.0 h.1
+    nrm-there : (b : Bool) → Either b ((columns : List (List ℕ)) × Holds (cond b (Some (nrm_spelling (norm_columns index.norms))) None) (λ _. nrm_plan (count_with_norms index.fields) index.size) columns × (index.norms ≡ norms_from 0 columns index.fields)) index.norms (map (λ _. None) index.fields) → IfThere (cond b (Some (nrm_spelling (norm_columns index.norms))) None)
+    nrm-there true h = read-bytes (nrm_plan (count_with_norms index.fields) index.size) (nrm_spelling (norm_columns index.norms)) h.0 h.1
     nrm-there false h = tt
 
     bytes-there : AreBytesThere parts
@@ -291,5 +293,36 @@ module _ (options : WriteOptions) (index : Index) (v : IsValid index) (fit : too
     unfolding index_made
     is-index none = ap (λ (terms : List IndexedTerm). index_made terms []) again ∙ ap (λ (deleted : List ℕ). index_made index.terms deleted) (sym none)
 
-    pub files-stand : index.deleted ≡ [] → (x : Segment) × StandFor (segment_files folder line) x × (x.index ≡ index)
+    pub files-stand : index.deleted ≡ [] → (x : SegmentValue) × StandFor (segment_files folder line) x × (x.index ≡ index)
     files-stand none = (segment, stands-from folder line segment stands, is-index none)
+
+  -- ---- the vectors
+
+  tail-vectors : (documents : List (List StoredVector)) → Each (λ (d : List StoredVector). IsSmall (length d)) documents → Each (λ (d : List StoredVector). AllPairs (λ a b. a.field ≢ b.field) d) documents
+      → Each (λ (d : List StoredVector). All (IsVector index.fields) d) documents → Each (AreIndexVectors index.fields v.fields.few) documents
+  tail-vectors [] few apart each = tt
+  tail-vectors (d ∷ documents) few apart each = (record { few_vectors = few.0; apart = apart.0; each = each.0 }, tail-vectors documents few.1 apart.1 each.1)
+
+  there-small : (b : Bool) (bytes : List ℕ) → b ≡ true → IsWithinLimit limit (cond b (Some bytes) None) → length bytes < 2 ^ 31
+  there-small true bytes some le = omega (arith, le, small)
+  there-small false bytes some le = cc
+
+  own-vectors : HoldOwnVectors
+  own-vectors some =
+      vectors-read index.fields v.fields.few index.stored index.vectors
+      (tail-vectors index.vectors (each-from_all (λ (d : List StoredVector). IsSmall (length d)) index.vectors v.few_vectors)
+      (each-from_all (λ (d : List StoredVector). AllPairs (λ a b. a.field ≢ b.field) d) index.vectors v.apart)
+      (each-from_all (λ (d : List StoredVector). All (IsVector index.fields) d) index.vectors v.vector_fields))
+      (there-small (have_vectors index.fields) (tvd_bytes index.vectors) some within.tvd) (there-small (have_vectors index.fields) (tvf_bytes index.vectors) some within.tvf)
+
+  -- the files of the index stand for it
+  pub canonical-stand : (diagnostics : List MapPair) → index.deleted ≡ [] → StandsForIndex (folder_with (canonical_files options index).files) (new_line options.number diagnostics (canonical_files options index)) index
+  canonical-stand diagnostics none = files-stand own-vectors diagnostics none
+
+-- and for no other
+pub canonical-only : (options : WriteOptions) (index : Index) (diagnostics : List MapPair) → IsValid index → too_large_file options index ≡ None → index.deleted ≡ []
+    → (other : Index) → StandsForIndex (folder_with (canonical_files options index).files) (new_line options.number diagnostics (canonical_files options index)) other → other ≡ index
+canonical-only options index diagnostics v fit none other (x, stands, is) =
+    let own = canonical-stand options index v fit diagnostics none in
+    let same = one_meaning (segment_files (folder_with (canonical_files options index).files) (new_line options.number diagnostics (canonical_files options index))) x own.0 stands own.1 in
+    sym is ∙ ap (λ (s : SegmentValue). s.index) same ∙ own.2

@@ -140,3 +140,23 @@ nothing = record { size = 1; fields = []; stored = [] ∷ []; terms = []; norms 
 only_needed : map (λ (f : NamedFile). f.kind) (canonical_files (options false 100 (omega arith)) nothing).files ≡ Fnm ∷ Fdx ∷ Fdt ∷ Tis ∷ Tii ∷ Frq ∷ []
 unfolding options
 only_needed = refl
+
+-- two documents of which the first has vectors, and no terms: in the order of writing `.tvf` comes before `.tvx`, and both pass 24 bytes
+abbrev two_documents : Index
+two_documents = record {
+  size = 2;
+  fields = record { name = x; bits = 0x02 } ∷ [];
+  stored = [] ∷ [] ∷ [];
+  terms = [];
+  norms = None ∷ [];
+  vectors = (record {
+    field = 0;
+    bits = 0;
+    terms = record { text = codes "abcdefghijklmnopqrst"; frequency = 1; positions = []; spans = [] } ∷ [];
+  } ∷ []) ∷ [] ∷ [];
+  deleted = [];
+}
+
+written_before_checked : too_large_file (options false 24 (omega arith)) two_documents ≡ Some Tvf
+unfolding options groups shared skip_bytes data_with child_pointer greatest_power occurrences_bytes vector_terms_bytes vector_positions_bytes vector_spans_bytes shared_length differences_bytes written_places
+written_before_checked = refl

@@ -1,8 +1,7 @@
 -- Worked rows on the definitions.
 use Rattle.std.proofs.Common.{◌≡◌, ◌≤◌, ℕ, true, false, List, [], ◌∷◌, ◌++◌, map, Option, Some, None, refl, arith}
-use Rattle.std.specs.Prelude.{Bool, codes, length}
+use Rattle.std.specs.Prelude.{Bool, codes}
 use Rattle.lu_grammar.specs.Parts.{groups}
-use Rattle.lu_types.specs.declared.document.Limits.{Limits}
 use Rattle.lu_types.specs.declared.kind.FileKind.{FileKind}
 use Rattle.lu_types.specs.declared.kind.FileKind.TheVariants.{Cfs, Fnm, Fdx, Fdt, Tis, Tii, Frq, Prx, Nrm, Tvx, Tvd, Tvf}
 use Rattle.lu_types.specs.declared.named_file.NamedFile.{NamedFile}
@@ -14,7 +13,6 @@ use Rattle.positions.specs.Written.{occurrences_bytes}
 use Rattle.term_dict.specs.Canonical.{shared}
 use Rattle.term_vectors.specs.VectorBytes.{vector_terms_bytes, vector_positions_bytes, vector_spans_bytes, shared_length, differences_bytes, written_places}
 use Rattle.segment_files.specs.declared.options.WriteOptions.{WriteOptions}
-use Rattle.segment_files.specs.declared.options.SegmentFiles.{SegmentFiles}
 use Rattle.segment_files.specs.Postings.{PostingParts, parts_of, kept_term}
 use Rattle.segment_files.specs.Written.{canonical_files, too_large_file}
 

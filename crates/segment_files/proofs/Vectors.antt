@@ -1,10 +1,10 @@
 -- The vectors are read as those of the index.
-use Rattle.std.proofs.Common.{◌≡◌, ◌≢◌, ℕ, zero, suc, ◌+◌, ◌^◌, ◌<◌, true, List, [], ◌∷◌, length, Some, refl, sym, subst, arith}
+use Rattle.std.proofs.Common.{◌≡◌, ◌≢◌, ℕ, zero, suc, ◌^◌, ◌<◌, true, List, [], ◌∷◌, length, Some, sym, subst, arith}
 use Rattle.std.specs.Prelude.{All, AllPairs}
 use Rattle.lu_types.specs.Bits as bit
 use Rattle.lu_types.specs.Bits.{has_bit}
 use Rattle.lu_types.specs.FilePlans.{StandFor}
-use Rattle.lu_types.specs.Stores.{whole_store, windowed}
+use Rattle.lu_types.specs.Stores.{whole_store}
 use Rattle.lu_types.specs.Tables.{TableField}
 use Rattle.lu_model.specs.Contents.{field_at}
 use Rattle.lu_model.specs.Valid.{IsSmall, IsVector}

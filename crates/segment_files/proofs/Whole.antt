@@ -1,13 +1,12 @@
 -- The canonical files of an index stand for it.
-use Rattle.std.proofs.Common.{◌≡◌, ◌≢◌, ℕ, ◌^◌, ◌<◌, ◌≤◌, Bool, true, false, cond, List, [], ◌∷◌, length, map, Option, Some, None, refl, sym, ap, subst, ◌∙◌, arith}
+use Rattle.std.proofs.Common.{◌≡◌, ◌≢◌, ℕ, ◌^◌, ◌<◌, Bool, true, false, cond, List, [], ◌∷◌, length, map, Some, None, refl, sym, ap, subst, ◌∙◌, arith}
 use Rattle.std.specs.Prelude.{◌&&◌, All, AllPairs, is_some}
-use Rattle.lu_grammar.specs.Bytes.{IsBytes}
 use Rattle.lu_grammar.specs.Meaning.{Reads}
 use Rattle.lu_types.specs.Bits as bit
 use Rattle.lu_types.specs.Bits.{has_bit}
 use Rattle.lu_types.specs.FilePlans.{StandFor}
 use Rattle.lu_types.proofs.FileLaws.{one_meaning}
-use Rattle.lu_types.specs.Tables.{TableField, bits_at}
+use Rattle.lu_types.specs.Tables.{bits_at}
 use Rattle.lu_model.specs.Index.{IndexedTerm, Index}
 use Rattle.lu_model.specs.Contents.{field_at}
 use Rattle.lu_model.specs.Valid.{IsSmall, IsIndexedTerm, IsVector, IsValid}
@@ -24,7 +23,7 @@ use Rattle.term_dict.specs.Dictionary.{Dictionary, tis_plan}
 use Rattle.term_dict.specs.Index.{tii_plan}
 use Rattle.term_dict.specs.Laws.{dictionary_written}
 use Rattle.term_dict.specs.Writing.{TermsWritten, AreIntervals}
-use Rattle.freq_skips.specs.Terms.{TermData, frq_plan}
+use Rattle.freq_skips.specs.Terms.{frq_plan}
 use Rattle.positions.specs.Terms.{prx_plan}
 use Rattle.doc_marks.specs.Norms.{nrm_plan, nrm_spelling}
 use Rattle.term_vectors.specs.Places.{tvx_plan}
@@ -37,22 +36,20 @@ use Rattle.check_index.specs.Files.{PartFiles, FolderFiles}
 use Rattle.check_index.specs.Terms.{infos_of, listed_terms}
 use Rattle.check_index.specs.Positions.{TermOccurrences, no_positions}
 use Rattle.check_index.specs.Indexed.{indexed_terms}
-use Rattle.check_index.specs.Norms.{FieldNorms, count_with_norms, norms_from}
+use Rattle.check_index.specs.Norms.{count_with_norms, norms_from}
 use Rattle.check_index.specs.Vectors.{have_vectors, no_vectors}
 use Rattle.check_index.specs.Segments.{SegmentValue, Contents, Columns, segment_value, segment_files}
 use Rattle.check_index.specs.Stands.{Holds, AreOwn, Either, AreStored, AreStoreVectors, HoldColumns, HoldVectors, SegmentStands}
 use Rattle.check_index.proofs.ReadBytes.{read-bytes}
 use Rattle.check_index.proofs.StandsLaws.{stands-from}
 use Rattle.segment_files.specs.declared.options.WriteOptions.{WriteOptions}
-use Rattle.segment_files.specs.Postings.{PostingIntervals, PostingParts, no_parts, prx_bytes, lines_written, tis_bytes, tii_bytes}
+use Rattle.segment_files.specs.Postings.{PostingIntervals, PostingParts, no_parts, lines_written, tis_bytes, tii_bytes}
 use Rattle.segment_files.specs.Stores.{canonical_store}
 use Rattle.segment_files.specs.Parts.{keep_positions, have_norms, norm_columns, intervals_of, postings_of, canonical_parts_of}
-use Rattle.segment_files.specs.Written.{packed_file, packed_if, canonical_files, all_written, first_past, too_large_file}
+use Rattle.segment_files.specs.Written.{canonical_files, all_written, first_past, too_large_file}
 use Rattle.segment_files.specs.Lines.{new_line, folder_with, StandsForIndex}
-use Rattle.segment_files.proofs.Handing.{IsGoodEntry}
-use Rattle.segment_files.proofs.PrxBytes.{all-omitted, prx_bytes-omitted}
-use Rattle.segment_files.proofs.Reading.{numbers_for, CanStand}
-use Rattle.segment_files.proofs.TermsReading.{AreReadable, PostingsRead, postings-read}
+use Rattle.segment_files.proofs.Reading.{CanStand}
+use Rattle.segment_files.proofs.TermsReading.{PostingsRead, postings-read}
 use Rattle.segment_files.proofs.Dictionary.{AreWritableTerms, tis-read, tii-read}
 use Rattle.segment_files.proofs.Writable.{writable-terms, can-stand}
 use Rattle.segment_files.proofs.Fields.{fnm-read, all-omit}
@@ -208,10 +205,11 @@ module _ (options : WriteOptions) (index : Index) (v : IsValid index) (fit : too
     vectors-there : (b : Bool) → (b ≡ true → AreStoreVectors (record { total = length index.vectors; window = whole_store (length index.vectors) }) index.fields (canonical_store true index.stored index.vectors) index.vectors)
         → IfThere (canonical_store b index.stored index.vectors).tvx × IfThere (canonical_store b index.stored index.vectors).tvd × IfThere (canonical_store b index.stored index.vectors).tvf
     vectors-there true h =
-        let a = h refl in
-        (read-bytes (tvx_plan (length index.vectors)) (tvx_bytes index.vectors) a.places a.places_held,
-        read-bytes (tvd_plan index.fields (whole_store (length index.vectors)) a.places) (tvd_bytes index.vectors) a.slots a.slots_held,
-        read-bytes (tvf_plan a.slots) (tvf_bytes index.vectors) a.all a.vectors_held)
+        let a = h refl in (
+          read-bytes (tvx_plan (length index.vectors)) (tvx_bytes index.vectors) a.places a.places_held,
+          read-bytes (tvd_plan index.fields (whole_store (length index.vectors)) a.places) (tvd_bytes index.vectors) a.slots a.slots_held,
+          read-bytes (tvf_plan a.slots) (tvf_bytes index.vectors) a.all a.vectors_held,
+        )
     vectors-there false h = (tt, tt, tt)
 
     prx-there : (b : Bool) → IfThere (cond b (Some postings.prx) None)
@@ -260,10 +258,10 @@ module _ (options : WriteOptions) (index : Index) (v : IsValid index) (fit : too
     is-own =
         let few = options.is_number in
         own-parts options.number bytes-of (keep_positions index.fields) (have_norms index.fields) (have_vectors index.fields) options.compound (omega (arith, few)) bytes-there (λ packed.
-            let none : first_past options.limits.file_bytes (all_written true options.number parts) ≡ None = ap (λ (b : Bool). first_past options.limits.file_bytes (all_written b options.number parts)) (sym packed) ∙ fit in
-            let le = packed-within options.limits.file_bytes options.number parts none in
-            let most = options.limits.few_bytes in
-            omega (arith, le, most))
+        let none : first_past options.limits.file_bytes (all_written true options.number parts) ≡ None = ap (λ (b : Bool). first_past options.limits.file_bytes (all_written b options.number parts)) (sym packed) ∙ fit in
+        let le = packed-within options.limits.file_bytes options.number parts none in
+        let most = options.limits.few_bytes in
+        omega (arith, le, most))
 
     stands : SegmentStands folder line segment
     stands = record {

@@ -6,7 +6,7 @@ use Rattle.lu_types.specs.declared.named_file.NamedFile.{NamedFile}
 use Rattle.compound_file.specs.Packing.{file_of}
 use Rattle.segment_infos.specs.declared.infos.MapPair.{MapPair}
 use Rattle.segment_infos.specs.declared.infos.SegInfo.{SegInfo}
-use Rattle.check_index.specs.Files.{DocumentFiles, IndexFiles, FolderFiles}
+use Rattle.check_index.specs.Files.{FolderFiles}
 use Rattle.lu_types.specs.FilePlans.{StandFor}
 use Rattle.lu_model.specs.Index.{Index}
 use Rattle.check_index.specs.Segments.{SegmentValue, segment_files}

@@ -14,6 +14,7 @@ use Rattle.term_dict.specs.Canonical.{shared}
 use Rattle.term_vectors.specs.VectorBytes.{vector_terms_bytes, vector_positions_bytes, vector_spans_bytes, shared_length, differences_bytes, written_places}
 use Rattle.segment_files.specs.declared.options.WriteOptions.{WriteOptions}
 use Rattle.segment_files.specs.Postings.{PostingParts, parts_of, kept_term}
+use Rattle.segment_files.specs.Parts.{keep_positions}
 use Rattle.segment_files.specs.Written.{canonical_files, too_large_file}
 
 -- options of the program, with this greatest length of a file
@@ -158,3 +159,7 @@ two_documents = record {
 written_before_checked : too_large_file (options false 24 (omega arith)) two_documents ≡ Some Tvf
 unfolding options groups shared skip_bytes data_with child_pointer greatest_power occurrences_bytes vector_terms_bytes vector_positions_bytes vector_spans_bytes shared_length differences_bytes written_places
 written_before_checked = refl
+
+-- a field that omits positions keeps none, although it is indexed
+none_kept : keep_positions (record { name = x; bits = 0x41 } ∷ []) ≡ false
+none_kept = refl

@@ -46,6 +46,10 @@ named : (fields : ℕ) (documents : List StoredDocument) → Each (IsGoodDocumen
 named fields [] h = tt
 named fields (d ∷ documents) h = (all-from_each (λ (v : StoredField). v.field < fields) d (named-values fields d (each-from_all (IsGoodValue fields) d h.0.1)), named fields documents h.1)
 
+pub good-documents : (fields : ℕ) (documents : List StoredDocument) → Each (λ (values : StoredDocument). IsSmall (length values)) documents → Each (λ (values : StoredDocument). All (IsGoodValue fields) values) documents → Each (IsGoodDocument fields) documents
+good-documents fields [] few values = tt
+good-documents fields (d ∷ documents) few values = ((few.0, values.0), good-documents fields documents few.1 values.1)
+
 -- all documents of a store
 pub windowed-all : {A : Type 0} (documents : List A) → windowed (whole_store (length documents)) documents ≡ documents
 windowed-all documents = take_all (length documents) documents (omega arith)

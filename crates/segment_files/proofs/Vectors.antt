@@ -1,5 +1,5 @@
 -- The vectors are read as those of the index.
-use Rattle.std.proofs.Common.{◌≡◌, ◌≢◌, ℕ, zero, suc, ◌^◌, ◌<◌, true, List, [], ◌∷◌, length, Some, sym, subst, arith}
+use Rattle.std.proofs.Common.{refl, ◌≡◌, ◌≢◌, ℕ, zero, suc, ◌^◌, ◌<◌, true, List, [], ◌∷◌, length, Some, sym, subst, arith, Bool, false}
 use Rattle.std.specs.Prelude.{All, AllPairs}
 use Rattle.lu_types.specs.Bits as bit
 use Rattle.lu_types.specs.Bits.{has_bit}
@@ -12,15 +12,18 @@ use Rattle.lu_model.proofs.Words.{Each}
 use Rattle.lu_model.proofs.Each.{all-from_each, each-from_all}
 use Rattle.stored_fields.specs.Values.{StoredDocument}
 use Rattle.term_vectors.specs.declared.fields.StoreWindow.{StoreWindow}
-use Rattle.term_vectors.specs.Fields.{has_vectors}
-use Rattle.term_vectors.specs.Vectors.{StoredVector}
+use Rattle.term_vectors.specs.Places.{tvx_plan}
+use Rattle.term_vectors.specs.Fields.{has_vectors, tvd_plan}
+use Rattle.term_vectors.specs.Vectors.{StoredVector, tvf_plan}
 use Rattle.term_vectors.specs.VectorBytes.{tvx_bytes, tvd_bytes, tvf_bytes}
 use Rattle.term_vectors.specs.Stores.{vector_files}
 use Rattle.term_vectors.specs.Writable.{IsWritableVector, AreWritableVectors}
 use Rattle.term_vectors.proofs.WrittenFiles.{written_stand}
 use Rattle.check_index.specs.Stands.{AreStoreVectors}
+use Rattle.check_index.proofs.ReadBytes.{read-bytes}
 use Rattle.check_index.proofs.ValidBits.{bits-same}
 use Rattle.segment_files.specs.Stores.{canonical_store}
+use Rattle.segment_files.proofs.Folders.{IfThere}
 use Rattle.segment_files.proofs.Stored.{windowed-all}
 
 -- a field with vectors is one that there is
@@ -52,6 +55,11 @@ module _ (fields : List TableField) (few : length fields < 2 ^ 31) where
     pub apart : AllPairs (λ v w. v.field ≢ w.field) vectors
     pub each : All (IsVector fields) vectors
 
+  pub index-vectors : (documents : List (List StoredVector)) → Each (λ (d : List StoredVector). IsSmall (length d)) documents → Each (λ (d : List StoredVector). AllPairs (λ a b. a.field ≢ b.field) d) documents
+      → Each (λ (d : List StoredVector). All (IsVector fields) d) documents → Each AreIndexVectors documents
+  index-vectors [] few_vectors apart each = tt
+  index-vectors (d ∷ documents) few_vectors apart each = (record { few_vectors = few_vectors.0; apart = apart.0; each = each.0 }, index-vectors documents few_vectors.1 apart.1 each.1)
+
   writable-documents : (documents : List (List StoredVector)) → Each AreIndexVectors documents → Each AreWritableVectors documents
   writable-documents [] h = tt
   writable-documents (d ∷ documents) h =
@@ -78,3 +86,19 @@ module _ (fields : List TableField) (few : length fields < 2 ^ 31) where
         named = subst (λ (seen : List (List StoredVector)). All (All (λ v. has_vectors fields v.field ≡ true)) seen) (sym all)
             (all-from_each (λ (d : List StoredVector). All (λ v. has_vectors fields v.field ≡ true) d) documents (named-documents documents good));
       })))
+
+-- each vector of each document is one that an index can have
+pub good-vectors : (fields : List TableField) (documents : List (List StoredVector)) → Each (λ (d : List StoredVector). All (IsVector fields) d) documents → Each (Each (IsVector fields)) documents
+good-vectors fields [] h = tt
+good-vectors fields (d ∷ documents) h = (each-from_all (IsVector fields) d h.0, good-vectors fields documents h.1)
+
+-- the three files are bytes, where they are there
+pub vectors-there : (fields : List TableField) (stored : List StoredDocument) (documents : List (List StoredVector)) (b : Bool)
+    → (b ≡ true → AreStoreVectors (record { total = length documents; window = whole_store (length documents) }) fields (canonical_store true stored documents) documents)
+    → IfThere (canonical_store b stored documents).tvx × IfThere (canonical_store b stored documents).tvd × IfThere (canonical_store b stored documents).tvf
+vectors-there fields stored documents true h =
+    let a = h refl in
+    (read-bytes (tvx_plan (length documents)) (tvx_bytes documents) a.places a.places_held,
+    read-bytes (tvd_plan fields (whole_store (length documents)) a.places) (tvd_bytes documents) a.slots a.slots_held,
+    read-bytes (tvf_plan a.slots) (tvf_bytes documents) a.all a.vectors_held)
+vectors-there fields stored documents false h = (tt, tt, tt)

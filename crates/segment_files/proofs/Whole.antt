@@ -54,9 +54,9 @@ use Rattle.segment_files.proofs.Dictionary.{AreWritableTerms, tis-read, tii-read
 use Rattle.segment_files.proofs.Writable.{writable-terms, can-stand}
 use Rattle.segment_files.proofs.Fields.{fnm-read, all-omit}
 use Rattle.segment_files.proofs.NormColumns.{columns-held}
-use Rattle.segment_files.proofs.Stored.{IsGoodValue, IsGoodDocument, stored-held}
+use Rattle.segment_files.proofs.Stored.{IsGoodValue, good-documents, stored-held}
 use Rattle.segment_files.proofs.Sides.{separate-stand, vectors-held}
-use Rattle.segment_files.proofs.Vectors.{AreIndexVectors, vectors-read}
+use Rattle.segment_files.proofs.Vectors.{good-vectors, vectors-there}
 use Rattle.segment_files.proofs.Limits.{IsWithinLimit, ArePartsWithin, parts-within, packed-within}
 use Rattle.segment_files.proofs.Unposted.{nothing-added}
 use Rattle.segment_files.proofs.Folders.{PartBytes, IfThere, AreBytesThere, own-parts}
@@ -151,15 +151,11 @@ module _ (options : WriteOptions) (index : Index) (v : IsValid index) (fit : too
   fnm-held : Reads (fnm_plan (keep_positions index.fields) None) (fnm_spelling index.fields) index.fields
   fnm-held = fnm-read index.fields v.fields v.names
 
-  good-documents : (documents : List StoredDocument) → Each (λ (values : StoredDocument). IsSmall (length values)) documents → Each (λ (values : StoredDocument). All (IsGoodValue (length index.fields)) values) documents → Each (IsGoodDocument (length index.fields)) documents
-  good-documents [] few values = tt
-  good-documents (d ∷ documents) few values = ((few.0, values.0), good-documents documents few.1 values.1)
-
   store-held : AreStored (λ _. index.size) (whole_store index.size) (length index.fields) (Some (fdx_bytes index.stored)) (Some (fdt_bytes index.stored)) index.stored
   store-held =
       subst (λ (n : ℕ). AreStored (λ _. n) (whole_store n) (length index.fields) (Some (fdx_bytes index.stored)) (Some (fdt_bytes index.stored)) index.stored) v.stored
       (stored-held (length index.fields) index.stored v.fields.few
-      (good-documents index.stored (each-from_all (λ (values : StoredDocument). IsSmall (length values)) index.stored v.few_values) (each-from_all (λ (values : StoredDocument). All (IsGoodValue (length index.fields)) values) index.stored v.values)) fdt-small)
+      (good-documents (length index.fields) index.stored (each-from_all (λ (values : StoredDocument). IsSmall (length values)) index.stored v.few_values) (each-from_all (λ (values : StoredDocument). All (IsGoodValue (length index.fields)) values) index.stored v.values)) fdt-small)
 
   dictionary-held : Reads (tis_plan index.fields index.size (length (tis_bytes written))) (tis_bytes written) dictionary
   dictionary-held = tis-read index.fields index.size o index.terms intervals v.small writable frq-small prx-small
@@ -193,24 +189,10 @@ module _ (options : WriteOptions) (index : Index) (v : IsValid index) (fit : too
     abbrev line : SegInfo
     line = new_line options.number diagnostics (canonical_files options index)
 
-    good-vectors : (documents : List (List StoredVector)) → Each (λ (d : List StoredVector). All (IsVector index.fields) d) documents → Each (Each (IsVector index.fields)) documents
-    good-vectors [] h = tt
-    good-vectors (d ∷ documents) h = (each-from_all (IsVector index.fields) d h.0, good-vectors documents h.1)
-
     vectors-stand : HoldVectors line index.fields parts.documents index.vectors
     vectors-stand =
         subst (λ (n : ℕ). Either (have_vectors index.fields && is_some parts.documents.tvx) (AreStoreVectors (record { total = n; window = whole_store n }) index.fields parts.documents index.vectors) index.vectors (no_vectors n)) v.vectors
-        (vectors-held index.fields index.stored index.vectors (good-vectors index.vectors (each-from_all (λ (d : List StoredVector). All (IsVector index.fields) d) index.vectors v.vector_fields)) own_vectors)
-
-    vectors-there : (b : Bool) → (b ≡ true → AreStoreVectors (record { total = length index.vectors; window = whole_store (length index.vectors) }) index.fields (canonical_store true index.stored index.vectors) index.vectors)
-        → IfThere (canonical_store b index.stored index.vectors).tvx × IfThere (canonical_store b index.stored index.vectors).tvd × IfThere (canonical_store b index.stored index.vectors).tvf
-    vectors-there true h =
-        let a = h refl in (
-          read-bytes (tvx_plan (length index.vectors)) (tvx_bytes index.vectors) a.places a.places_held,
-          read-bytes (tvd_plan index.fields (whole_store (length index.vectors)) a.places) (tvd_bytes index.vectors) a.slots a.slots_held,
-          read-bytes (tvf_plan a.slots) (tvf_bytes index.vectors) a.all a.vectors_held,
-        )
-    vectors-there false h = (tt, tt, tt)
+        (vectors-held index.fields index.stored index.vectors (good-vectors index.fields index.vectors (each-from_all (λ (d : List StoredVector). All (IsVector index.fields) d) index.vectors v.vector_fields)) own_vectors)
 
     prx-there : (b : Bool) → IfThere (cond b (Some postings.prx) None)
     prx-there true = read-bytes (prx_plan index.fields dictionary.numbers index.size (infos_of dictionary) read.values) postings.prx read.occurrences read.positions
@@ -222,7 +204,7 @@ module _ (options : WriteOptions) (index : Index) (v : IsValid index) (fit : too
 
     bytes-there : AreBytesThere parts
     bytes-there =
-        let v3 = vectors-there (have_vectors index.fields) own_vectors in
+        let v3 = vectors-there index.fields index.stored index.vectors (have_vectors index.fields) own_vectors in
         record {
           fnm = read-bytes (fnm_plan (keep_positions index.fields) None) (fnm_spelling index.fields) index.fields fnm-held;
           fdx = read-bytes (fdx_plan index.size (whole_store index.size)) (fdx_bytes index.stored) store-held.places store-held.places_held;
@@ -293,34 +275,3 @@ module _ (options : WriteOptions) (index : Index) (v : IsValid index) (fit : too
 
     pub files-stand : index.deleted ≡ [] → (x : SegmentValue) × StandFor (segment_files folder line) x × (x.index ≡ index)
     files-stand none = (segment, stands-from folder line segment stands, is-index none)
-
-  -- ---- the vectors
-
-  tail-vectors : (documents : List (List StoredVector)) → Each (λ (d : List StoredVector). IsSmall (length d)) documents → Each (λ (d : List StoredVector). AllPairs (λ a b. a.field ≢ b.field) d) documents
-      → Each (λ (d : List StoredVector). All (IsVector index.fields) d) documents → Each (AreIndexVectors index.fields v.fields.few) documents
-  tail-vectors [] few apart each = tt
-  tail-vectors (d ∷ documents) few apart each = (record { few_vectors = few.0; apart = apart.0; each = each.0 }, tail-vectors documents few.1 apart.1 each.1)
-
-  there-small : (b : Bool) (bytes : List ℕ) → b ≡ true → IsWithinLimit limit (cond b (Some bytes) None) → length bytes < 2 ^ 31
-  there-small true bytes some le = omega (arith, le, small)
-  there-small false bytes some le = cc
-
-  own-vectors : HoldOwnVectors
-  own-vectors some =
-      vectors-read index.fields v.fields.few index.stored index.vectors
-      (tail-vectors index.vectors (each-from_all (λ (d : List StoredVector). IsSmall (length d)) index.vectors v.few_vectors)
-      (each-from_all (λ (d : List StoredVector). AllPairs (λ a b. a.field ≢ b.field) d) index.vectors v.apart)
-      (each-from_all (λ (d : List StoredVector). All (IsVector index.fields) d) index.vectors v.vector_fields))
-      (there-small (have_vectors index.fields) (tvd_bytes index.vectors) some within.tvd) (there-small (have_vectors index.fields) (tvf_bytes index.vectors) some within.tvf)
-
-  -- the files of the index stand for it
-  pub canonical-stand : (diagnostics : List MapPair) → index.deleted ≡ [] → StandsForIndex (folder_with (canonical_files options index).files) (new_line options.number diagnostics (canonical_files options index)) index
-  canonical-stand diagnostics none = files-stand own-vectors diagnostics none
-
--- and for no other
-pub canonical-only : (options : WriteOptions) (index : Index) (diagnostics : List MapPair) → IsValid index → too_large_file options index ≡ None → index.deleted ≡ []
-    → (other : Index) → StandsForIndex (folder_with (canonical_files options index).files) (new_line options.number diagnostics (canonical_files options index)) other → other ≡ index
-canonical-only options index diagnostics v fit none other (x, stands, is) =
-    let own = canonical-stand options index v fit diagnostics none in
-    let same = one_meaning (segment_files (folder_with (canonical_files options index).files) (new_line options.number diagnostics (canonical_files options index))) x own.0 stands own.1 in
-    sym is ∙ ap (λ (s : SegmentValue). s.index) same ∙ own.2

@@ -1,4 +1,4 @@
-use Rattle.segment_files.proofs.Whole.{canonical-stand, canonical-only}
+use Rattle.segment_files.proofs.CanonicalStand.{canonical-stand, canonical-only}
 use Rattle.segment_files.proofs.laws.canonical_files_stand.Goals as goal
 
 pub returns : goal.returns

@@ -1,6 +1,6 @@
 -- The dictionary of an index and its index are read as the lines of the terms.
-use Rattle.std.proofs.Common.{◌≡◌, ℕ, zero, suc, ◌+◌, ◌^◌, ◌<◌, ◌≤◌, ◌==◌, Bool, true, false, not, ◌||◌, List, [], ◌∷◌, ◌++◌, length, map, take, get_or, Some, None, refl, sym, ap, subst, ◌∙◌, arith}
-use Rattle.std.specs.Prelude.{if◌then◌else◌, nat_lt}
+use Rattle.std.proofs.Common.{◌≡◌, ℕ, zero, suc, ◌+◌, ◌^◌, ◌<◌, ◌==◌, Bool, true, false, not, ◌||◌, List, [], ◌∷◌, length, map, take, get_or, None, refl, sym, ap, subst, ◌∙◌, arith}
+use Rattle.std.specs.Prelude.{nat_lt}
 use Rattle.std.specs.declared.cmp.Ordering.TheVariants.{Less}
 use Rattle.std.specs.List.Sorted.{IsStrictlySortedBy}
 use Rattle.std.specs.Ordering.{is_lt, ordering_then}
@@ -14,7 +14,7 @@ use Rattle.lu_model.specs.Index.{IndexedTerm, term_cmp}
 use Rattle.lu_model.specs.Contents.{term_of}
 use Rattle.lu_model.proofs.Words.{Each}
 use Rattle.term_dict.specs.Terms.{DictionaryTerm, no_term, last_term, field_of, is_indexed, is_above, dictionary_term_cmp as dictionary_cmp}
-use Rattle.term_dict.specs.Dictionary.{within, tis_plan}
+use Rattle.term_dict.specs.Dictionary.{tis_plan}
 use Rattle.term_dict.specs.Index.{tii_plan}
 use Rattle.term_dict.specs.Laws.{StandIn, dictionary_written}
 use Rattle.term_dict.specs.Writing.{TermsWritten, AreSpellable, AreIntervals}
@@ -22,7 +22,7 @@ use Rattle.term_dict.proofs.JumpLemmas.{last_term-take}
 use Rattle.term_dict.proofs.ReadBack.{tis-reads}
 use Rattle.term_dict.proofs.IndexBack.{tii-reads}
 use Rattle.segment_files.specs.Postings.{PostingIntervals, PostingParts, no_parts, lines_written, tis_bytes, tii_bytes}
-use Rattle.segment_files.proofs.TermsReading.{parts_after, lines_from, lines-are, lines-length}
+use Rattle.segment_files.proofs.TermsReading.{parts_after, lines-are, lines-length}
 use Rattle.segment_files.proofs.Lines.{IsLineOf, line-at, IsWritableTerm, doc-freq, spellable}
 
 -- ---- terms rise
@@ -86,10 +86,12 @@ module _ (fields : List TableField) (size : ℕ) (o : PostingIntervals) (count :
       let most = doc-freq fields size o count few t v in
       let freq = here.freq in
       let prox = here.prox in
-      let number_is = here.doc_freq in
-      (none-broken (is_indexed fields x.info.field) (is_above fields (take i lines) x) (x.info.doc_freq == 0 || nat_lt size x.info.doc_freq) (ap (is_indexed fields) here.field ∙ v.valid.indexed) (above-at all ts lines h i lt)
-      (ap (λ (b : Bool). b || nat_lt size x.info.doc_freq) (ne_eqb x.info.doc_freq 0 (λ e. absurd (omega (arith, e, number_is, some)))) ∙ le-ltb size x.info.doc_freq (omega (arith, number_is, most))),
-      omega (arith, freq, frq_small), omega (arith, prox, prx_small))
+      let number_is = here.doc_freq in (
+        none-broken (is_indexed fields x.info.field) (is_above fields (take i lines) x) (x.info.doc_freq == 0 || nat_lt size x.info.doc_freq) (ap (is_indexed fields) here.field ∙ v.valid.indexed) (above-at all ts lines h i lt)
+            (ap (λ (b : Bool). b || nat_lt size x.info.doc_freq) (ne_eqb x.info.doc_freq 0 (λ e. absurd (omega (arith, e, number_is, some)))) ∙ le-ltb size x.info.doc_freq (omega (arith, number_is, most))),
+        omega (arith, freq, frq_small),
+        omega (arith, prox, prx_small),
+      )
 
 each-at : {X : Type 0} (P : X → Type 0) (xs : List X) (d : X) → Each P xs → (i : ℕ) → i < length xs → P (get_or xs i d)
 each-at P [] d h i lt = absurd (omega (arith, lt))

@@ -1,26 +1,23 @@
 -- The parts of an index are found in the folder, as files of their own or packed into one.
-use Rattle.std.proofs.Common.{◌≡◌, ℕ, ◌+◌, ◌^◌, ◌<◌, ◌≤◌, Bool, true, false, cond, List, [], ◌∷◌, ◌++◌, length, map, Option, Some, None, refl, sym, ap, subst, ◌∙◌, arith}
-use Rattle.std.specs.Prelude.{All, filter_map, find, option_map}
+use Rattle.std.proofs.Common.{◌≡◌, ℕ, ◌^◌, ◌<◌, Bool, true, false, cond, List, [], ◌∷◌, ◌++◌, length, map, Option, Some, None, refl, sym, ap, subst, ◌∙◌, arith}
+use Rattle.std.specs.Prelude.{filter_map}
 use Rattle.std.specs.List.{cons_option}
-use Rattle.std.proofs.lemmas.List.Elements.{All-map}
 use Rattle.lu_grammar.specs.Bytes.{IsBytes}
-use Rattle.lu_grammar.specs.Meaning.{Reads}
-use Rattle.lu_types.specs.Names.{segment_name, part_name, IsPart}
+use Rattle.lu_types.specs.Names.{segment_name, IsPart}
 use Rattle.lu_types.specs.declared.kind.FileKind.{FileKind}
-use Rattle.lu_types.specs.declared.kind.FileKind.TheVariants.{Cfs, Cfx, Fnm, Fdx, Fdt, Tis, Tii, Frq, Prx, Nrm, Tvx, Tvd, Tvf}
+use Rattle.lu_types.specs.declared.kind.FileKind.TheVariants.{Fnm, Fdx, Fdt, Tis, Tii, Frq, Prx, Nrm, Tvx, Tvd, Tvf}
 use Rattle.lu_types.specs.declared.named_file.NamedFile.{NamedFile}
 use Rattle.lu_model.proofs.Words.{Each}
 use Rattle.lu_model.proofs.Each.{all-from_each}
-use Rattle.compound_file.specs.Entries.{NamedPart, part_named}
-use Rattle.compound_file.specs.Cfs.{cfs_plan}
-use Rattle.compound_file.specs.Packing.{is_same, file_of, packed_in, packed_parts, cfs_bytes}
+use Rattle.compound_file.specs.Entries.{NamedPart}
+use Rattle.compound_file.specs.Packing.{is_same, file_of, packed_in, packed_parts}
 use Rattle.lu_types.specs.Kinds.{part_kinds}
 use Rattle.compound_file.proofs.FoundLemmas.{part_named-file_of}
 use Rattle.compound_file.proofs.PackedLemmas.{packed-parts}
 use Rattle.compound_file.proofs.WrittenLemmas.{cfs-reads}
-use Rattle.check_index.specs.Files.{DocumentFiles, IndexFiles, PartFiles, FolderFiles}
+use Rattle.check_index.specs.Files.{DocumentFiles, IndexFiles, PartFiles}
 use Rattle.check_index.specs.Locating.{packed_part, packed_documents, packed_index, packed_files}
-use Rattle.check_index.specs.Stands.{Holds, AreOwn}
+use Rattle.check_index.specs.Stands.{AreOwn}
 use Rattle.segment_files.specs.Written.{file_if_there, checked_in_order, packed_file, packed_if}
 use Rattle.segment_files.specs.Lines.{bytes_among, folder_with}
 

@@ -1,5 +1,5 @@
 -- What is written of a term in `.frq` is bytes.
-use Rattle.std.proofs.Common.{◌≡◌, ℕ, zero, suc, ◌+◌, ◌-◌, ◌*◌, ◌^◌, ◌<◌, ◌≤◌, Bool, true, false, List, [], ◌∷◌, ◌++◌, length, Option, Some, None, ◌⊎◌, inl, inr, refl, sym, ap, subst, ◌∙◌, arith}
+use Rattle.std.proofs.Common.{◌≡◌, ℕ, zero, suc, ◌+◌, ◌-◌, ◌*◌, ◌^◌, ◌<◌, ◌≤◌, Bool, true, false, List, [], ◌∷◌, ◌++◌, length, Option, Some, None, ◌⊎◌, inl, inr, refl, sym, subst, arith}
 use Rattle.std.specs.Prelude.{if◌then◌else◌, ◌==◌, nat_lt}
 use Rattle.std.proofs.lemmas.List.{length-append}
 use Rattle.lu_grammar.specs.Bytes.{IsBytes}
@@ -7,11 +7,10 @@ use Rattle.lu_grammar.specs.Parts.{Part, Value, vint, num, vlong, spelling}
 use Rattle.lu_grammar.proofs.Codecs.{IsBytes-nil, IsBytes-append, IsBytes-spelling}
 use Rattle.freq_skips.specs.declared.rules.RuledTerm.{RuledTerm}
 use Rattle.freq_skips.specs.declared.writer.Handed.{Handed}
-use Rattle.freq_skips.specs.declared.writer.Mark.{Mark}
 use Rattle.freq_skips.specs.Entries.{Posting}
-use Rattle.freq_skips.specs.Written.{optional_bytes, canonical_parts, entry_parts_bytes, entry_bytes, entries_bytes, bytes_to_child, written_postings, AreInOrder, SkipLevel, mark_after, written_skip, data_bytes, data_number, level_above, with_level_length, skip_bytes}
-use Rattle.freq_skips.specs.Writing.{FrqWriting, bytes_so_far, levels_due, lowest, skips, term_bytes, finished, term_written, IsFinishable}
-use Rattle.freq_skips.proofs.LeadLemmas.{IsHandedOver, level_for, all-lead}
+use Rattle.freq_skips.specs.Written.{optional_bytes, entry_parts_bytes, entry_bytes, entries_bytes, bytes_to_child, written_postings, AreInOrder, SkipLevel, mark_after, written_skip, data_bytes, data_number, level_above, with_level_length, skip_bytes}
+use Rattle.freq_skips.specs.Writing.{FrqWriting, levels_due, lowest, skips, term_bytes, term_written, IsFinishable}
+use Rattle.freq_skips.proofs.LeadLemmas.{IsHandedOver, all-lead}
 use Rattle.freq_skips.proofs.WrittenEntries.{Stated}
 use Rattle.freq_skips.proofs.WrittenLevels.{data_bytes-none, data_bytes-more}
 use Rattle.freq_skips.proofs.WrittenTerms.{Leads, AllLead, skip_bytes-none, skip_bytes-next}

@@ -1,6 +1,5 @@
 -- The entries of a valid term, as they are handed to the writers of `.frq` and `.prx`.
-use Rattle.std.proofs.Common.{◌≡◌, ℕ, zero, suc, ◌+◌, ◌^◌, ◌<◌, ◌≤◌, Bool, true, false, List, [], ◌∷◌, ◌++◌, length, map, take, get_or, Some, None, refl, sym, ap, ◌∙◌, arith}
-use Rattle.std.specs.Prelude.{slice_index_or}
+use Rattle.std.proofs.Common.{◌≡◌, ℕ, zero, suc, ◌+◌, ◌^◌, ◌<◌, ◌≤◌, Bool, true, false, List, [], ◌∷◌, ◌++◌, length, map, take, get_or, None, refl, ap, ◌∙◌, arith}
 use Rattle.std.specs.List.{AllByRecursion}
 use Rattle.std.specs.List.Sorted.{IsStrictlySortedBy}
 use Rattle.std.specs.Ordering.{nat_cmp}
@@ -15,10 +14,8 @@ use Rattle.lu_model.specs.Valid.{IsSmall, IsStorable, AreOccurrences, IsKept}
 use Rattle.lu_types.specs.declared.stored.Stored.TheVariants.{Binary}
 use Rattle.lu_model.proofs.Words.{Each, EachPair}
 use Rattle.lu_model.proofs.Each.{each-from_all, each-from_pairs}
-use Rattle.freq_skips.specs.declared.writer.Handed.{Handed}
 use Rattle.freq_skips.specs.Written.{no_handed, AreInOrder}
 use Rattle.freq_skips.specs.Writing.{IsRisingProx}
-use Rattle.lu_types.specs.Occurrences.{Occurrence}
 use Rattle.positions.specs.Written.{document_occurrence_bytes, occurrences_bytes, AreGoodOccurrences}
 use Rattle.segment_files.specs.Postings.{prx_occurrence, prx_occurrences, prx_entries, prx_bytes, handed_from}
 
@@ -84,9 +81,14 @@ module _ (size bits : ℕ) (payloads : Bool) (few : size < 2 ^ 31) where
   order-later last before (e ∷ es) low rise good =
       let above = below last e.document low.0 in
       let inside = good.0.0 in
-      let some = frequency-some bits e.occurrences good.0.1 in
-      (omega (arith, above), inside, omega (arith, inside, few), some.0, some.1,
-      order-later e.document (before + length (document_occurrence_bytes payloads None 0 (prx_occurrences e.occurrences))) es rise.0 rise.1 good.1)
+      let some = frequency-some bits e.occurrences good.0.1 in (
+        omega (arith, above),
+        inside,
+        omega (arith, inside, few),
+        some.0,
+        some.1,
+        order-later e.document (before + length (document_occurrence_bytes payloads None 0 (prx_occurrences e.occurrences))) es rise.0 rise.1 good.1,
+      )
 
   pub order-is : (es : List IndexedEntry) → IsStrictlySortedBy nat_cmp (documents_of es) → Each (IsGoodEntry size bits) es → AreInOrder size true 0 (handed_from payloads 0 es)
   unfolding IsStrictlySortedBy

@@ -1,5 +1,5 @@
 -- The lines of the dictionary: what they have of their terms, and that they can be spelled.
-use Rattle.std.proofs.Common.{◌≡◌, ℕ, zero, suc, ◌+◌, ◌-◌, ◌^◌, ◌<◌, ◌≤◌, ◌==◌, Bool, true, false, List, [], ◌∷◌, ◌++◌, length, get_or, inl, inr, refl, ap, ◌∙◌, arith}
+use Rattle.std.proofs.Common.{◌≡◌, ℕ, zero, suc, ◌^◌, ◌<◌, ◌≤◌, ◌==◌, Bool, true, false, List, [], ◌∷◌, length, get_or, inl, inr, refl, ap, arith}
 use Rattle.std.specs.Prelude.{if◌then◌else◌}
 use Rattle.std.proofs.lemmas.List.{length-append}
 use Rattle.std.proofs.Math.Nat.{pow-zero, pow-suc}
@@ -22,7 +22,7 @@ use Rattle.term_dict.specs.Writing.{AreSpellable}
 use Rattle.segment_files.specs.Postings.{PostingIntervals, PostingParts, term_writing, prx_bytes, handed_from}
 use Rattle.segment_files.proofs.Handing.{handed-length, order-is}
 use Rattle.segment_files.proofs.Reading.{kept_here, line_here, parts_behind, CanStand}
-use Rattle.segment_files.proofs.TermsReading.{parts_after, lines_from, AreWithin, within}
+use Rattle.segment_files.proofs.TermsReading.{parts_after, lines_from, within}
 
 -- ---- fewer entries than the interval have no skip data
 
@@ -42,8 +42,8 @@ delta-within w =
     let own = entries_bytes w.omit 0 w.entries in
     let size = length-append own (skips w) in
     elim (levels_due w == 0) as (λ (b : Bool). (if b then 0 else length own) ≤ length (term_bytes w)) [
-      true ↦ omega arith
-    | false ↦ omega (arith, size)
+      | true ↦ omega arith
+      | false ↦ omega (arith, size)
     ]
 
 -- ---- the lines
@@ -109,17 +109,16 @@ module _ (fields : List TableField) (size : ℕ) (o : PostingIntervals) (count :
         let frq_size = length-append f.frq (term_bytes w) in
         let prx_size = length-append f.prx (prx_bytes payloads t.entries) in
         let delta = delta-within w in
-        let doc_freq = doc-freq few t all.0 in
-        (
-            record {
-              text = text.0;
-              bytes = IsBytes-utf8 t.text text.0;
-              small = text.1;
-              field = all.0.field;
-              freq = omega (arith, inside.frq, frq_size, frq_small);
-              prox = omega (arith, inside.prx, prx_size, prx_small);
-              no_skip = λ lt. no-delta w (omega (arith, two)) (let same = handed-length payloads 0 t.entries in omega (arith, same, lt));
-            },
-            record { doc_freq = omega (arith, doc_freq, few); skip = omega (arith, delta, inside.frq, frq_size, frq_small); freq = freq; prox = prox },
-            spellable (line_here fields size o count f t) (behind f t) ts all.1 (omega (arith, frq_size)) (omega (arith, prx_size)) frq_small prx_small
+        let doc_freq = doc-freq few t all.0 in (
+          record {
+            text = text.0;
+            bytes = IsBytes-utf8 t.text text.0;
+            small = text.1;
+            field = all.0.field;
+            freq = omega (arith, inside.frq, frq_size, frq_small);
+            prox = omega (arith, inside.prx, prx_size, prx_small);
+            no_skip = λ lt. no-delta w (omega (arith, two)) (let same = handed-length payloads 0 t.entries in omega (arith, same, lt));
+          },
+          record { doc_freq = omega (arith, doc_freq, few); skip = omega (arith, delta, inside.frq, frq_size, frq_small); freq = freq; prox = prox },
+          spellable (line_here fields size o count f t) (behind f t) ts all.1 (omega (arith, frq_size)) (omega (arith, prx_size)) frq_small prx_small,
         )

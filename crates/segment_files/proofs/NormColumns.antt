@@ -1,6 +1,5 @@
 -- The norms in one file are read as those of the index.
-use Rattle.std.proofs.Common.{◌≡◌, ℕ, zero, suc, ◌+◌, ◌<◌, Bool, true, false, cond, List, [], ◌∷◌, ◌++◌, length, map, flat_map, get_or, Option, Some, None, refl, sym, ap, subst, ◌∙◌, append_assoc, arith}
-use Rattle.std.specs.Prelude.{nat_lt, filter_map, All}
+use Rattle.std.proofs.Common.{◌≡◌, ℕ, zero, suc, ◌+◌, ◌<◌, Bool, true, false, cond, List, [], ◌∷◌, ◌++◌, length, map, flat_map, Some, None, refl, sym, ap, ◌∙◌, append_assoc, arith}
 use Rattle.std.specs.List.{AllZip}
 use Rattle.std.proofs.Math.Seq.{get_or-append_seam}
 use Rattle.std.proofs.lemmas.Bool.{ltb-false}
@@ -13,7 +12,7 @@ use Rattle.lu_model.specs.Contents.{has_norms}
 use Rattle.lu_model.specs.Valid.{AreNorms}
 use Rattle.lu_model.proofs.Words.{Each}
 use Rattle.lu_model.proofs.Each.{all-from_each}
-use Rattle.doc_marks.specs.Norms.{norm_header, nrm_plan, nrm_spelling, column_of, AreColumns}
+use Rattle.doc_marks.specs.Norms.{norm_header, nrm_plan, nrm_spelling, column_of}
 use Rattle.doc_marks.proofs.NormLaws.{nrm-reads}
 use Rattle.check_index.specs.Norms.{FieldNorms, count_with_norms, norms_from}
 use Rattle.check_index.specs.Stands.{Holds, Either, HoldColumns}

@@ -1,7 +1,6 @@
 -- What is written of a term in `.prx` is bytes, and stands beside its entries.
-use Rattle.std.proofs.Common.{◌≡◌, ℕ, zero, suc, ◌+◌, ◌-◌, ◌*◌, ◌^◌, ◌<◌, ◌≤◌, Bool, true, false, not, ◌==◌, List, [], ◌∷◌, ◌++◌, length, map, take, get_or, Option, Some, None, refl, sym, ap, ◌∙◌, arith}
-use Rattle.std.specs.Prelude.{slice_index_or, if◌then◌else◌}
-use Rattle.std.proofs.lemmas.List.{length-append, length-map}
+use Rattle.std.proofs.Common.{◌≡◌, ℕ, zero, suc, ◌+◌, ◌-◌, ◌*◌, ◌^◌, ◌<◌, ◌≤◌, Bool, true, false, List, [], ◌∷◌, ◌++◌, length, map, get_or, Option, Some, None, refl, sym, ap, ◌∙◌, arith}
+use Rattle.std.proofs.lemmas.List.{length-map}
 use Rattle.lu_grammar.specs.Bytes.{IsBytes}
 use Rattle.lu_grammar.specs.Parts.{vint, num, spelling}
 use Rattle.lu_grammar.proofs.Codecs.{IsBytes-nil, IsBytes-append, IsBytes-spelling}
@@ -12,10 +11,9 @@ use Rattle.lu_types.specs.Occurrences.{Occurrence as IndexedOccurrence}
 use Rattle.lu_model.specs.Valid.{IsKept}
 use Rattle.lu_model.proofs.Words.{Each}
 use Rattle.freq_skips.specs.declared.rules.RuledTerm.{RuledTerm}
-use Rattle.freq_skips.specs.Written.{no_handed, optional_bytes}
-use Rattle.positions.specs.Records.{OccurrenceRecord}
+use Rattle.freq_skips.specs.Written.{no_handed}
 use Rattle.lu_types.specs.Occurrences.{Occurrence}
-use Rattle.positions.specs.Written.{restates, with_stated_length, written_parts, written_record, record_bytes, document_occurrence_bytes, occurrences_bytes, AreGoodOccurrences}
+use Rattle.positions.specs.Written.{restates, with_stated_length, written_parts, written_record, record_bytes, document_occurrence_bytes, AreGoodOccurrences}
 use Rattle.positions.specs.Beside.{IsBeside}
 use Rattle.segment_files.specs.Postings.{prx_occurrence, prx_occurrences, prx_entries, prx_bytes, handed_from}
 use Rattle.segment_files.proofs.Handing.{IsGoodEntry, document-is, handed-length, entries-length, handed-prox, prx_bytes-cons, prx_bytes-nil}

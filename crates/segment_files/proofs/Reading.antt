@@ -1,13 +1,9 @@
 -- A term that is written is read as itself, in the dictionary, `.frq` and `.prx`.
-use Rattle.std.proofs.Common.{◌≡◌, ℕ, zero, suc, ◌+◌, ◌-◌, ◌^◌, ◌<◌, ◌≤◌, Bool, true, false, List, [], ◌∷◌, ◌++◌, length, map, Option, Some, None, refl, sym, ap, subst, ◌∙◌, append_assoc, arith}
-use Rattle.std.specs.Prelude.{cond, if◌then◌else◌}
+use Rattle.std.proofs.Common.{◌≡◌, ℕ, ◌+◌, Bool, true, false, List, [], ◌∷◌, length, map, None, refl, sym, ap, ◌∙◌}
 use Rattle.std.specs.List.Sorted.{IsStrictlySortedBy}
 use Rattle.std.specs.Ordering.{nat_cmp}
-use Rattle.std.proofs.lemmas.List.{length-append, map-id}
-use Rattle.lu_grammar.specs.Bytes.{IsBytes, place_in}
+use Rattle.lu_grammar.specs.Bytes.{place_in}
 use Rattle.lu_grammar.specs.Meaning.{ReadsTo}
-use Rattle.lu_grammar.proofs.Parts.{IsBytes-drop}
-use Rattle.lu_grammar.proofs.Codecs.{reads-read_plan}
 use Rattle.lu_types.specs.Bits as bit
 use Rattle.lu_types.specs.Bits.{has_bit}
 use Rattle.lu_types.specs.Tables.{TableField, bits_at}
@@ -18,26 +14,18 @@ use Rattle.lu_types.specs.Occurrences.{Occurrence as IndexedOccurrence}
 use Rattle.lu_model.proofs.Words.{Each}
 use Rattle.freq_skips.specs.declared.rules.RuledTerm.{RuledTerm}
 use Rattle.freq_skips.specs.declared.writer.Handed.{Handed}
-use Rattle.freq_skips.specs.Entries.{Posting}
-use Rattle.freq_skips.specs.Written.{entry_bytes, entries_bytes, written_postings}
-use Rattle.freq_skips.specs.Writing.{FrqWriting, bytes_so_far, skips, term_bytes, finished, term_written, IsFinishable, IsAsHanded}
+use Rattle.freq_skips.specs.Written.{entry_bytes, written_postings}
 use Rattle.freq_skips.specs.Terms.{TermData, term_of, term_plan}
-use Rattle.freq_skips.proofs.FinishedTerms.{ReadsTo-finished}
-use Rattle.positions.specs.Occurrences.{PostedTerm}
-use Rattle.lu_types.specs.Occurrences.{Occurrence}
 use Rattle.positions.specs.Terms.{term_plan as prx_term_plan}
-use Rattle.positions.specs.Written.{document_occurrence_bytes, occurrences_bytes}
+use Rattle.positions.specs.Written.{document_occurrence_bytes}
 use Rattle.positions.specs.Cursors.{posted_term}
-use Rattle.positions.proofs.BesideLemmas.{beside-handed}
-use Rattle.positions.proofs.WritingLemmas.{written-read}
-use Rattle.positions.proofs.OmittedLemmas.{omitted-read}
 use Rattle.term_dict.specs.Terms.{DictionaryTerm}
 use Rattle.term_dict.specs.Writing.{numbers_of}
 use Rattle.check_index.specs.Positions.{TermOccurrences}
-use Rattle.check_index.specs.Indexed.{omitted_entry, given_entries, indexed_entries, indexed_term_of}
-use Rattle.segment_files.specs.Postings.{PostingIntervals, PostingParts, KeptTerm, kept_term, term_writing, dictionary_line, with_postings, prx_occurrence, prx_occurrences, prx_entries, prx_bytes, handed_from}
-use Rattle.segment_files.proofs.Handing.{IsGoodEntry, documents_of, handed-length, entries-length, order-is, prox-rising}
-use Rattle.segment_files.proofs.PrxBytes.{IsGiven, all-omitted, all-given, prx_bytes-omitted, IsBeside-given}
+use Rattle.check_index.specs.Indexed.{omitted_entry, given_entries, indexed_term_of}
+use Rattle.segment_files.specs.Postings.{PostingIntervals, PostingParts, KeptTerm, kept_term, dictionary_line, with_postings, prx_occurrence, prx_occurrences, prx_entries, handed_from}
+use Rattle.segment_files.proofs.Handing.{IsGoodEntry, documents_of}
+use Rattle.segment_files.proofs.PrxBytes.{IsGiven}
 
 -- ---- what is read is what the index has
 

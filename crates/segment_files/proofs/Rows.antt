@@ -1,8 +1,7 @@
 -- Worked rows on the definitions.
 use Rattle.std.proofs.Common.{◌≡◌, ◌≤◌, ℕ, true, false, List, [], ◌∷◌, ◌++◌, map, Option, Some, None, refl, arith}
-use Rattle.std.specs.Prelude.{Bool, codes, length}
+use Rattle.std.specs.Prelude.{Bool, codes}
 use Rattle.lu_grammar.specs.Parts.{groups}
-use Rattle.lu_types.specs.declared.document.Limits.{Limits}
 use Rattle.lu_types.specs.declared.kind.FileKind.{FileKind}
 use Rattle.lu_types.specs.declared.kind.FileKind.TheVariants.{Cfs, Fnm, Fdx, Fdt, Tis, Tii, Frq, Prx, Nrm, Tvx, Tvd, Tvf}
 use Rattle.lu_types.specs.declared.named_file.NamedFile.{NamedFile}
@@ -14,8 +13,8 @@ use Rattle.positions.specs.Written.{occurrences_bytes}
 use Rattle.term_dict.specs.Canonical.{shared}
 use Rattle.term_vectors.specs.VectorBytes.{vector_terms_bytes, vector_positions_bytes, vector_spans_bytes, shared_length, differences_bytes, written_places}
 use Rattle.segment_files.specs.declared.options.WriteOptions.{WriteOptions}
-use Rattle.segment_files.specs.declared.options.SegmentFiles.{SegmentFiles}
 use Rattle.segment_files.specs.Postings.{PostingParts, parts_of, kept_term}
+use Rattle.segment_files.specs.Parts.{keep_positions}
 use Rattle.segment_files.specs.Written.{canonical_files, too_large_file}
 
 -- options of the program, with this greatest length of a file
@@ -140,3 +139,27 @@ nothing = record { size = 1; fields = []; stored = [] ∷ []; terms = []; norms 
 only_needed : map (λ (f : NamedFile). f.kind) (canonical_files (options false 100 (omega arith)) nothing).files ≡ Fnm ∷ Fdx ∷ Fdt ∷ Tis ∷ Tii ∷ Frq ∷ []
 unfolding options
 only_needed = refl
+
+-- two documents of which the first has vectors, and no terms: in the order of writing `.tvf` comes before `.tvx`, and both pass 24 bytes
+abbrev two_documents : Index
+two_documents = record {
+  size = 2;
+  fields = record { name = x; bits = 0x02 } ∷ [];
+  stored = [] ∷ [] ∷ [];
+  terms = [];
+  norms = None ∷ [];
+  vectors = (record {
+    field = 0;
+    bits = 0;
+    terms = record { text = codes "abcdefghijklmnopqrst"; frequency = 1; positions = []; spans = [] } ∷ [];
+  } ∷ []) ∷ [] ∷ [];
+  deleted = [];
+}
+
+written_before_checked : too_large_file (options false 24 (omega arith)) two_documents ≡ Some Tvf
+unfolding options groups shared skip_bytes data_with child_pointer greatest_power occurrences_bytes vector_terms_bytes vector_positions_bytes vector_spans_bytes shared_length differences_bytes written_places
+written_before_checked = refl
+
+-- a field that omits positions keeps none, although it is indexed
+none_kept : keep_positions (record { name = x; bits = 0x41 } ∷ []) ≡ false
+none_kept = refl

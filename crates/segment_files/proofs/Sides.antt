@@ -1,10 +1,10 @@
 -- A new segment has no separate norms, and where no field has vectors it has none.
-use Rattle.std.proofs.Common.{◌≡◌, ℕ, zero, suc, Bool, true, false, ◌&&◌, ◌||◌, cond, List, [], ◌∷◌, length, Option, Some, None, refl, sym, ap, subst, ◌∙◌}
+use Rattle.std.proofs.Common.{◌≡◌, ℕ, zero, suc, Bool, true, false, ◌&&◌, ◌||◌, List, [], ◌∷◌, length, None, refl, sym, ap, subst, ◌∙◌}
 use Rattle.std.specs.Prelude.{replicate, is_some}
 use Rattle.std.specs.List.{range_with_len}
 use Rattle.lu_types.specs.Bits as bit
 use Rattle.lu_types.specs.Bits.{has_bit}
-use Rattle.lu_types.specs.FilePlans.{FilePlan, stands, where_needed, each_file, StandFor}
+use Rattle.lu_types.specs.FilePlans.{where_needed, each_file, StandFor}
 use Rattle.lu_types.specs.Tables.{TableField, bits_at}
 use Rattle.lu_types.proofs.FileLaws.{followed_by-stand}
 use Rattle.lu_model.specs.Contents.{field_at, has_norms}
@@ -12,7 +12,6 @@ use Rattle.lu_model.specs.Valid.{IsVector}
 use Rattle.lu_model.proofs.Words.{Each}
 use Rattle.stored_fields.specs.Values.{StoredDocument}
 use Rattle.lu_types.specs.Stores.{whole_store}
-use Rattle.term_vectors.specs.declared.fields.StoreWindow.{StoreWindow}
 use Rattle.term_vectors.specs.Vectors.{StoredVector}
 use Rattle.check_index.specs.Norms.{FieldNorms, is_separate, needed_file, separate_file}
 use Rattle.check_index.specs.Vectors.{have_vectors, no_vectors}
@@ -70,7 +69,7 @@ no-vectors fields (d ∷ documents) none h =
 pub vectors-held : (fields : List TableField) (stored : List StoredDocument) (documents : List (List StoredVector)) → Each (Each (IsVector fields)) documents
     → (have_vectors fields ≡ true → AreStoreVectors (record { total = length documents; window = whole_store (length documents) }) fields (canonical_store true stored documents) documents)
     → Either (have_vectors fields && is_some (canonical_store (have_vectors fields) stored documents).tvx)
-        (AreStoreVectors (record { total = length documents; window = whole_store (length documents) }) fields (canonical_store (have_vectors fields) stored documents) documents) documents (no_vectors (length documents))
+    (AreStoreVectors (record { total = length documents; window = whole_store (length documents) }) fields (canonical_store (have_vectors fields) stored documents) documents) documents (no_vectors (length documents))
 vectors-held fields stored documents good h = go (have_vectors fields) refl
   where
     go : (b : Bool) → have_vectors fields ≡ b

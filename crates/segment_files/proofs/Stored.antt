@@ -1,21 +1,20 @@
 -- The stored documents are read as those of the index.
-use Rattle.std.proofs.Common.{◌≡◌, ℕ, ◌+◌, ◌^◌, ◌<◌, List, [], ◌∷◌, length, Option, Some, refl, sym, subst, arith}
-use Rattle.std.specs.Prelude.{All, take, drop}
+use Rattle.std.proofs.Common.{◌≡◌, ℕ, ◌^◌, ◌<◌, List, [], ◌∷◌, length, Some, refl, sym, subst, arith}
+use Rattle.std.specs.Prelude.{All}
 use Rattle.std.proofs.lemmas.List.{take_all}
 use Rattle.lu_types.specs.FilePlans.{StandFor}
 use Rattle.lu_types.specs.StoredFields.{StoredField}
 use Rattle.lu_types.specs.declared.stored.Stored.{Stored}
 use Rattle.lu_types.specs.declared.stored.Stored.TheVariants.{Text, Binary}
-use Rattle.lu_types.specs.declared.stored.Window.{Window}
 use Rattle.lu_model.specs.Valid.{IsSmall, IsStorable as IsStorableHere}
 use Rattle.lu_model.proofs.Words.{Each}
 use Rattle.lu_model.proofs.Each.{all-from_each, each-from_all}
 use Rattle.stored_fields.specs.Values.{StoredDocument, HasFields}
 use Rattle.stored_fields.specs.Stores.{store_files}
 use Rattle.lu_types.specs.Stores.{whole_store, windowed}
-use Rattle.stored_fields.specs.Writing.{IsStorableField, IsStorableValue, IsStorableDocument, AreStorable, IsCheckable, fdx_bytes, fdt_bytes}
+use Rattle.stored_fields.specs.Writing.{IsStorableField, IsStorableValue, IsStorableDocument, fdx_bytes, fdt_bytes}
 use Rattle.stored_fields.proofs.LawLemmas.{written_store}
-use Rattle.check_index.specs.Stands.{AreStored, HoldStored}
+use Rattle.check_index.specs.Stands.{AreStored}
 use Rattle.check_index.proofs.StandsLemmas.{store-was}
 
 storable-value : (value : Stored) → IsStorableHere value → IsStorableValue value
@@ -46,6 +45,10 @@ storable fields (d ∷ documents) few h =
 named : (fields : ℕ) (documents : List StoredDocument) → Each (IsGoodDocument fields) documents → Each (HasFields fields) documents
 named fields [] h = tt
 named fields (d ∷ documents) h = (all-from_each (λ (v : StoredField). v.field < fields) d (named-values fields d (each-from_all (IsGoodValue fields) d h.0.1)), named fields documents h.1)
+
+pub good-documents : (fields : ℕ) (documents : List StoredDocument) → Each (λ (values : StoredDocument). IsSmall (length values)) documents → Each (λ (values : StoredDocument). All (IsGoodValue fields) values) documents → Each (IsGoodDocument fields) documents
+good-documents fields [] few values = tt
+good-documents fields (d ∷ documents) few values = ((few.0, values.0), good-documents fields documents few.1 values.1)
 
 -- all documents of a store
 pub windowed-all : {A : Type 0} (documents : List A) → windowed (whole_store (length documents)) documents ≡ documents

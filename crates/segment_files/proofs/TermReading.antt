@@ -1,8 +1,8 @@
 -- Every term that an index can have is read as itself, wherever it stands in the files.
-use Rattle.std.proofs.Common.{◌≡◌, ℕ, ◌+◌, ◌^◌, ◌<◌, ◌≤◌, Bool, true, false, List, [], ◌∷◌, ◌++◌, length, map, refl, sym, ap, subst, ◌∙◌, append_assoc, arith}
+use Rattle.std.proofs.Common.{◌≡◌, ℕ, ◌^◌, ◌<◌, ◌≤◌, Bool, true, false, List, ◌++◌, length, map, refl, sym, ap, subst, ◌∙◌, append_assoc, arith}
 use Rattle.std.specs.Prelude.{cond}
 use Rattle.std.proofs.lemmas.List.{length-append, append-nil}
-use Rattle.lu_grammar.specs.Bytes.{IsBytes, Cursor, place_in}
+use Rattle.lu_grammar.specs.Bytes.{IsBytes, place_in}
 use Rattle.lu_grammar.specs.Meaning.{ReadsTo}
 use Rattle.lu_grammar.proofs.Parts.{IsBytes-drop}
 use Rattle.lu_grammar.proofs.Codecs.{reads-read_plan}
@@ -14,7 +14,7 @@ use Rattle.freq_skips.specs.declared.rules.RuledTerm.{RuledTerm}
 use Rattle.freq_skips.specs.declared.writer.Handed.{Handed}
 use Rattle.freq_skips.specs.Entries.{Posting}
 use Rattle.freq_skips.specs.Written.{entries_bytes, written_postings}
-use Rattle.freq_skips.specs.Writing.{FrqWriting, skips, term_bytes, finished, term_written, skip_delta, IsFinishable, IsAsHanded}
+use Rattle.freq_skips.specs.Writing.{FrqWriting, skips, term_bytes, term_written, skip_delta, IsFinishable, IsAsHanded}
 use Rattle.freq_skips.specs.Terms.{TermData, term_plan}
 use Rattle.freq_skips.proofs.FinishedTerms.{ReadsTo-finished}
 use Rattle.positions.specs.Terms.{term_plan as prx_term_plan}
@@ -26,9 +26,9 @@ use Rattle.positions.proofs.OmittedLemmas.{omitted-read}
 use Rattle.check_index.specs.Positions.{TermOccurrences}
 use Rattle.check_index.specs.Indexed.{omitted_entry, given_entries, indexed_term_of}
 use Rattle.segment_files.specs.Postings.{PostingIntervals, PostingParts, term_writing, prx_entries, prx_bytes, handed_from}
-use Rattle.segment_files.proofs.Handing.{IsGoodEntry, handed-length, entries-length, order-is, prox-rising}
-use Rattle.segment_files.proofs.PrxBytes.{IsGiven, all-omitted, all-given, prx_bytes-omitted, IsBeside-given}
-use Rattle.segment_files.proofs.Reading.{again-omitted, again-given, numbers_for, kept_here, line_here, ruled_here, parts_behind, CanStand, TermRead}
+use Rattle.segment_files.proofs.Handing.{handed-length, order-is, prox-rising}
+use Rattle.segment_files.proofs.PrxBytes.{all-omitted, all-given, prx_bytes-omitted, IsBeside-given}
+use Rattle.segment_files.proofs.Reading.{again-omitted, again-given, kept_here, line_here, ruled_here, parts_behind, CanStand, TermRead}
 
 module _ (fields : List TableField) (size : ℕ) (o : PostingIntervals) (count : ℕ) (two : 2 ≤ o.skip) (few : size < 2 ^ 31) where
   -- the entries of a term, as they are handed over

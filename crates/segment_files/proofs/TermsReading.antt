@@ -1,5 +1,5 @@
 -- The terms of an index, one after another, are read as these terms.
-use Rattle.std.proofs.Common.{◌≡◌, ℕ, suc, ◌+◌, ◌^◌, ◌<◌, ◌≤◌, true, List, [], ◌∷◌, ◌++◌, length, map, refl, sym, ap, subst, ◌∙◌, append_assoc, arith}
+use Rattle.std.proofs.Common.{◌≡◌, ℕ, suc, ◌^◌, ◌<◌, ◌≤◌, true, List, [], ◌∷◌, ◌++◌, length, map, refl, sym, ap, subst, ◌∙◌, append_assoc, arith}
 use Rattle.std.proofs.lemmas.List.{length-append, append-nil}
 use Rattle.lu_grammar.specs.Bytes.{IsBytes}
 use Rattle.lu_grammar.specs.Meaning.{Reads}
@@ -20,12 +20,12 @@ use Rattle.positions.specs.Cursors.{posted_term}
 use Rattle.positions.proofs.TurnLemmas.{terms-more as posted-more}
 use Rattle.term_dict.specs.Terms.{DictionaryTerm}
 use Rattle.check_index.specs.Positions.{TermOccurrences, no_positions}
-use Rattle.check_index.specs.Indexed.{indexed_term_of, indexed_terms}
+use Rattle.check_index.specs.Indexed.{indexed_terms}
 use Rattle.segment_files.specs.Postings.{PostingIntervals, PostingParts, no_parts, kept_terms, term_writing, prx_bytes, with_all_postings}
-use Rattle.segment_files.proofs.Reading.{numbers_for, kept_here, line_here, ruled_here, parts_behind, CanStand, TermRead}
+use Rattle.segment_files.proofs.Reading.{numbers_for, kept_here, line_here, ruled_here, parts_behind, CanStand}
 use Rattle.segment_files.proofs.FrqBytes.{term-bytes}
 use Rattle.segment_files.proofs.PrxBytes.{prx-bytes}
-use Rattle.segment_files.proofs.TermReading.{IsBehindParts, finishable, term-read}
+use Rattle.segment_files.proofs.TermReading.{finishable, term-read}
 
 -- what the dictionary says of each
 abbrev pub infos : List DictionaryTerm → List TermInfo

@@ -1,12 +1,12 @@
 -- The canonical files of an index stand for it.
-use Rattle.std.proofs.Common.{◌≡◌, ℕ, ◌^◌, ◌<◌, ◌≤◌, Bool, true, false, cond, List, [], ◌∷◌, length, map, Option, Some, None, refl, sym, ap, subst, ◌∙◌, arith}
-use Rattle.std.specs.Prelude.{◌&&◌, All, is_some}
-use Rattle.lu_grammar.specs.Bytes.{IsBytes}
+use Rattle.std.proofs.Common.{◌≡◌, ◌≢◌, ℕ, ◌^◌, ◌<◌, Bool, true, false, cond, List, [], ◌∷◌, length, map, Some, None, refl, sym, ap, subst, ◌∙◌, arith}
+use Rattle.std.specs.Prelude.{◌&&◌, All, AllPairs, is_some}
 use Rattle.lu_grammar.specs.Meaning.{Reads}
 use Rattle.lu_types.specs.Bits as bit
 use Rattle.lu_types.specs.Bits.{has_bit}
 use Rattle.lu_types.specs.FilePlans.{StandFor}
-use Rattle.lu_types.specs.Tables.{TableField, bits_at}
+use Rattle.lu_types.proofs.FileLaws.{one_meaning}
+use Rattle.lu_types.specs.Tables.{bits_at}
 use Rattle.lu_model.specs.Index.{IndexedTerm, Index}
 use Rattle.lu_model.specs.Contents.{field_at}
 use Rattle.lu_model.specs.Valid.{IsSmall, IsIndexedTerm, IsVector, IsValid}
@@ -23,7 +23,7 @@ use Rattle.term_dict.specs.Dictionary.{Dictionary, tis_plan}
 use Rattle.term_dict.specs.Index.{tii_plan}
 use Rattle.term_dict.specs.Laws.{dictionary_written}
 use Rattle.term_dict.specs.Writing.{TermsWritten, AreIntervals}
-use Rattle.freq_skips.specs.Terms.{TermData, frq_plan}
+use Rattle.freq_skips.specs.Terms.{frq_plan}
 use Rattle.positions.specs.Terms.{prx_plan}
 use Rattle.doc_marks.specs.Norms.{nrm_plan, nrm_spelling}
 use Rattle.term_vectors.specs.Places.{tvx_plan}
@@ -36,28 +36,27 @@ use Rattle.check_index.specs.Files.{PartFiles, FolderFiles}
 use Rattle.check_index.specs.Terms.{infos_of, listed_terms}
 use Rattle.check_index.specs.Positions.{TermOccurrences, no_positions}
 use Rattle.check_index.specs.Indexed.{indexed_terms}
-use Rattle.check_index.specs.Norms.{FieldNorms, count_with_norms, norms_from}
+use Rattle.check_index.specs.Norms.{count_with_norms, norms_from}
 use Rattle.check_index.specs.Vectors.{have_vectors, no_vectors}
 use Rattle.check_index.specs.Segments.{SegmentValue, Contents, Columns, segment_value, segment_files}
 use Rattle.check_index.specs.Stands.{Holds, AreOwn, Either, AreStored, AreStoreVectors, HoldColumns, HoldVectors, SegmentStands}
 use Rattle.check_index.proofs.ReadBytes.{read-bytes}
 use Rattle.check_index.proofs.StandsLaws.{stands-from}
 use Rattle.segment_files.specs.declared.options.WriteOptions.{WriteOptions}
-use Rattle.segment_files.specs.Postings.{PostingIntervals, PostingParts, no_parts, prx_bytes, lines_written, tis_bytes, tii_bytes}
+use Rattle.segment_files.specs.Postings.{PostingIntervals, PostingParts, no_parts, lines_written, tis_bytes, tii_bytes}
 use Rattle.segment_files.specs.Stores.{canonical_store}
 use Rattle.segment_files.specs.Parts.{keep_positions, have_norms, norm_columns, intervals_of, postings_of, canonical_parts_of}
-use Rattle.segment_files.specs.Written.{packed_file, packed_if, canonical_files, all_written, first_past, too_large_file}
-use Rattle.segment_files.specs.Lines.{new_line, folder_with}
-use Rattle.segment_files.proofs.Handing.{IsGoodEntry}
-use Rattle.segment_files.proofs.PrxBytes.{all-omitted, prx_bytes-omitted}
-use Rattle.segment_files.proofs.Reading.{numbers_for, CanStand}
-use Rattle.segment_files.proofs.TermsReading.{AreReadable, PostingsRead, postings-read}
+use Rattle.segment_files.specs.Written.{canonical_files, all_written, first_past, too_large_file}
+use Rattle.segment_files.specs.Lines.{new_line, folder_with, StandsForIndex}
+use Rattle.segment_files.proofs.Reading.{CanStand}
+use Rattle.segment_files.proofs.TermsReading.{PostingsRead, postings-read}
 use Rattle.segment_files.proofs.Dictionary.{AreWritableTerms, tis-read, tii-read}
 use Rattle.segment_files.proofs.Writable.{writable-terms, can-stand}
 use Rattle.segment_files.proofs.Fields.{fnm-read, all-omit}
 use Rattle.segment_files.proofs.NormColumns.{columns-held}
-use Rattle.segment_files.proofs.Stored.{IsGoodValue, IsGoodDocument, stored-held}
+use Rattle.segment_files.proofs.Stored.{IsGoodValue, good-documents, stored-held}
 use Rattle.segment_files.proofs.Sides.{separate-stand, vectors-held}
+use Rattle.segment_files.proofs.Vectors.{good-vectors, vectors-there}
 use Rattle.segment_files.proofs.Limits.{IsWithinLimit, ArePartsWithin, parts-within, packed-within}
 use Rattle.segment_files.proofs.Unposted.{nothing-added}
 use Rattle.segment_files.proofs.Folders.{PartBytes, IfThere, AreBytesThere, own-parts}
@@ -152,15 +151,11 @@ module _ (options : WriteOptions) (index : Index) (v : IsValid index) (fit : too
   fnm-held : Reads (fnm_plan (keep_positions index.fields) None) (fnm_spelling index.fields) index.fields
   fnm-held = fnm-read index.fields v.fields v.names
 
-  good-documents : (documents : List StoredDocument) → Each (λ (values : StoredDocument). IsSmall (length values)) documents → Each (λ (values : StoredDocument). All (IsGoodValue (length index.fields)) values) documents → Each (IsGoodDocument (length index.fields)) documents
-  good-documents [] few values = tt
-  good-documents (d ∷ documents) few values = ((few.0, values.0), good-documents documents few.1 values.1)
-
   store-held : AreStored (λ _. index.size) (whole_store index.size) (length index.fields) (Some (fdx_bytes index.stored)) (Some (fdt_bytes index.stored)) index.stored
   store-held =
       subst (λ (n : ℕ). AreStored (λ _. n) (whole_store n) (length index.fields) (Some (fdx_bytes index.stored)) (Some (fdt_bytes index.stored)) index.stored) v.stored
       (stored-held (length index.fields) index.stored v.fields.few
-      (good-documents index.stored (each-from_all (λ (values : StoredDocument). IsSmall (length values)) index.stored v.few_values) (each-from_all (λ (values : StoredDocument). All (IsGoodValue (length index.fields)) values) index.stored v.values)) fdt-small)
+      (good-documents (length index.fields) index.stored (each-from_all (λ (values : StoredDocument). IsSmall (length values)) index.stored v.few_values) (each-from_all (λ (values : StoredDocument). All (IsGoodValue (length index.fields)) values) index.stored v.values)) fdt-small)
 
   dictionary-held : Reads (tis_plan index.fields index.size (length (tis_bytes written))) (tis_bytes written) dictionary
   dictionary-held = tis-read index.fields index.size o index.terms intervals v.small writable frq-small prx-small
@@ -194,23 +189,10 @@ module _ (options : WriteOptions) (index : Index) (v : IsValid index) (fit : too
     abbrev line : SegInfo
     line = new_line options.number diagnostics (canonical_files options index)
 
-    good-vectors : (documents : List (List StoredVector)) → Each (λ (d : List StoredVector). All (IsVector index.fields) d) documents → Each (Each (IsVector index.fields)) documents
-    good-vectors [] h = tt
-    good-vectors (d ∷ documents) h = (each-from_all (IsVector index.fields) d h.0, good-vectors documents h.1)
-
     vectors-stand : HoldVectors line index.fields parts.documents index.vectors
     vectors-stand =
         subst (λ (n : ℕ). Either (have_vectors index.fields && is_some parts.documents.tvx) (AreStoreVectors (record { total = n; window = whole_store n }) index.fields parts.documents index.vectors) index.vectors (no_vectors n)) v.vectors
-        (vectors-held index.fields index.stored index.vectors (good-vectors index.vectors (each-from_all (λ (d : List StoredVector). All (IsVector index.fields) d) index.vectors v.vector_fields)) own_vectors)
-
-    vectors-there : (b : Bool) → (b ≡ true → AreStoreVectors (record { total = length index.vectors; window = whole_store (length index.vectors) }) index.fields (canonical_store true index.stored index.vectors) index.vectors)
-        → IfThere (canonical_store b index.stored index.vectors).tvx × IfThere (canonical_store b index.stored index.vectors).tvd × IfThere (canonical_store b index.stored index.vectors).tvf
-    vectors-there true h =
-        let a = h refl in
-        (read-bytes (tvx_plan (length index.vectors)) (tvx_bytes index.vectors) a.places a.places_held,
-        read-bytes (tvd_plan index.fields (whole_store (length index.vectors)) a.places) (tvd_bytes index.vectors) a.slots a.slots_held,
-        read-bytes (tvf_plan a.slots) (tvf_bytes index.vectors) a.all a.vectors_held)
-    vectors-there false h = (tt, tt, tt)
+        (vectors-held index.fields index.stored index.vectors (good-vectors index.fields index.vectors (each-from_all (λ (d : List StoredVector). All (IsVector index.fields) d) index.vectors v.vector_fields)) own_vectors)
 
     prx-there : (b : Bool) → IfThere (cond b (Some postings.prx) None)
     prx-there true = read-bytes (prx_plan index.fields dictionary.numbers index.size (infos_of dictionary) read.values) postings.prx read.occurrences read.positions
@@ -222,7 +204,7 @@ module _ (options : WriteOptions) (index : Index) (v : IsValid index) (fit : too
 
     bytes-there : AreBytesThere parts
     bytes-there =
-        let v3 = vectors-there (have_vectors index.fields) own_vectors in
+        let v3 = vectors-there index.fields index.stored index.vectors (have_vectors index.fields) own_vectors in
         record {
           fnm = read-bytes (fnm_plan (keep_positions index.fields) None) (fnm_spelling index.fields) index.fields fnm-held;
           fdx = read-bytes (fdx_plan index.size (whole_store index.size)) (fdx_bytes index.stored) store-held.places store-held.places_held;
@@ -258,10 +240,10 @@ module _ (options : WriteOptions) (index : Index) (v : IsValid index) (fit : too
     is-own =
         let few = options.is_number in
         own-parts options.number bytes-of (keep_positions index.fields) (have_norms index.fields) (have_vectors index.fields) options.compound (omega (arith, few)) bytes-there (λ packed.
-            let none : first_past options.limits.file_bytes (all_written true options.number parts) ≡ None = ap (λ (b : Bool). first_past options.limits.file_bytes (all_written b options.number parts)) (sym packed) ∙ fit in
-            let le = packed-within options.limits.file_bytes options.number parts none in
-            let most = options.limits.few_bytes in
-            omega (arith, le, most))
+        let none : first_past options.limits.file_bytes (all_written true options.number parts) ≡ None = ap (λ (b : Bool). first_past options.limits.file_bytes (all_written b options.number parts)) (sym packed) ∙ fit in
+        let le = packed-within options.limits.file_bytes options.number parts none in
+        let most = options.limits.few_bytes in
+        omega (arith, le, most))
 
     stands : SegmentStands folder line segment
     stands = record {

@@ -1,10 +1,9 @@
 -- The terms of a valid index can be written.
 use Rattle.std.proofs.Common.{◌≡◌, ℕ, zero, suc, ◌^◌, ◌<◌, true, List, [], ◌∷◌, length, sym, subst, arith}
-use Rattle.std.specs.Prelude.{All}
 use Rattle.lu_types.specs.Bits as bit
 use Rattle.lu_types.specs.Bits.{has_bit}
-use Rattle.lu_types.specs.Tables.{TableField, bits_at}
-use Rattle.lu_model.specs.Index.{IndexedEntry, IndexedTerm, Index}
+use Rattle.lu_types.specs.Tables.{TableField}
+use Rattle.lu_model.specs.Index.{IndexedTerm, Index}
 use Rattle.lu_model.specs.Contents.{field_at}
 use Rattle.lu_model.specs.Valid.{IsIndexedTerm, IsValid}
 use Rattle.lu_model.proofs.Words.{Each}

@@ -1,12 +1,15 @@
 -- What the line of a new segment says, and the folder in which its files are (format page, "Canonical files").
-use Rattle.std.specs.Prelude.{ℕ, List, [], Option, None, option_map}
+use Rattle.std.specs.Prelude.{◌≡◌, ℕ, List, [], Option, None, option_map}
 use Rattle.lu_types.specs.declared.kind.FileKind.{FileKind}
 use Rattle.lu_types.specs.declared.kind.FileKind.TheVariants.{Cfs, Cfx, Fnm, Fdx, Fdt, Tis, Tii, Frq, Prx, Nrm, Del, Tvx, Tvd, Tvf}
 use Rattle.lu_types.specs.declared.named_file.NamedFile.{NamedFile}
 use Rattle.compound_file.specs.Packing.{file_of}
 use Rattle.segment_infos.specs.declared.infos.MapPair.{MapPair}
 use Rattle.segment_infos.specs.declared.infos.SegInfo.{SegInfo}
-use Rattle.check_index.specs.Files.{DocumentFiles, IndexFiles, FolderFiles}
+use Rattle.check_index.specs.Files.{FolderFiles}
+use Rattle.lu_types.specs.FilePlans.{StandFor}
+use Rattle.lu_model.specs.Index.{Index}
+use Rattle.check_index.specs.Segments.{SegmentValue, segment_files}
 use Rattle.segment_files.specs.declared.options.SegmentFiles.{SegmentFiles}
 
 -- the line of a new segment with a number: no deletions, no shared store and no norm generations
@@ -52,3 +55,7 @@ folder_with files = record {
   separate = [];
   del = bytes_among files Del;
 }
+
+-- the files of the folder stand for the index, as a segment with this line
+abbrev pub StandsForIndex : FolderFiles → SegInfo → Index → Type 0
+StandsForIndex folder line index = (x : SegmentValue) × StandFor (segment_files folder line) x × (x.index ≡ index)

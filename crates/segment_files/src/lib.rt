@@ -2,6 +2,7 @@
 //! this index, and for no other.
 #![tactic(auto)]
 
+pub mod laws;
 mod options;
 
 pub use options::{SegmentFiles, WriteOptions};

@@ -5,6 +5,7 @@ mod call;
 mod checking;
 mod command;
 mod finding;
+mod finishing;
 mod judging;
 pub mod laws;
 mod limits;

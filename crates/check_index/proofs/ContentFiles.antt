@@ -14,7 +14,7 @@ use Rattle.check_index.specs.Terms.{TermLists, term_files}
 use Rattle.check_index.specs.Positions.{TermOccurrences, position_files}
 use Rattle.check_index.specs.Norms.{FieldNorms, norm_files}
 use Rattle.check_index.specs.Vectors.{document_vectors}
-use Rattle.check_index.specs.Segments.{Segment, Contents, Columns, content_files, side_files, segment_of, segment_files}
+use Rattle.check_index.specs.Segments.{SegmentValue, Contents, Columns, content_files, side_files, segment_value, segment_files}
 
 -- ---- the field table, the stored documents and the terms
 
@@ -91,11 +91,11 @@ module _ {Y : Type 0} (seen : Y → Columns) (folder : FolderFiles) (files : Par
 
 -- ---- all of them
 
-module _ {Y : Type 0} (seen : Y → Segment) (folder : FolderFiles) (line : SegInfo) where
-  abbrev after_contents : PartFiles → Contents → FilePlan Segment
-  after_contents files contents = followed_by (side_files folder files line contents.fields) (λ columns. stands (segment_of line.size contents columns))
+module _ {Y : Type 0} (seen : Y → SegmentValue) (folder : FolderFiles) (line : SegInfo) where
+  abbrev after_contents : PartFiles → Contents → FilePlan SegmentValue
+  after_contents files contents = followed_by (side_files folder files line contents.fields) (λ columns. stands (segment_value line.size contents columns))
 
-  abbrev after_located : PartFiles → FilePlan Segment
+  abbrev after_located : PartFiles → FilePlan SegmentValue
   after_located files = followed_by (content_files files line) (after_contents files)
 
   pub located-fault : {X : Type 0} (view : X → PartFiles) (fault : CodecFault) → Judges view (located_parts folder line) (Err fault) → Judges seen (segment_files folder line) (Err fault)
@@ -110,7 +110,7 @@ module _ {Y : Type 0} (seen : Y → Segment) (folder : FolderFiles) (line : SegI
       columns-judged r h = then-judged seen (located_parts folder line) after_located files r located (then-judged seen (content_files files line) (after_contents files) contents r contents_stand h)
 
       pub columns-fault : {X : Type 0} (view : X → Columns) (fault : CodecFault) → Judges view (side_files folder files line contents.fields) (Err fault) → Judges seen (segment_files folder line) (Err fault)
-      columns-fault view fault h = columns-judged (Err fault) (first-judged view seen (side_files folder files line contents.fields) (λ columns. stands (segment_of line.size contents columns)) fault h)
+      columns-fault view fault h = columns-judged (Err fault) (first-judged view seen (side_files folder files line contents.fields) (λ columns. stands (segment_value line.size contents columns)) fault h)
 
-      pub segment-stands : (columns : Columns) (y : Y) → StandFor (side_files folder files line contents.fields) columns → seen y ≡ segment_of line.size contents columns → Judges seen (segment_files folder line) (Ok y)
-      segment-stands columns y h is = columns-judged (Ok y) (then-judged seen (side_files folder files line contents.fields) (λ columns. stands (segment_of line.size contents columns)) columns (Ok y) h is)
+      pub segment-stands : (columns : Columns) (y : Y) → StandFor (side_files folder files line contents.fields) columns → seen y ≡ segment_value line.size contents columns → Judges seen (segment_files folder line) (Ok y)
+      segment-stands columns y h is = columns-judged (Ok y) (then-judged seen (side_files folder files line contents.fields) (λ columns. stands (segment_value line.size contents columns)) columns (Ok y) h is)

@@ -11,7 +11,7 @@ use Rattle.compound_file.specs.Cfs.{cfs_plan}
 use Rattle.segment_infos.specs.declared.infos.SegInfo.{SegInfo}
 use Rattle.lu_types.specs.Names.{part_name}
 use Rattle.check_index.specs.Files.{DocumentFiles, PartFiles, FolderFiles, IsShort, AreShort, AreShortParts}
-use Rattle.check_index.specs.Locating.{packed_part, packed_documents, packed_files, compound_files, own_parts, document_parts, located_parts}
+use Rattle.check_index.specs.Locating.{packed_part, packed_documents, packed_files, compound_files, own_part_files, document_parts, located_parts}
 use Rattle.check_index.proofs.ReadBytes.{read-bytes}
 use Rattle.check_index.proofs.PartLemmas.{file-within, named-within}
 
@@ -44,7 +44,7 @@ packed-documents-short kind file parts segment short h = record {
 documents-short : (parts : PartFiles) → AreShortParts parts → AreShortDocuments parts.documents
 documents-short parts short = record { fdx = short.fdx; tvx = short.tvx; tvd = short.tvd; tvf = short.tvf }
 
-own-short : (folder : FolderFiles) (line : SegInfo) (parts : PartFiles) → AreShort folder → StandFor (own_parts folder line) parts → AreShortParts parts
+own-short : (folder : FolderFiles) (line : SegInfo) (parts : PartFiles) → AreShort folder → StandFor (own_part_files folder line) parts → AreShortParts parts
 own-short folder line parts short h = go line.compound h
   where
     go : (b : Bool) → StandFor (where_needed b folder.parts (followed_by (compound_files Cfs folder.cfs) (λ held. stands (packed_files (segment_name line.number) held)))) parts → AreShortParts parts
@@ -78,7 +78,7 @@ shared-short folder (Some store) own documents short held h = go store.compound 
 -- no part that is found is too long
 pub located-short : (folder : FolderFiles) (line : SegInfo) (files : PartFiles) → AreShort folder → StandFor (located_parts folder line) files → AreShortParts files
 located-short folder line files short h =
-    let first = followed_by-was (own_parts folder line) (λ own. followed_by (document_parts folder line.store own.documents) (λ documents. stands (record { index = own.index; documents = documents }))) files h in
+    let first = followed_by-was (own_part_files folder line) (λ own. followed_by (document_parts folder line.store own.documents) (λ documents. stands (record { index = own.index; documents = documents }))) files h in
     let own = own-short folder line first.0 short first.1 in
     let next = followed_by-was (document_parts folder line.store first.0.documents) (λ (documents : DocumentFiles). stands (with_documents first.0 documents)) files first.2 in
     let held = shared-short folder line.store first.0.documents next.0 short (documents-short first.0 own) next.1 in

@@ -11,7 +11,7 @@ use Rattle.lu_types.specs.declared.fault.CodecFault.TheVariants as faults
 use Rattle.lu_types.proofs.FileLaws.{each_file-more, each_file-fault}
 use Rattle.lu_model.specs.Contents.{has_norms}
 use Rattle.doc_marks.specs.Norms.{column_of}
-use Rattle.check_index.specs.Norms.{FieldNorms, norm_count, norms_from}
+use Rattle.check_index.specs.Norms.{FieldNorms, count_with_norms, norms_from}
 
 -- ---- numbers in turn
 
@@ -80,8 +80,8 @@ one_if field = cond (has_norms field.bits) 1 0
 abbrev pub no_field : TableField
 no_field = record { name = []; bits = 0 }
 
-count-next : (i : ℕ) (fields : List TableField) → i < length fields → norm_count (drop i fields) ≡ cond (has_norms (bits_at fields i)) 1 0 + norm_count (drop (i + 1) fields)
-count-next i fields lt = sum_by-drop_more one_if fields i no_field lt ∙ ap (λ (bits : ℕ). cond (has_norms bits) 1 0 + norm_count (drop (i + 1) fields)) (sym (bits-at i fields no_field lt))
+count-next : (i : ℕ) (fields : List TableField) → i < length fields → count_with_norms (drop i fields) ≡ cond (has_norms (bits_at fields i)) 1 0 + count_with_norms (drop (i + 1) fields)
+count-next i fields lt = sum_by-drop_more one_if fields i no_field lt ∙ ap (λ (bits : ℕ). cond (has_norms bits) 1 0 + count_with_norms (drop (i + 1) fields)) (sym (bits-at i fields no_field lt))
 
 -- each field has a place
 pub length-norms_from : (column : ℕ) (columns : List (List ℕ)) (fields : List TableField) → length (norms_from column columns fields) ≡ length fields
@@ -95,17 +95,17 @@ length-norms_from column columns (field ∷ fields) = go (has_norms field.bits) 
 -- ---- walks over the fields
 
 -- how many of the first so many fields have norms, with one field more
-more-count : (i : ℕ) (fields : List TableField) (n : ℕ) → i < length fields → cond (has_norms (bits_at fields i)) 1 0 ≡ n → norm_count (take (i + 1) fields) ≡ norm_count (take i fields) + n
+more-count : (i : ℕ) (fields : List TableField) (n : ℕ) → i < length fields → cond (has_norms (bits_at fields i)) 1 0 ≡ n → count_with_norms (take (i + 1) fields) ≡ count_with_norms (take i fields) + n
 more-count i fields n lt is = omega (arith, sum_by-take-drop one_if fields i, sum_by-take-drop one_if fields (i + 1), count-next i fields lt, is)
 
-pub count-more : (i : ℕ) (fields : List TableField) → i < length fields → has_norms (bits_at fields i) ≡ true → norm_count (take (i + 1) fields) ≡ norm_count (take i fields) + 1
+pub count-more : (i : ℕ) (fields : List TableField) → i < length fields → has_norms (bits_at fields i) ≡ true → count_with_norms (take (i + 1) fields) ≡ count_with_norms (take i fields) + 1
 count-more i fields lt is = more-count i fields 1 lt (ap (λ (b : Bool). cond b 1 0) is)
 
-pub count-same : (i : ℕ) (fields : List TableField) → i < length fields → has_norms (bits_at fields i) ≡ false → norm_count (take (i + 1) fields) ≡ norm_count (take i fields)
+pub count-same : (i : ℕ) (fields : List TableField) → i < length fields → has_norms (bits_at fields i) ≡ false → count_with_norms (take (i + 1) fields) ≡ count_with_norms (take i fields)
 count-same i fields lt is = omega (arith, more-count i fields 0 lt (ap (λ (b : Bool). cond b 1 0) is))
 
 -- no more than there are fields
-pub count-few : (i : ℕ) (fields : List TableField) → norm_count (take i fields) ≤ length fields
+pub count-few : (i : ℕ) (fields : List TableField) → count_with_norms (take i fields) ≤ length fields
 count-few i fields = omega (arith, count_by-le-length (λ (field : TableField). has_norms field.bits) (take i fields), length-take i fields)
 
 -- no norms for the first so many fields
@@ -123,16 +123,16 @@ none-more i fields lt = ap (λ (n : ℕ). without_norms (take n fields)) (add-on
 -- the norms so far, and those that the fields behind are given, are those of all fields
 pub record AreGiven (columns : List (List ℕ)) (fields : List TableField) (norms : FieldNorms) (number column : ℕ) : Type 0 where
   pub so_far : norms ++ norms_from column columns (drop number fields) ≡ norms_from 0 columns fields
-  pub left : column + norm_count (drop number fields) ≡ norm_count fields
+  pub left : column + count_with_norms (drop number fields) ≡ count_with_norms fields
 
 module _ (columns : List (List ℕ)) (fields : List TableField) where
   pub given-none : AreGiven columns fields [] 0 0
   given-none = record { so_far = refl; left = omega arith }
 
   -- a column is left for a field with norms
-  pub given-left : (norms : FieldNorms) (number column : ℕ) → number < length fields → has_norms (bits_at fields number) ≡ true → AreGiven columns fields norms number column → column < norm_count fields
+  pub given-left : (norms : FieldNorms) (number column : ℕ) → number < length fields → has_norms (bits_at fields number) ≡ true → AreGiven columns fields norms number column → column < count_with_norms fields
   given-left norms number column lt has given =
-      let count : norm_count (drop number fields) ≡ 1 + norm_count (drop (number + 1) fields) = count-next number fields lt ∙ ap (λ (b : Bool). cond b 1 0 + norm_count (drop (number + 1) fields)) has in
+      let count : count_with_norms (drop number fields) ≡ 1 + count_with_norms (drop (number + 1) fields) = count-next number fields lt ∙ ap (λ (b : Bool). cond b 1 0 + count_with_norms (drop (number + 1) fields)) has in
       omega (arith, count, given.left)
 
   -- it is given the next column
@@ -141,7 +141,7 @@ module _ (columns : List (List ℕ)) (fields : List TableField) where
   given-column norms number column lt has given =
       let rest = norms_from (column + 1) columns (drop (number + 1) fields) in
       let next : norms_from column columns (drop number fields) ≡ Some (column_of columns column) ∷ rest = norms-next number column columns fields lt ∙ ap (λ (b : Bool). given_by b column columns (drop (number + 1) fields)) has in
-      let count : norm_count (drop number fields) ≡ 1 + norm_count (drop (number + 1) fields) = count-next number fields lt ∙ ap (λ (b : Bool). cond b 1 0 + norm_count (drop (number + 1) fields)) has in
+      let count : count_with_norms (drop number fields) ≡ 1 + count_with_norms (drop (number + 1) fields) = count-next number fields lt ∙ ap (λ (b : Bool). cond b 1 0 + count_with_norms (drop (number + 1) fields)) has in
       record {
         so_far = append_assoc norms (Some (column_of columns column) ∷ []) rest ∙ ap (λ (ns : FieldNorms). norms ++ ns) (sym next) ∙ given.so_far;
         left = omega (arith, count, given.left);
@@ -153,7 +153,7 @@ module _ (columns : List (List ℕ)) (fields : List TableField) where
   given-no_column norms number column lt has given =
       let rest = norms_from column columns (drop (number + 1) fields) in
       let next : norms_from column columns (drop number fields) ≡ no_column ∷ rest = norms-next number column columns fields lt ∙ ap (λ (b : Bool). given_by b column columns (drop (number + 1) fields)) has in
-      let count : norm_count (drop number fields) ≡ 0 + norm_count (drop (number + 1) fields) = count-next number fields lt ∙ ap (λ (b : Bool). cond b 1 0 + norm_count (drop (number + 1) fields)) has in
+      let count : count_with_norms (drop number fields) ≡ 0 + count_with_norms (drop (number + 1) fields) = count-next number fields lt ∙ ap (λ (b : Bool). cond b 1 0 + count_with_norms (drop (number + 1) fields)) has in
       record {
         so_far = append_assoc norms (no_column ∷ []) rest ∙ ap (λ (ns : FieldNorms). norms ++ ns) (sym next) ∙ given.so_far;
         left = omega (arith, count, given.left);

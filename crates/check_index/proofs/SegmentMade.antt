@@ -30,12 +30,12 @@ use Rattle.term_vectors.specs.Vectors.{tvf_plan}
 use Rattle.term_vectors.specs.Stores.{windowed as windowed_vectors}
 use Rattle.segment_infos.specs.declared.infos.SegInfo.{SegInfo}
 use Rattle.check_index.specs.Files.{DocumentFiles, IndexFiles, PartFiles, FolderFiles, file_at, AreDocumentBytes, AreIndexBytes, AreBytes}
-use Rattle.check_index.specs.Locating.{packed_part, packed_documents, packed_index, packed_files, compound_files, own_parts, document_parts, located_parts}
+use Rattle.check_index.specs.Locating.{packed_part, packed_documents, packed_index, packed_files, compound_files, own_part_files, document_parts, located_parts}
 use Rattle.check_index.specs.Documents.{norm_fields, field_files, window_of, stored_files, deletion_files}
 use Rattle.check_index.specs.Terms.{TermLists, infos_of, listed_terms, term_files}
 use Rattle.positions.specs.Terms.{prx_plan}
 use Rattle.check_index.specs.Positions.{no_positions, position_files}
-use Rattle.check_index.specs.Norms.{norm_count, norms_from, column_files, is_separate, needed_file, separate_file, separate_files, norm_files}
+use Rattle.check_index.specs.Norms.{count_with_norms, norms_from, column_files, is_separate, needed_file, separate_file, separate_files, norm_files}
 use Rattle.check_index.specs.Vectors.{store_part, have_vectors, no_vectors, part_vectors, document_vectors}
 use Rattle.check_index.specs.Segments.{content_files, side_files, segment_files}
 use Rattle.check_index.proofs.ReadBytes.{read-bytes}
@@ -82,10 +82,10 @@ module _ (folder : FolderFiles) (line : SegInfo) (made : AreBytes folder) where
   abbrev packed_own : FilePlan PartFiles
   packed_own = followed_by (compound_files Cfs folder.cfs) (λ held. stands (packed_files (segment_name line.number) held))
 
-  own-made : AreMade (own_parts folder line)
+  own-made : AreMade (own_part_files folder line)
   own-made = asked-made line.compound folder.parts packed_own (followed-made (compound_files Cfs folder.cfs) (λ held. stands (packed_files (segment_name line.number) held)) (compound-made Cfs folder.cfs made.cfs) (λ a stand. tt))
 
-  own-bytes : (files : PartFiles) → StandFor (own_parts folder line) files → ArePartBytes files
+  own-bytes : (files : PartFiles) → StandFor (own_part_files folder line) files → ArePartBytes files
   own-bytes files h = go line.compound h
     where
       go : (b : Bool) → StandFor (where_needed b folder.parts packed_own) files → ArePartBytes files
@@ -114,11 +114,11 @@ module _ (folder : FolderFiles) (line : SegInfo) (made : AreBytes folder) where
   after_own own = followed_by (document_parts folder line.store own.documents) (λ documents. stands (with_documents own documents))
 
   located-made : AreMade (located_parts folder line)
-  located-made = followed-made (own_parts folder line) after_own own-made (λ own stand. followed-made (document_parts folder line.store own.documents) (λ documents. stands (with_documents own documents)) (shared-made line.store own.documents) (λ d stand. tt))
+  located-made = followed-made (own_part_files folder line) after_own own-made (λ own stand. followed-made (document_parts folder line.store own.documents) (λ documents. stands (with_documents own documents)) (shared-made line.store own.documents) (λ d stand. tt))
 
   located-bytes : (files : PartFiles) → StandFor (located_parts folder line) files → ArePartBytes files
   located-bytes files h =
-      let first = followed_by-was (own_parts folder line) after_own files h in
+      let first = followed_by-was (own_part_files folder line) after_own files h in
       let own = own-bytes first.0 first.1 in
       let next = followed_by-was (document_parts folder line.store first.0.documents) (λ (documents : DocumentFiles). stands (with_documents first.0 documents)) files first.2 in
       subst ArePartBytes (sym next.2) (own.0, shared-bytes line.store first.0.documents next.0 own.1 next.1)
@@ -148,9 +148,9 @@ module _ (folder : FolderFiles) (line : SegInfo) (made : AreBytes folder) where
 
   norms-made : (nrm : Option (List ℕ)) (fields : List TableField) → ForSome nrm IsBytes → AreMade (norm_files nrm folder.separate line fields)
   norms-made nrm fields held =
-      let columns = needed-made Nrm nrm (λ _. nrm_plan (norm_count fields) line.size) (λ _ columns. stands (norms_from 0 columns fields)) held (λ bytes v reads. tt) in
+      let columns = needed-made Nrm nrm (λ _. nrm_plan (count_with_norms fields) line.size) (λ _ columns. stands (norms_from 0 columns fields)) held (λ bytes v reads. tt) in
       followed-made (column_files nrm line.size fields) (separate_files line.norm_gens fields line.size folder.separate (length fields))
-      (asked-made (nat_lt 0 (norm_count fields)) (map (λ _. None) fields) (needs Nrm nrm (λ _. nrm_plan (norm_count fields) line.size) (λ _ columns. stands (norms_from 0 columns fields))) columns)
+      (asked-made (nat_lt 0 (count_with_norms fields)) (map (λ _. None) fields) (needs Nrm nrm (λ _. nrm_plan (count_with_norms fields) line.size) (λ _ columns. stands (norms_from 0 columns fields))) columns)
       (λ norms stand. each-made (separate_file line.norm_gens fields line.size folder.separate) (range_with_len 0 (length fields)) norms
       (λ number so_far. asked-made (is_separate line.norm_gens fields number) so_far (needed_file line.size folder.separate number so_far)
       (needed-made (Sep number) (file_at folder.separate number) (λ _. separate_plan line.size) (λ _ column. stands (slice_set so_far number (Some column))) (made.separate number) (λ bytes v reads. tt))))

@@ -20,13 +20,13 @@ use Rattle.doc_marks.specs.Deletions.{del_plan}
 use Rattle.compound_file.specs.Cfs.{cfs_plan}
 use Rattle.segment_infos.specs.declared.infos.SegInfo.{SegInfo}
 use Rattle.check_index.specs.Files.{DocumentFiles, IndexFiles, PartFiles, FolderFiles}
-use Rattle.check_index.specs.Locating.{packed_documents, packed_files, compound_files, own_parts, document_parts, located_parts}
+use Rattle.check_index.specs.Locating.{packed_documents, packed_files, compound_files, own_part_files, document_parts, located_parts}
 use Rattle.check_index.specs.Documents.{norm_fields, field_files, window_of, stored_files, deletion_files}
 use Rattle.check_index.specs.Terms.{TermLists, infos_of, listed_terms, term_files}
 use Rattle.check_index.specs.Positions.{TermOccurrences, no_positions, position_files}
-use Rattle.check_index.specs.Norms.{FieldNorms, norm_count, norms_from, column_files, separate_files, norm_files}
+use Rattle.check_index.specs.Norms.{FieldNorms, count_with_norms, norms_from, column_files, separate_files, norm_files}
 use Rattle.check_index.specs.Vectors.{document_vectors}
-use Rattle.check_index.specs.Segments.{Segment, Contents, Columns, content_files, side_files, segment_of, segment_files}
+use Rattle.check_index.specs.Segments.{SegmentValue, Contents, Columns, content_files, side_files, segment_value, segment_files}
 use Rattle.check_index.specs.Stands.{Holds, AreOwn, AreShared, AreDocuments, HoldStored, Either, HoldColumns, SegmentStands}
 use Rattle.check_index.proofs.LocatedLemmas.{with_documents}
 use Rattle.check_index.proofs.StandsLemmas.{holds-was, holds-stand, either-was, either-stand, store-was, store-stand, vectors-was, vectors-stand}
@@ -94,14 +94,14 @@ module _ (folder : FolderFiles) (line : SegInfo) where
     abbrev after_norms : List TableField → FieldNorms → FilePlan Columns
     after_norms fields norms = followed_by (deletion_files folder.del line) (after_deletions fields norms)
 
-    abbrev after_contents : Contents → FilePlan Segment
-    after_contents contents = followed_by (side_files folder files line contents.fields) (λ columns. stands (segment_of line.size contents columns))
+    abbrev after_contents : Contents → FilePlan SegmentValue
+    after_contents contents = followed_by (side_files folder files line contents.fields) (λ columns. stands (segment_value line.size contents columns))
 
-  abbrev after_located : PartFiles → FilePlan Segment
+  abbrev after_located : PartFiles → FilePlan SegmentValue
   after_located files = followed_by (content_files files line) (after_contents files)
 
   -- what stands file by file stands
-  pub stands-from : (x : Segment) → SegmentStands folder line x → StandFor (segment_files folder line) x
+  pub stands-from : (x : SegmentValue) → SegmentStands folder line x → StandFor (segment_files folder line) x
   stands-from x s =
       let files = with_documents s.own s.documents in
       let fields = x.index.fields in
@@ -109,7 +109,7 @@ module _ (folder : FolderFiles) (line : SegInfo) where
       let terms = listed_terms d x.lists in
       let contents = contents_by fields x.index.stored terms x.occurrences in
       let columns = columns_by x.index.norms x.index.deleted x.index.vectors in
-      let located = followed_by-stand (own_parts folder line) after_own s.own files (own-stand folder line.number line.compound s.own s.is_own)
+      let located = followed_by-stand (own_part_files folder line) after_own s.own files (own-stand folder line.number line.compound s.own s.is_own)
       (followed_by-stand (document_parts folder line.store s.own.documents) (λ documents. stands (with_documents s.own documents)) s.documents files (documents-stand folder line.store s.own.documents s.documents s.are_documents) refl) in
       let table = holds-stand Fnm s.own.index.fnm (λ _. fnm_plan line.has_prox (norm_fields line)) (λ fields. stands fields) fields fields s.fnm refl in
       let entries = holds-stand Frq s.own.index.frq (λ _. frq_plan fields d.numbers line.size (infos_of d)) (λ lists. stands (listed_terms d lists)) x.lists terms s.frq refl in
@@ -119,9 +119,9 @@ module _ (folder : FolderFiles) (line : SegInfo) where
       let plan = λ (_ : List ℕ). prx_plan fields d.numbers line.size (infos_of d) x.lists in
       let positions = either-stand line.has_prox (no_positions x.lists) x.occurrences (needs Prx s.own.index.prx plan (λ _ all. stands all)) (Holds s.own.index.prx plan x.occurrences)
       (λ h. holds-stand Prx s.own.index.prx plan (λ all. stands all) x.occurrences x.occurrences h refl) s.prx in
-      let one_file = either-stand (nat_lt 0 (norm_count fields)) (map (λ (_ : TableField). None) fields) s.columns (needs Nrm s.own.index.nrm (λ _. nrm_plan (norm_count fields) line.size) (λ _ columns. stands (norms_from 0 columns fields)))
-      ((columns : List (List ℕ)) × Holds s.own.index.nrm (λ _. nrm_plan (norm_count fields) line.size) columns × (s.columns ≡ norms_from 0 columns fields))
-      (λ h. holds-stand Nrm s.own.index.nrm (λ _. nrm_plan (norm_count fields) line.size) (λ columns. stands (norms_from 0 columns fields)) h.0 s.columns h.1 h.2) s.nrm in
+      let one_file = either-stand (nat_lt 0 (count_with_norms fields)) (map (λ (_ : TableField). None) fields) s.columns (needs Nrm s.own.index.nrm (λ _. nrm_plan (count_with_norms fields) line.size) (λ _ columns. stands (norms_from 0 columns fields)))
+      ((columns : List (List ℕ)) × Holds s.own.index.nrm (λ _. nrm_plan (count_with_norms fields) line.size) columns × (s.columns ≡ norms_from 0 columns fields))
+      (λ h. holds-stand Nrm s.own.index.nrm (λ _. nrm_plan (count_with_norms fields) line.size) (λ columns. stands (norms_from 0 columns fields)) h.0 s.columns h.1 h.2) s.nrm in
       let norms = followed_by-stand (column_files s.own.index.nrm line.size fields) (separate_files line.norm_gens fields line.size folder.separate (length fields)) s.columns x.index.norms one_file s.separate in
       let deleted = either-stand (is_some line.del_gen) [] x.index.deleted (needs Del folder.del (λ _. del_plan line.size line.deleted) (λ _ documents. stands documents)) (Holds folder.del (λ _. del_plan line.size line.deleted) x.index.deleted)
       (λ h. holds-stand Del folder.del (λ _. del_plan line.size line.deleted) (λ documents. stands documents) x.index.deleted x.index.deleted h refl) s.del in
@@ -134,7 +134,7 @@ module _ (folder : FolderFiles) (line : SegInfo) where
       (followed_by-stand (document_vectors files.documents line fields) (λ vectors. stands (columns_by x.index.norms x.index.deleted vectors)) x.index.vectors columns (vectors-stand line fields s.documents x.index.vectors s.vectors) refl)) in
       followed_by-stand (located_parts folder line) after_located files x located
       (followed_by-stand (content_files files line) (after_contents files) contents x all_contents
-      (followed_by-stand (side_files folder files line fields) (λ columns. stands (segment_of line.size contents columns)) columns x all_columns s.value))
+      (followed_by-stand (side_files folder files line fields) (λ columns. stands (segment_value line.size contents columns)) columns x all_columns s.value))
 
   -- ---- and what stands does so file by file
 
@@ -194,9 +194,9 @@ module _ (folder : FolderFiles) (line : SegInfo) where
       let first = followed_by-was (norm_files files.index.nrm folder.separate line fields) (after_norms files fields) columns h in
       let norms = first.0 in
       let cut = followed_by-was (column_files files.index.nrm line.size fields) (separate_files line.norm_gens fields line.size folder.separate (length fields)) norms first.1 in
-      let one_file = either-was (nat_lt 0 (norm_count fields)) (map (λ (_ : TableField). None) fields) cut.0 (needs Nrm files.index.nrm (λ _. nrm_plan (norm_count fields) line.size) (λ _ columns. stands (norms_from 0 columns fields)))
-      ((columns : List (List ℕ)) × Holds files.index.nrm (λ _. nrm_plan (norm_count fields) line.size) columns × (cut.0 ≡ norms_from 0 columns fields))
-      (λ h. holds-was Nrm files.index.nrm (λ _. nrm_plan (norm_count fields) line.size) (λ columns. stands (norms_from 0 columns fields)) cut.0 h) cut.1 in
+      let one_file = either-was (nat_lt 0 (count_with_norms fields)) (map (λ (_ : TableField). None) fields) cut.0 (needs Nrm files.index.nrm (λ _. nrm_plan (count_with_norms fields) line.size) (λ _ columns. stands (norms_from 0 columns fields)))
+      ((columns : List (List ℕ)) × Holds files.index.nrm (λ _. nrm_plan (count_with_norms fields) line.size) columns × (cut.0 ≡ norms_from 0 columns fields))
+      (λ h. holds-was Nrm files.index.nrm (λ _. nrm_plan (count_with_norms fields) line.size) (λ columns. stands (norms_from 0 columns fields)) cut.0 h) cut.1 in
       let next = followed_by-was (deletion_files folder.del line) (after_deletions files fields norms) columns first.2 in
       let deleted = next.0 in
       let del = either-was (is_some line.del_gen) [] deleted (needs Del folder.del (λ _. del_plan line.size line.deleted) (λ _ documents. stands documents)) (Holds folder.del (λ _. del_plan line.size line.deleted) deleted)
@@ -205,10 +205,10 @@ module _ (folder : FolderFiles) (line : SegInfo) where
       subst (ColumnsHeld files fields) (sym last.2) (record { one_file = cut.0; nrm = one_file; separate = cut.2; del = del; vectors = last.1 })
 
   -- what stands does so file by file
-  pub stands-by_files : (x : Segment) → StandFor (segment_files folder line) x → SegmentStands folder line x
+  pub stands-by_files : (x : SegmentValue) → StandFor (segment_files folder line) x → SegmentStands folder line x
   stands-by_files x h =
       let located = followed_by-was (located_parts folder line) after_located x h in
-      let first = followed_by-was (own_parts folder line) after_own located.0 located.1 in
+      let first = followed_by-was (own_part_files folder line) after_own located.0 located.1 in
       let own = first.0 in
       let shared = followed_by-was (document_parts folder line.store own.documents) (λ documents. stands (with_documents own documents)) located.0 first.2 in
       let documents = shared.0 in
@@ -216,7 +216,7 @@ module _ (folder : FolderFiles) (line : SegInfo) where
       let rest = subst (λ (f : PartFiles). StandFor (after_located f) x) shared.2 located.2 in
       let inner = followed_by-was (content_files files line) (after_contents files) x rest in
       let contents = inner.0 in
-      let sides = followed_by-was (side_files folder files line contents.fields) (λ columns. stands (segment_of line.size contents columns)) x inner.2 in
+      let sides = followed_by-was (side_files folder files line contents.fields) (λ columns. stands (segment_value line.size contents columns)) x inner.2 in
       let columns = sides.0 in
       let c = contents-held files contents inner.1 in
       let s = columns-held files contents.fields columns sides.1 in

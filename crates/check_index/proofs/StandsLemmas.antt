@@ -18,7 +18,7 @@ use Rattle.term_vectors.specs.Stores.{windowed as windowed_vectors}
 use Rattle.segment_infos.specs.declared.infos.SegInfo.{SegInfo}
 use Rattle.check_index.specs.Files.{DocumentFiles}
 use Rattle.check_index.specs.Vectors.{store_part, have_vectors, no_vectors, part_vectors, document_vectors}
-use Rattle.check_index.specs.Stands.{Holds, AreStored, AreVectors, HoldVectors, Either}
+use Rattle.check_index.specs.Stands.{Holds, AreStored, AreStoreVectors, HoldVectors, Either}
 
 -- a needed file
 pub holds-was : {X V R : Type 0} (kind : FileKind) (found : Option (List ℕ)) (plan : List ℕ → Plan V R) (after : V → FilePlan X) (x : X) → StandFor (needs kind found plan (λ _ v. after v)) x → (v : V) × Holds found plan v × StandFor (after v) x
@@ -57,14 +57,14 @@ module _ (part : StorePart) (fields : List TableField) (files : DocumentFiles) (
   abbrev after_places : List DocumentPlaces → FilePlan (List (List Vector))
   after_places places = needs Tvd files.tvd (λ _. tvd_plan fields part.window places) (λ _ slots. after_slots slots)
 
-  part-was : StandFor (part_vectors part files fields) vectors → AreVectors part fields files vectors
+  part-was : StandFor (part_vectors part files fields) vectors → AreStoreVectors part fields files vectors
   part-was h =
       let first = holds-was Tvx files.tvx (λ _. tvx_plan part.total) after_places vectors h in
       let next = holds-was Tvd files.tvd (λ _. tvd_plan fields part.window first.0) after_slots vectors first.2 in
       let last = holds-was Tvf files.tvf (λ _. tvf_plan next.0) (λ all. stands (windowed_vectors part.window all)) vectors next.2 in
       record { places = first.0; places_held = first.1; slots = next.0; slots_held = next.1; all = last.0; vectors_held = last.1; windowed_is = last.2 }
 
-  part-stand : AreVectors part fields files vectors → StandFor (part_vectors part files fields) vectors
+  part-stand : AreStoreVectors part fields files vectors → StandFor (part_vectors part files fields) vectors
   part-stand h =
       holds-stand Tvx files.tvx (λ _. tvx_plan part.total) after_places h.places vectors h.places_held
       (holds-stand Tvd files.tvd (λ _. tvd_plan fields part.window h.places) after_slots h.slots vectors h.slots_held
@@ -75,7 +75,7 @@ module _ (line : SegInfo) (fields : List TableField) (files : DocumentFiles) (ve
   part_of = store_part line.store line.size files.fdx
 
   pub vectors-was : StandFor (document_vectors files line fields) vectors → HoldVectors line fields files vectors
-  vectors-was h = either-was (have_vectors fields && is_some files.tvx) (no_vectors line.size) vectors (part_vectors part_of files fields) (AreVectors part_of fields files vectors) (part-was part_of fields files vectors) h
+  vectors-was h = either-was (have_vectors fields && is_some files.tvx) (no_vectors line.size) vectors (part_vectors part_of files fields) (AreStoreVectors part_of fields files vectors) (part-was part_of fields files vectors) h
 
   pub vectors-stand : HoldVectors line fields files vectors → StandFor (document_vectors files line fields) vectors
-  vectors-stand h = either-stand (have_vectors fields && is_some files.tvx) (no_vectors line.size) vectors (part_vectors part_of files fields) (AreVectors part_of fields files vectors) (part-stand part_of fields files vectors) h
+  vectors-stand h = either-stand (have_vectors fields && is_some files.tvx) (no_vectors line.size) vectors (part_vectors part_of files fields) (AreStoreVectors part_of fields files vectors) (part-stand part_of fields files vectors) h

@@ -24,7 +24,7 @@ use Rattle.check_index.specs.Files.{PartFiles, FolderFiles, IsShort, AreShort}
 use Rattle.check_index.specs.Locating.{packed_files}
 use Rattle.check_index.specs.Documents.{norm_fields}
 use Rattle.check_index.specs.Indexed.{indexed_terms}
-use Rattle.check_index.specs.Segments.{Segment, segment_files}
+use Rattle.check_index.specs.Segments.{SegmentValue, segment_files}
 use Rattle.check_index.specs.Stands.{Holds, AreOwn}
 use Rattle.check_index.proofs.ReadBytes.{read-bytes}
 use Rattle.check_index.proofs.PartLemmas.{file-within, named-within}
@@ -59,9 +59,9 @@ texts-short : (bytes : List ℕ) (d : Dictionary) → AreTexts bytes d → lengt
 texts-short bytes d texts few = each-from_all (λ (t : DictionaryTerm). length t.text < 2 ^ 31) d.terms (λ k e lt.
     subst (λ (t : DictionaryTerm). length t.text < 2 ^ 31) (get_or_default d.terms k no_term e lt) (let le = texts.short k in omega (arith, le, few)))
 
-module _ (folder : FolderFiles) (line : SegInfo) (x : Segment) (h : StandFor (segment_files folder line) x) where
+module _ (folder : FolderFiles) (line : SegInfo) (x : SegmentValue) (h : StandFor (segment_files folder line) x) where
   terms-is : x.index.terms ≡ indexed_terms x.index.fields x.dictionary.terms x.lists x.occurrences
-  terms-is = let by = stands-by_files folder line x h in ap (λ (y : Segment). y.index.terms) by.value
+  terms-is = let by = stands-by_files folder line x h in ap (λ (y : SegmentValue). y.index.terms) by.value
 
   pub indexed-rise : IsStrictlySortedBy term_cmp (map (term_of x.index.fields) x.index.terms)
   indexed-rise =

@@ -14,7 +14,7 @@ use Rattle.lu_model.specs.Valid.{AreNorms}
 use Rattle.doc_marks.specs.Norms.{nrm_plan, separate_plan, column_of, norm_header}
 use Rattle.doc_marks.proofs.NormLaws.{nrm-only, separate-only}
 use Rattle.check_index.specs.Files.{file_at}
-use Rattle.check_index.specs.Norms.{FieldNorms, norm_count, norms_from, is_separate, needed_file, separate_file, separate_files}
+use Rattle.check_index.specs.Norms.{FieldNorms, count_with_norms, norms_from, is_separate, needed_file, separate_file, separate_files}
 use Rattle.check_index.specs.Stands.{Holds, Either, HoldColumns}
 use Rattle.check_index.proofs.ReadBytes.{read-bytes}
 
@@ -38,40 +38,40 @@ column-bytes (column ∷ columns) h (suc k) = column-bytes columns (bytes-right 
 
 module _ (size : ℕ) where
   -- one for a field that has norms, besides those of the others
-  counted : (f : TableField) (fields : List TableField) → norm_count (f ∷ fields) ≡ cond (has_norms f.bits) 1 0 + norm_count fields
+  counted : (f : TableField) (fields : List TableField) → count_with_norms (f ∷ fields) ≡ cond (has_norms f.bits) 1 0 + count_with_norms fields
   counted f fields = sum_by-cons (λ (field : TableField). cond (has_norms field.bits) 1 0) f fields
 
   norms-given : (count column : ℕ) (columns : List (List ℕ)) (fields : List TableField) → ((k : ℕ) → k < count → length (column_of columns k) ≡ size) → ((k : ℕ) → IsBytes (column_of columns k))
-      → column + norm_count fields ≤ count → AllZip (AreNorms size) fields (norms_from column columns fields)
+      → column + count_with_norms fields ≤ count → AllZip (AreNorms size) fields (norms_from column columns fields)
   norms-given count column columns [] long bytes few = tt
   norms-given count column columns (f ∷ fields) long bytes few =
       go (has_norms f.bits) refl (subst (λ (n : ℕ). column + n ≤ count) (counted f fields) few) (λ next le. norms-given count next columns fields long bytes le)
     where
-      go : (b : Bool) → has_norms f.bits ≡ b → column + (cond b 1 0 + norm_count fields) ≤ count
-          → ((next : ℕ) → next + norm_count fields ≤ count → AllZip (AreNorms size) fields (norms_from next columns fields))
+      go : (b : Bool) → has_norms f.bits ≡ b → column + (cond b 1 0 + count_with_norms fields) ≤ count
+          → ((next : ℕ) → next + count_with_norms fields ≤ count → AllZip (AreNorms size) fields (norms_from next columns fields))
           → AllZip (AreNorms size) (f ∷ fields) (cond b (Some (column_of columns column) ∷ norms_from (column + 1) columns fields) (None ∷ norms_from column columns fields))
       go true has few rest = ((has, long column (omega (arith, few)), bytes column), rest (column + 1) (omega (arith, few)))
       go false has few rest = (has, rest column (omega (arith, few)))
 
-  none-given : (fields : List TableField) → norm_count fields ≤ 0 → AllZip (AreNorms size) fields (map (λ _. None) fields)
+  none-given : (fields : List TableField) → count_with_norms fields ≤ 0 → AllZip (AreNorms size) fields (map (λ _. None) fields)
   none-given [] few = tt
   none-given (f ∷ fields) few = go (has_norms f.bits) refl (subst (λ (n : ℕ). n ≤ 0) (counted f fields) few) (λ le. none-given fields le)
     where
-      go : (b : Bool) → has_norms f.bits ≡ b → cond b 1 0 + norm_count fields ≤ 0 → (norm_count fields ≤ 0 → AllZip (AreNorms size) fields (map (λ _. None) fields)) → AllZip (AreNorms size) (f ∷ fields) (None ∷ map (λ _. None) fields)
+      go : (b : Bool) → has_norms f.bits ≡ b → cond b 1 0 + count_with_norms fields ≤ 0 → (count_with_norms fields ≤ 0 → AllZip (AreNorms size) fields (map (λ _. None) fields)) → AllZip (AreNorms size) (f ∷ fields) (None ∷ map (λ _. None) fields)
       go true has few rest = absurd (omega (arith, few))
       go false has few rest = (has, rest (omega (arith, few)))
 
   columns-are : (fields : List TableField) (nrm : Option (List ℕ)) (norms : FieldNorms) → HoldColumns size fields nrm norms → AllZip (AreNorms size) fields norms
-  columns-are fields nrm norms h = go (nat_lt 0 (norm_count fields)) refl h
+  columns-are fields nrm norms h = go (nat_lt 0 (count_with_norms fields)) refl h
     where
-      held : (nrm : Option (List ℕ)) (columns : List (List ℕ)) → Holds nrm (λ _. nrm_plan (norm_count fields) size) columns → AllZip (AreNorms size) fields (norms_from 0 columns fields)
+      held : (nrm : Option (List ℕ)) (columns : List (List ℕ)) → Holds nrm (λ _. nrm_plan (count_with_norms fields) size) columns → AllZip (AreNorms size) fields (norms_from 0 columns fields)
       held None columns h = absurd h
       held (Some bytes) columns h =
-          let only = nrm-only bytes columns (norm_count fields) size h in
-          let made = subst IsBytes only.0 (read-bytes (nrm_plan (norm_count fields) size) bytes columns h) in
-          norms-given (norm_count fields) 0 columns fields only.1.each (column-bytes columns (bytes-right norm_header (flat_map (λ (column : List ℕ). column) columns) made)) (omega arith)
+          let only = nrm-only bytes columns (count_with_norms fields) size h in
+          let made = subst IsBytes only.0 (read-bytes (nrm_plan (count_with_norms fields) size) bytes columns h) in
+          norms-given (count_with_norms fields) 0 columns fields only.1.each (column-bytes columns (bytes-right norm_header (flat_map (λ (column : List ℕ). column) columns) made)) (omega arith)
 
-      go : (b : Bool) → nat_lt 0 (norm_count fields) ≡ b → Either b ((columns : List (List ℕ)) × Holds nrm (λ _. nrm_plan (norm_count fields) size) columns × (norms ≡ norms_from 0 columns fields)) norms (map (λ _. None) fields)
+      go : (b : Bool) → nat_lt 0 (count_with_norms fields) ≡ b → Either b ((columns : List (List ℕ)) × Holds nrm (λ _. nrm_plan (count_with_norms fields) size) columns × (norms ≡ norms_from 0 columns fields)) norms (map (λ _. None) fields)
           → AllZip (AreNorms size) fields norms
       go true some (columns, holds, is) = subst (AllZip (AreNorms size) fields) (sym is) (held nrm columns holds)
       go false none is = subst (AllZip (AreNorms size) fields) (sym is) (none-given fields (ltb-false _ _ none))

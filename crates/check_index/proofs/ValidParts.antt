@@ -31,7 +31,7 @@ use Rattle.positions.specs.Written.{IsDocument}
 use Rattle.positions.proofs.AgainLemmas.{term-starts}
 use Rattle.positions.proofs.GoodLemmas.{entry-good}
 use Rattle.check_index.specs.Positions.{TermOccurrences}
-use Rattle.check_index.specs.Indexed.{indexed_term}
+use Rattle.check_index.specs.Indexed.{indexed_term_of}
 use Rattle.check_index.proofs.ValidBits.{bits-same}
 use Rattle.check_index.proofs.ValidTurns.{StandsSomewhere}
 use Rattle.check_index.proofs.ValidPostings.{IsFew, postings-few}
@@ -101,14 +101,14 @@ module _ (fields : List TableField) (size : ℕ) (numbers : TermNumbers) where
         let here = kept keeps k inside in
         record { document = here.0; count = here.1; some = sound.some k inside; few = all-from_each IsFew v.postings few k no_posting lt })
 
-    pub term-indexed : IsIndexedTerm size (field_at t.info.field fields).bits (indexed_term fields t v o)
+    pub term-indexed : IsIndexedTerm size (field_at t.info.field fields).bits (indexed_term_of fields t v o)
     term-indexed =
         let is : bits ≡ (field_at t.info.field fields).bits = bits-same t.info.field fields in
         let entries = entries-good size bits v.postings o (omega (arith, sound.count, good.some)) postings-rise postings-below fit in
-        subst (λ (b : ℕ). IsIndexedTerm size b (indexed_term fields t v o)) is (record {
+        subst (λ (b : ℕ). IsIndexedTerm size b (indexed_term_of fields t v o)) is (record {
           indexed = subst (λ (b : ℕ). has_bit bit.indexed b ≡ true) (sym is) good.indexed;
           text = (good.text, short);
           some = entries.some;
           rise = entries.rise;
-          entries = all-from_each (IsGoodEntry size bits) (indexed_term fields t v o).entries entries.each;
+          entries = all-from_each (IsGoodEntry size bits) (indexed_term_of fields t v o).entries entries.each;
         })

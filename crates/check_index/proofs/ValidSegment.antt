@@ -27,7 +27,7 @@ use Rattle.check_index.specs.Files.{DocumentFiles, PartFiles, FolderFiles, IsSho
 use Rattle.check_index.specs.Locating.{packed_documents}
 use Rattle.check_index.specs.Documents.{norm_fields, window_of}
 use Rattle.check_index.specs.Vectors.{store_part, have_vectors, no_vectors, part_vectors}
-use Rattle.check_index.specs.Segments.{Segment, segment_files}
+use Rattle.check_index.specs.Segments.{SegmentValue, segment_files}
 use Rattle.check_index.specs.Stands.{Holds, AreOwn, AreShared, AreDocuments, AreStored, HoldStored}
 use Rattle.check_index.proofs.PartLemmas.{file-within, named-within}
 use Rattle.check_index.proofs.ReadBytes.{read-bytes}
@@ -92,7 +92,7 @@ module _ (fields : List TableField) where
   all-are true store size files stored vectors held short h = part-are store size files stored vectors held short h
   all-are false store size files stored vectors held short is = subst (AreAll size fields) (sym is) (none-many size, all-from_each (AreVectors fields) (no_vectors size) (none-each size))
 
-module _ (folder : FolderFiles) (line : SegInfo) (x : Segment) (short : AreShort folder) (h : StandFor (segment_files folder line) x) where
+module _ (folder : FolderFiles) (line : SegInfo) (x : SegmentValue) (short : AreShort folder) (h : StandFor (segment_files folder line) x) where
   pub vectors-valid : AreAll line.size x.index.fields x.index.vectors
   vectors-valid =
       let by = stands-by_files folder line x h in
@@ -104,7 +104,7 @@ module _ (folder : FolderFiles) (line : SegInfo) (x : Segment) (short : AreShort
   pub index-valid : IsLine line → IsValid x.index
   index-valid is_line =
       let by = stands-by_files folder line x h in
-      let size : line.size ≡ x.index.size = sym (ap (λ (s : Segment). s.index.size) by.value) in
+      let size : line.size ≡ x.index.size = sym (ap (λ (s : SegmentValue). s.index.size) by.value) in
       let fine = fields-are line.has_prox (norm_fields line) by.own.index.fnm x.index.fields by.fnm in
       let stored = stored-are line.store line.size (length x.index.fields) by.documents.fdx by.documents.fdt x.index.stored by.stored in
       let deleted = deleted-are (is_some line.del_gen) line.size line.deleted folder.del x.index.deleted by.del in

@@ -10,11 +10,11 @@ use Rattle.lu_model.proofs.Words.{Each, EachPair}
 use Rattle.term_dict.specs.Terms.{DictionaryTerm, term_cmp as dictionary_cmp}
 use Rattle.freq_skips.specs.Terms.{TermData}
 use Rattle.check_index.specs.Positions.{TermOccurrences}
-use Rattle.check_index.specs.Indexed.{indexed_term, indexed_terms}
+use Rattle.check_index.specs.Indexed.{indexed_term_of, indexed_terms}
 
 module _ (fields : List TableField) where
   above-all : (t : DictionaryTerm) (v : TermData) (o : TermOccurrences) (ts : List DictionaryTerm) (vs : List TermData) (os : List TermOccurrences) → Each (λ u. dictionary_cmp fields t u ≡ Less) ts
-      → AllByRecursion (λ k. term_cmp (term_of fields (indexed_term fields t v o)) k ≡ Less) (map (term_of fields) (indexed_terms fields ts vs os))
+      → AllByRecursion (λ k. term_cmp (term_of fields (indexed_term_of fields t v o)) k ≡ Less) (map (term_of fields) (indexed_terms fields ts vs os))
   above-all t v o [] vs os h = tt
   above-all t v o (u ∷ ts) [] os h = tt
   above-all t v o (u ∷ ts) (w ∷ vs) [] h = tt

@@ -16,7 +16,7 @@ use Rattle.term_dict.specs.declared.heading.Heading.{Heading}
 use Rattle.term_dict.specs.Headings.{heading_conditions, heading_of, numbers_of, Line, entry, is_other_format, is_below, on_entry}
 use Rattle.term_dict.specs.Entries.{TermRecord, entry_shape}
 use Rattle.term_dict.specs.Terms.{DictionaryTerm, no_term, last_term, term_after}
-use Rattle.term_dict.specs.Dictionary.{Dictionary, Progress, Standing, no_terms, with_term, within, term_kind, tis_plan}
+use Rattle.term_dict.specs.Dictionary.{Dictionary, Progress, TermConditions, no_terms, with_term, within, term_kind, tis_plan}
 
 -- ---- no text is longer than what was read
 
@@ -58,7 +58,7 @@ module _ (interval : ℕ) where
       go true (skip, b8, f8, e8, (is, none)) = (made prefix suffix field doc_freq freq prox (Some skip), sym is, long)
       go false (is, none) = (made prefix suffix field doc_freq freq prox None, sym is, long)
 
-  module _ (standing : Standing) (numbers : TermNumbers) (size : ℕ) where
+  module _ (standing : TermConditions) (numbers : TermNumbers) (size : ℕ) where
     abbrev dictionary_of : Progress → Dictionary
     dictionary_of s = record { numbers = numbers; terms = s.terms; starts = s.starts; size = size }
 

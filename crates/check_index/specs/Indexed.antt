@@ -29,8 +29,8 @@ abbrev pub indexed_entries : ℕ → List Posting → TermOccurrences → List I
 indexed_entries bits postings all = cond (has_bit bit.omit_tf bits) (map omitted_entry postings) (given_entries postings all)
 
 -- a term of the dictionary, with what its parts of `.frq` and `.prx` stand for
-abbrev pub indexed_term : List TableField → DictionaryTerm → TermData → TermOccurrences → IndexedTerm
-indexed_term fields t value all = record {
+abbrev pub indexed_term_of : List TableField → DictionaryTerm → TermData → TermOccurrences → IndexedTerm
+indexed_term_of fields t value all = record {
   field = t.info.field;
   text = t.text;
   entries = indexed_entries (bits_at fields t.info.field) value.postings all;
@@ -41,4 +41,4 @@ abbrev pub indexed_terms : List TableField → List DictionaryTerm → List Term
 indexed_terms fields [] values occurrences = []
 indexed_terms fields (t ∷ ts) [] occurrences = []
 indexed_terms fields (t ∷ ts) (v ∷ vs) [] = []
-indexed_terms fields (t ∷ ts) (v ∷ vs) (o ∷ os) = indexed_term fields t v o ∷ indexed_terms fields ts vs os
+indexed_terms fields (t ∷ ts) (v ∷ vs) (o ∷ os) = indexed_term_of fields t v o ∷ indexed_terms fields ts vs os

@@ -52,8 +52,8 @@ abbrev pub compound_files : FileKind → Option (List ℕ) → FilePlan (List Na
 compound_files kind file = needs kind file (λ bytes. cfs_plan (length bytes)) (λ _ parts. stands parts)
 
 -- the parts of the segment: files of their own, or parts of its compound file
-abbrev pub own_parts : FolderFiles → SegInfo → FilePlan PartFiles
-own_parts folder line = where_needed line.compound folder.parts
+abbrev pub own_part_files : FolderFiles → SegInfo → FilePlan PartFiles
+own_part_files folder line = where_needed line.compound folder.parts
     (followed_by (compound_files Cfs folder.cfs) (λ parts. stands (packed_files (segment_name line.number) parts)))
 
 -- the files of documents: those of the segment, or those of a shared store, which are files of their own, or parts of its compound file
@@ -65,7 +65,7 @@ document_parts folder (Some store) own = where_needed store.compound folder.part
 -- all parts that the segment is read from
 abbrev pub located_parts : FolderFiles → SegInfo → FilePlan PartFiles
 located_parts folder line =
-    followed_by (own_parts folder line) (λ own.
+    followed_by (own_part_files folder line) (λ own.
     followed_by (document_parts folder line.store own.documents) (λ documents.
     stands (record { index = own.index; documents = documents })))
 

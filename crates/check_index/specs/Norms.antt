@@ -14,8 +14,8 @@ abbrev pub FieldNorms : Type 0
 FieldNorms = List (Option (List ℕ))
 
 -- how many fields have norms
-abbrev pub norm_count : List TableField → ℕ
-norm_count fields = count_by (λ field. has_norms field.bits) fields
+abbrev pub count_with_norms : List TableField → ℕ
+count_with_norms fields = count_by (λ field. has_norms field.bits) fields
 
 -- the columns from a number on, given in turn to the fields that have norms
 abbrev pub norms_from : ℕ → List (List ℕ) → List TableField → FieldNorms
@@ -26,8 +26,8 @@ norms_from column columns (field ∷ fields) =
 -- the norms of all fields in one file, which is needed where a field has norms
 abbrev pub column_files : Option (List ℕ) → ℕ → List TableField → FilePlan FieldNorms
 column_files nrm size fields =
-    where_needed (nat_lt 0 (norm_count fields)) (map (λ _. None) fields)
-    (needs Nrm nrm (λ _. nrm_plan (norm_count fields) size) (λ _ columns. stands (norms_from 0 columns fields)))
+    where_needed (nat_lt 0 (count_with_norms fields)) (map (λ _. None) fields)
+    (needs Nrm nrm (λ _. nrm_plan (count_with_norms fields) size) (λ _ columns. stands (norms_from 0 columns fields)))
 
 -- the generation is one of a file
 abbrev pub is_of_file : Option ℤ → Bool

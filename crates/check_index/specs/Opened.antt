@@ -12,7 +12,7 @@ use Rattle.check_index.specs.declared.standing.OpenColumns.{OpenColumns}
 use Rattle.check_index.specs.Terms.{AreUsed, listed_terms, lists_in, AreListed}
 use Rattle.check_index.specs.Positions.{occurrences_in, ArePositions}
 use Rattle.check_index.specs.Vectors.{HaveSome, vectors_seen}
-use Rattle.check_index.specs.Segments.{Contents, Columns, Segment}
+use Rattle.check_index.specs.Segments.{Contents, Columns, SegmentValue}
 
 -- what the open files of a segment of so many documents stand for
 abbrev pub contents_of : ℕ → OpenContents → Contents
@@ -38,7 +38,7 @@ pub record IsTied (size : ℕ) (contents : OpenContents) (columns : OpenColumns)
   pub vectors : IfSome columns.vectors HaveSome
 
 -- the dictionary says this of the term with a number
-abbrev pub IsTermOf : Segment → ℕ → TermInfo → Type 0
+abbrev pub IsTermOf : SegmentValue → ℕ → TermInfo → Type 0
 IsTermOf s n info = option_map (λ t. t.info) (slice_get s.dictionary.terms n) ≡ Some info
 
 -- nothing read of a term
@@ -46,9 +46,9 @@ abbrev pub no_data : TermData
 no_data = record { postings = []; levels = [] }
 
 -- a term by what the dictionary says of it, with what its entries are read by
-abbrev pub ruled_term : Segment → TermInfo → RuledTerm
+abbrev pub ruled_term : SegmentValue → TermInfo → RuledTerm
 ruled_term s info = term_of info (term_rules s.dictionary.numbers (bits_at s.index.fields info.field) s.index.size)
 
 -- a walk over the entries of the term with a number, of which the dictionary says this, before the first
-abbrev pub entries_of : Segment → ℕ → TermInfo → WalkState
+abbrev pub entries_of : SegmentValue → ℕ → TermInfo → WalkState
 entries_of s n info = record { term = ruled_term s info; value = slice_index_or s.lists n no_data; passed = 0 }

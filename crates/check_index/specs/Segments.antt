@@ -19,7 +19,7 @@ use Rattle.check_index.specs.Norms.{FieldNorms, norm_files}
 use Rattle.check_index.specs.Vectors.{document_vectors}
 
 -- what the files of a segment stand for: an index, and, term by term, what the files of terms, entries and positions say
-pub record Segment : Type 0 where
+pub record SegmentValue : Type 0 where
   pub index : Index
   pub dictionary : Dictionary
   pub lists : List TermData
@@ -56,8 +56,8 @@ side_files folder files line fields =
     stands (record { norms = norms; deleted = deleted; vectors = vectors }))))
 
 -- the index and the dictionary of a segment of so many documents
-abbrev pub segment_of : ℕ → Contents → Columns → Segment
-segment_of size contents columns = record {
+abbrev pub segment_value : ℕ → Contents → Columns → SegmentValue
+segment_value size contents columns = record {
   index = record {
     size = size;
     fields = contents.fields;
@@ -73,16 +73,16 @@ segment_of size contents columns = record {
 }
 
 -- all files of a segment
-abbrev pub segment_files : FolderFiles → SegInfo → FilePlan Segment
+abbrev pub segment_files : FolderFiles → SegInfo → FilePlan SegmentValue
 segment_files folder line =
     followed_by (located_parts folder line) (λ files.
     followed_by (content_files files line) (λ contents.
     followed_by (side_files folder files line contents.fields) (λ columns.
-    stands (segment_of line.size contents columns))))
+    stands (segment_value line.size contents columns))))
 
 -- what the check of a segment answers, which has this place in the list of the commit: what its files stand for, their first fault, or that there was
 -- no memory
-abbrev pub IsJudged : FolderFiles → ℕ → SegInfo → Result Segment CheckFault → Type 0
+abbrev pub IsJudged : FolderFiles → ℕ → SegInfo → Result SegmentValue CheckFault → Type 0
 IsJudged folder segment line (Ok x) = StandFor (segment_files folder line) x
 IsJudged folder segment line (Err (faults.Fault fault)) = (fault.segment ≡ segment) × IsFaultAmong (segment_files folder line) fault.spot
 IsJudged folder segment line (Err faults.OutOfMemory) = Unit {0}

@@ -32,9 +32,9 @@ use Rattle.check_index.specs.Locating.{packed_documents, packed_files}
 use Rattle.check_index.specs.Documents.{norm_fields, window_of}
 use Rattle.check_index.specs.Terms.{infos_of, listed_terms}
 use Rattle.check_index.specs.Positions.{no_positions}
-use Rattle.check_index.specs.Norms.{FieldNorms, norm_count, norms_from, separate_files}
+use Rattle.check_index.specs.Norms.{FieldNorms, count_with_norms, norms_from, separate_files}
 use Rattle.check_index.specs.Vectors.{store_part, have_vectors, no_vectors}
-use Rattle.check_index.specs.Segments.{Segment, segment_of}
+use Rattle.check_index.specs.Segments.{SegmentValue, segment_value}
 
 -- the file is there, all of its bytes are the good records of the plan, and they stand for this
 abbrev pub Holds : {V R : Type 0} → Option (List ℕ) → (List ℕ → Plan V R) → V → Type 0
@@ -81,10 +81,10 @@ Either false So value otherwise = value ≡ otherwise
 -- the norms in one file
 abbrev pub HoldColumns : ℕ → List TableField → Option (List ℕ) → FieldNorms → Type 0
 HoldColumns size fields nrm norms =
-    Either (nat_lt 0 (norm_count fields)) ((columns : List (List ℕ)) × Holds nrm (λ _. nrm_plan (norm_count fields) size) columns × (norms ≡ norms_from 0 columns fields)) norms (map (λ _. None) fields)
+    Either (nat_lt 0 (count_with_norms fields)) ((columns : List (List ℕ)) × Holds nrm (λ _. nrm_plan (count_with_norms fields) size) columns × (norms ≡ norms_from 0 columns fields)) norms (map (λ _. None) fields)
 
 -- the vectors are those of a store that the segment's part has
-pub record AreVectors (part : StorePart) (fields : List TableField) (files : DocumentFiles) (vectors : List (List Vector)) : Type 0 where
+pub record AreStoreVectors (part : StorePart) (fields : List TableField) (files : DocumentFiles) (vectors : List (List Vector)) : Type 0 where
   pub places : List DocumentPlaces
   pub places_held : Holds files.tvx (λ _. tvx_plan part.total) places
   pub slots : List (List VectorPlace)
@@ -96,10 +96,10 @@ pub record AreVectors (part : StorePart) (fields : List TableField) (files : Doc
 -- they are where some field has vectors and there is a `.tvx`; otherwise no document has vectors
 abbrev pub HoldVectors : SegInfo → List TableField → DocumentFiles → List (List Vector) → Type 0
 HoldVectors line fields files vectors =
-    Either (have_vectors fields && is_some files.tvx) (AreVectors (store_part line.store line.size files.fdx) fields files vectors) vectors (no_vectors line.size)
+    Either (have_vectors fields && is_some files.tvx) (AreStoreVectors (store_part line.store line.size files.fdx) fields files vectors) vectors (no_vectors line.size)
 
 -- the files of a segment stand for this
-pub record SegmentStands (folder : FolderFiles) (line : SegInfo) (x : Segment) : Type 0 where
+pub record SegmentStands (folder : FolderFiles) (line : SegInfo) (x : SegmentValue) : Type 0 where
   pub own : PartFiles
   pub is_own : AreOwn line.compound folder line.number own
   pub documents : DocumentFiles
@@ -115,6 +115,6 @@ pub record SegmentStands (folder : FolderFiles) (line : SegInfo) (x : Segment) :
   pub separate : StandFor (separate_files line.norm_gens x.index.fields line.size folder.separate (length x.index.fields) columns) x.index.norms
   pub del : Either (is_some line.del_gen) (Holds folder.del (λ _. del_plan line.size line.deleted) x.index.deleted) x.index.deleted []
   pub vectors : HoldVectors line x.index.fields documents x.index.vectors
-  pub value : x ≡ segment_of line.size
+  pub value : x ≡ segment_value line.size
       (record { fields = x.index.fields; stored = x.index.stored; terms = listed_terms x.dictionary x.lists; occurrences = x.occurrences })
       (record { norms = x.index.norms; deleted = x.index.deleted; vectors = x.index.vectors })

@@ -3,7 +3,7 @@ ghost use Rattle.std.specs.Prelude.{◌≡◌, Some, IfOk, option_copied};
 ghost use Rattle.lu_types.specs.Names.{IsPart, segment_name as name_of_segment};
 ghost use Rattle.lu_types.specs.FilePlans.{Judges};
 ghost use Rattle.check_index.specs.Files.{DocumentFiles, folder_of};
-ghost use Rattle.check_index.specs.Locating.{packed_part, packed_documents, packed_index, packed_files, compound_files, own_parts, document_parts, located_parts, document_files_of, index_files_of, part_files_of};
+ghost use Rattle.check_index.specs.Locating.{packed_part, packed_documents, packed_index, packed_files, compound_files, own_part_files, document_parts, located_parts, document_files_of, index_files_of, part_files_of};
 
 use crate::needed::needed;
 use crate::parts::Parts;
@@ -148,7 +148,7 @@ fn locate_own<'a>(
     parts: &Parts<'a>,
     info: &SegInfo,
 ) -> Result<Located<'a>, CodecFault>
-    ensures { Judges part_files_of (own_parts (folder_of parts.now) info.now) result }
+    ensures { Judges part_files_of (own_part_files (folder_of parts.now) info.now) result }
 {
     if !info.compound {
         return Ok(outside(parts));

@@ -7,7 +7,7 @@ use lu_types::rules::MISSING;
 use lu_types::{CodecFault, FileKind, Spot};
 
 /// The fault of a file that is not there.
-pub fn missing(kind: FileKind) -> Spot
+pub fn missing_file(kind: FileKind) -> Spot
     ensures { result ≡ spot_of_missing kind }
 {
     Spot::at(kind, 0, MISSING)
@@ -21,6 +21,6 @@ pub fn needed<'a>(file: Option<&'a [u8]>, kind: FileKind) -> Result<&'a [u8], Co
 {
     match file {
         Some(bytes) => Ok(bytes),
-        None => Err(CodecFault::Spot(missing(kind))),
+        None => Err(CodecFault::Spot(missing_file(kind))),
     }
 }

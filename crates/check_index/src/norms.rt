@@ -4,7 +4,7 @@ ghost use Rattle.lu_types.specs.FilePlans.{Judges};
 ghost use Rattle.lu_types.specs.Tables.{bits_at};
 ghost use Rattle.lu_model.specs.Contents.{has_norms as keeps_norms};
 ghost use Rattle.check_index.specs.Files.{file_at};
-ghost use Rattle.check_index.specs.Norms.{norm_count, norms_from, column_files, is_of_file, is_separate as is_separate_field, needed_file, separate_files, norm_files};
+ghost use Rattle.check_index.specs.Norms.{count_with_norms, norms_from, column_files, is_of_file, is_separate as is_separate_field, needed_file, separate_files, norm_files};
 
 use crate::needed::needed;
 use crate::parts::SepFiles;
@@ -62,7 +62,7 @@ fn has_norms(fields: &FieldTable<'_>, number: u32) -> bool
 
 /// How many fields have norms.
 fn count_norms(fields: &FieldTable<'_>) -> u32
-    ensures { result ≡ norm_count fields.now }
+    ensures { result ≡ count_with_norms fields.now }
 {
     let mut count = 0;
     for number in 0..fields.count() {
@@ -90,7 +90,7 @@ fn by_field<'a>(
     norms: &Norms<'a>,
     fields: &FieldTable<'_>,
 ) -> Result<FieldNorms<'a>, OutOfMemory>
-    requires { length norms.now ≡ norm_count fields.now }
+    requires { length norms.now ≡ count_with_norms fields.now }
     ensures { IfOk result (λ found. found ≡ norms_from 0 norms.now fields.now) }
 {
     let mut columns = Vec::new(alloc);

@@ -46,12 +46,12 @@ pub struct Standing<'a> {
 }
 
 impl<'a> Model for Standing<'a> {
-    ghost use Rattle.check_index.specs.Segments.{Segment, segment_of};
+    ghost use Rattle.check_index.specs.Segments.{SegmentValue, segment_value};
     ghost use Rattle.check_index.specs.Opened.{contents_of, columns_of, IsTied};
 
-    ghost Value = { Segment };
+    ghost Value = { SegmentValue };
 
-    ghost view = { λ s. segment_of s.size (contents_of s.size s.contents) (columns_of s.size s.columns) };
+    ghost view = { λ s. segment_value s.size (contents_of s.size s.contents) (columns_of s.size s.columns) };
 
     ghost invariant = { λ s. IsTied s.size s.contents s.columns };
 }

@@ -6,7 +6,7 @@ ghost use Rattle.check_index.specs.Files.{IsShort};
 ghost use Rattle.check_index.specs.Documents.{stored_files, window_of};
 
 use crate::locating::DocumentParts;
-use crate::needed::{missing, needed};
+use crate::needed::{missing_file, needed};
 use lu_types::{CodecFault, FileKind, SharedStore, Spot, Window};
 use segment_infos::SegInfo;
 use stored_fields::{StoredView, check_places, stored_total};
@@ -66,7 +66,7 @@ fn fault_without_documents(fdx: &[u8], info: &SegInfo) -> Spot
 {
     match check_store_places(fdx, info) {
         Err(spot) => spot,
-        Ok(()) => missing(FileKind::Fdt),
+        Ok(()) => missing_file(FileKind::Fdt),
     }
 }
 

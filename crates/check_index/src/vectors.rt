@@ -12,7 +12,7 @@ ghost use Rattle.check_index.specs.Locating.{document_files_of};
 ghost use Rattle.check_index.specs.Vectors.{store_part, IsWithin, have_vectors, document_vectors, HaveSome, vectors_seen};
 
 use crate::locating::DocumentParts;
-use crate::needed::missing;
+use crate::needed::missing_file;
 use crate::stored::window;
 use lu_types::bits::{VECTORS, has_bit};
 use lu_types::{CodecFault, FieldTable, FileKind, Window};
@@ -74,7 +74,7 @@ fn fault_without_fields(tvx: &[u8], total: u32) -> CodecFault
 {
     match check_places(tvx, total) {
         Err(spot) => CodecFault::Spot(spot),
-        Ok(()) => CodecFault::Spot(missing(FileKind::Tvd)),
+        Ok(()) => CodecFault::Spot(missing_file(FileKind::Tvd)),
     }
 }
 
@@ -93,7 +93,7 @@ fn fault_without_vectors(
     }
     match check_fields(alloc, tvx, tvd, fields, part) {
         Err(fault) => fault,
-        Ok(()) => CodecFault::Spot(missing(FileKind::Tvf)),
+        Ok(()) => CodecFault::Spot(missing_file(FileKind::Tvf)),
     }
 }
 

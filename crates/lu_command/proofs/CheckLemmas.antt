@@ -11,13 +11,13 @@ use Rattle.lu_types.specs.declared.kind.FileKind.{FileKind}
 use Rattle.segment_infos.specs.declared.infos.SegInfo.{SegInfo}
 use Rattle.lu_folder.specs.Limits.{file_limit}
 use Rattle.lu_folder.specs.Choosing.{IsTold}
-use Rattle.lu_folder.specs.Reading.{read_names, first_too_large, kind_of}
+use Rattle.lu_folder.specs.Reading.{read_names, first_too_large, kind_of_name}
 use Rattle.lu_folder.specs.declared.choosing.Chosen.{Chosen}
 use Rattle.lu_folder.specs.declared.fault.FolderFault.{FolderFault}
 use Rattle.lu_folder.specs.declared.fault.FolderFault.TheVariants.{Failed, NoIndex, FileTooLarge, NotStanding, OutOfMemory}
 use Rattle.lu_folder.proofs.OneAnswer.{newest-answer}
 use Rattle.check_index.specs.Files.{FolderFiles, AreShort}
-use Rattle.check_index.specs.Segments.{Segment, segment_files}
+use Rattle.check_index.specs.Segments.{SegmentValue, segment_files}
 use Rattle.check_index.proofs.MadeFiles.{no_fault, one_fault}
 use Rattle.check_index.proofs.SegmentMade.{segment-made}
 use Rattle.lu_command.specs.declared.outcome.Outcome.{Outcome}
@@ -44,7 +44,7 @@ none_over told (name ∷ names) each =
 not_both : (told : Files) (line : SegInfo) (found : List (Option (List ℕ))) (kind : FileKind) → AreRead (Some told) line found → first_too_large told (read_names line) ≡ Some kind → ⊥
 not_both told line found kind are first =
     let none = none_over told (spelled_names line) (subst (λ (files : List (Option (List ℕ))). All (IsLoadable file_limit) files) (are.told told refl) are.each) in
-    let both : None ≡ Some kind = sym (ap (option_and_then (λ place. option_map kind_of (slice_get (read_names line) place))) none) ∙ first in
+    let both : None ≡ Some kind = sym (ap (option_and_then (λ place. option_map kind_of_name (slice_get (read_names line) place))) none) ∙ first in
     cc
 
 same_kind : {j k : FileKind} → Some j ≡ Some k → j ≡ k
@@ -160,7 +160,7 @@ module _ (found : List (Option (List ℕ))) (names : List (List ℕ)) (line : Se
   found-short each = subst AreShort (sym are) (files-short names found line each)
 
   -- they stand
-  pub judged-stands : (generation place : ℕ) (x : Segment) → StandFor (segment_files folder line) x → JudgedSays found generation place line None
+  pub judged-stands : (generation place : ℕ) (x : SegmentValue) → StandFor (segment_files folder line) x → JudgedSays found generation place line None
   judged-stands generation place x stand = (x, subst (λ (f : FolderFiles). StandFor (segment_files f line) x) same_folder stand)
 
   -- or have a fault

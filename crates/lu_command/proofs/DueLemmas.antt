@@ -8,7 +8,9 @@ use Rattle.lu_types.specs.declared.kind.FileKind.{FileKind}
 use Rattle.lu_command.specs.declared.status.Status.{Status}
 use Rattle.lu_command.specs.declared.outcome.Outcome.{Outcome}
 use Rattle.lu_command.specs.Commands.{Meaning, docs, fields, check}
-use Rattle.lu_command.specs.Files.{file_limit, first_too_long, part_names, AreFound, file_at}
+use Rattle.lu_folder.specs.Limits.{file_limit}
+use Rattle.check_index.specs.Files.{file_at}
+use Rattle.lu_command.specs.Files.{first_too_long, part_names, AreFound}
 use Rattle.lu_command.specs.Needs.{fields_kinds, docs_kinds, table_files, document_files}
 use Rattle.lu_command.specs.Texts.{field_lines, doc_lines}
 use Rattle.lu_command.specs.Outcomes.{too_large_outcome, IsProper, IsAnswerOf}

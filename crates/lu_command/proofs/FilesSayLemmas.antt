@@ -18,7 +18,8 @@ use Rattle.stored_fields.specs.Documents.{fdt_plan}
 use Rattle.stored_fields.specs.Stores.{total_of, whole_store, windowed, own_files, all_files}
 use Rattle.lu_command.specs.declared.outcome.Outcome.{Outcome}
 use Rattle.lu_command.specs.Texts.{field_lines, doc_lines}
-use Rattle.lu_command.specs.Files.{file_limit, file_at}
+use Rattle.lu_folder.specs.Limits.{file_limit}
+use Rattle.check_index.specs.Files.{file_at}
 use Rattle.lu_command.specs.Needs.{table_files, document_files}
 use Rattle.lu_command.specs.Outcomes.{printing, faulty_outcome}
 use Rattle.lu_command.specs.Due.{FilesSay, FieldsSay, DocsSay}

@@ -1,5 +1,6 @@
 pub mod MeaningLemmas
 pub mod WordLemmas
+pub mod FewLemmas
 pub mod TextLemmas
 pub mod TellingLemmas
 pub mod AnswerLemmas

@@ -9,7 +9,9 @@ use Rattle.lu_dir.specs.Loading.{IsLoadable, is_over, first_over}
 use Rattle.lu_command.specs.declared.outcome.Outcome.{Outcome}
 use Rattle.lu_command.specs.Outcomes.{too_large_outcome}
 use Rattle.lu_command.specs.Due.{FilesDue}
-use Rattle.lu_command.specs.Files.{file_limit, first_too_long, part_names, AreFound, file_at}
+use Rattle.lu_folder.specs.Limits.{file_limit}
+use Rattle.check_index.specs.Files.{file_at}
+use Rattle.lu_command.specs.Files.{first_too_long, part_names, AreFound}
 
 -- files that were loaded by the names of a segment's files
 pub AreFound-loaded : (files : Option Files) (segment : List ℕ) (kinds : List FileKind) (names : List (List ℕ)) (found : List (Option (List ℕ))) → names ≡ part_names segment kinds → ForSome files (λ told. found ≡ map (contents told) names) → All (IsLoadable file_limit) found

@@ -28,14 +28,14 @@ abbrev pub AsksFor : List ℕ → Option (List ℕ) → Status → Type 0
 AsksFor path asked status = status ≢ NoMemory → asked ≡ Some path
 
 -- the folder of a meaning
-abbrev pub folder_of : Meaning → List ℕ
-folder_of (fields dir segment) = dir
-folder_of (docs dir segment) = dir
-folder_of (check dir) = dir
+abbrev pub folder_meant : Meaning → List ℕ
+folder_meant (fields dir segment) = dir
+folder_meant (docs dir segment) = dir
+folder_meant (check dir) = dir
 
 -- unless memory ended, words with a meaning ask for its folder, and words without one ask for none
 pub record Asks (words : List (List ℕ)) (before after : Option (List ℕ)) (status : Status) : Type 0 where
-  pub meant : (meaning : Meaning) → Means words meaning → AsksFor (folder_of meaning) after status
+  pub meant : (meaning : Meaning) → Means words meaning → AsksFor (folder_meant meaning) after status
   pub meaningless : ((meaning : Meaning) → ¬ Means words meaning) → after ≡ before
 
 -- the answer says that memory ended, or that the folder or the output failed

@@ -13,7 +13,7 @@ use Rattle.lu_folder.specs.Reading.{read_names, first_too_large}
 use Rattle.lu_folder.specs.declared.choosing.Chosen.{Chosen}
 use Rattle.lu_folder.specs.declared.fault.FolderFault.{FolderFault}
 use Rattle.lu_folder.specs.declared.fault.FolderFault.TheVariants.{Failed, NoIndex, FileTooLarge, NotStanding, OutOfMemory}
-use Rattle.check_index.specs.Segments.{Segment, segment_files}
+use Rattle.check_index.specs.Segments.{SegmentValue, segment_files}
 use Rattle.lu_command.specs.declared.status.Status.TheVariants as statuses
 use Rattle.lu_command.specs.declared.outcome.Outcome.{Outcome}
 use Rattle.lu_command.specs.Texts.{no_index_text, spot_text, stands_text}
@@ -48,7 +48,7 @@ stands_outcome generation segments = printing (stands_text (commit_shown generat
 
 -- what is said of the segment at this place by what was found of its files: nothing where they stand, else their first fault
 abbrev pub JudgedSays : List (Option (List ℕ)) → ℕ → ℕ → SegInfo → Option Outcome → Type 0
-JudgedSays found generation place line None = (x : Segment) × StandFor (segment_files (folder_files line found) line) x
+JudgedSays found generation place line None = (x : SegmentValue) × StandFor (segment_files (folder_files line found) line) x
 JudgedSays found generation place line (Some outcome) =
     (spot : Spot) × IsFaultAmong (segment_files (folder_files line found) line) spot × (outcome ≡ segment_fault generation place line spot)
 

@@ -7,7 +7,8 @@ use Rattle.lu_types.specs.declared.kind.FileKind.{FileKind}
 use Rattle.lu_types.specs.declared.fault.Spot.{Spot}
 use Rattle.lu_command.specs.declared.outcome.Outcome.{Outcome}
 use Rattle.lu_command.specs.Commands.{Meaning, fields, docs, check, Means}
-use Rattle.lu_command.specs.Files.{AreFound, file_at, first_too_long}
+use Rattle.check_index.specs.Files.{file_at}
+use Rattle.lu_command.specs.Files.{AreFound, first_too_long}
 use Rattle.lu_command.specs.Needs.{fields_kinds, docs_kinds, table_files, document_files}
 use Rattle.lu_command.specs.Texts.{field_lines, doc_lines}
 use Rattle.lu_command.specs.Checking.{CheckDue}

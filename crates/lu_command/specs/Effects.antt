@@ -4,7 +4,7 @@ use Rattle.lu_dir.specs.Files.{Files, Leaves}
 use Rattle.segment_infos.specs.LuceneNames.{IsGenerationNumber}
 use Rattle.segment_infos.specs.Values.{IsCommit}
 use Rattle.lu_folder.specs.Changes.{sealed, committed, IsMade, IsStopped}
-use Rattle.lu_folder.specs.Keeping.{IsFresh, AreKept, AddsOnly, IsOld, IsNew}
+use Rattle.lu_folder.specs.Keeping.{IsFreshChange, AreKept, AddsOnly, IsOld, IsNew}
 use Rattle.lu_command.specs.declared.outcome.Effect.{Effect}
 use Rattle.lu_command.specs.declared.outcome.Effect.TheVariants.{Nothing, Commit}
 
@@ -26,7 +26,7 @@ IsMadeEffect (Commit change) old new = Leaves (IsMade change) old new
 -- the effect loses nothing in a folder: what is committed is a commit, and its numbers are new
 abbrev pub LosesNothing : Effect → Files → Type 0
 LosesNothing Nothing files = Unit {0}
-LosesNothing (Commit change) files = IsGenerationNumber change.generation × IsCommit change.commit × IsFresh change files
+LosesNothing (Commit change) files = IsGenerationNumber change.generation × IsCommit change.commit × IsFreshChange change files
 
 -- how the folder reads after the effect: as before, or as the new commit, with or without some of the removable files
 abbrev pub ReadsAs : Effect → Files → Files → Type 0

@@ -1,14 +1,11 @@
 -- The files of a segment as a command finds them.
-use Rattle.std.specs.Prelude.{◌≡◌, ℕ, ◌-◌, ◌^◌, List, [], ◌∷◌, map, All, Option, Some, None, unwrap_or, slice_get, if◌then◌else◌}
+use Rattle.std.specs.Prelude.{◌≡◌, ℕ, List, [], ◌∷◌, map, All, Option, Some, None, if◌then◌else◌}
 use Rattle.std.specs.Option.{ForSome}
 use Rattle.lu_dir.specs.Files.{Files, contents}
 use Rattle.lu_dir.specs.Loading.{IsLoadable, is_over}
+use Rattle.lu_folder.specs.Limits.{file_limit}
 use Rattle.lu_types.specs.Names.{part_name}
 use Rattle.lu_types.specs.declared.kind.FileKind.{FileKind}
-
--- the most bytes of a file that a command reads
-abbrev pub file_limit : ℕ
-file_limit = 2 ^ 31 - 1
 
 -- the first of these kinds whose file is too long
 abbrev pub first_too_long : Files → List ℕ → List FileKind → Option FileKind
@@ -23,7 +20,3 @@ part_names segment kinds = map (part_name segment) kinds
 pub record AreFound (files : Option Files) (segment : List ℕ) (kinds : List FileKind) (found : List (Option (List ℕ))) : Type 0 where
   pub told : ForSome files (λ told. found ≡ map (contents told) (part_names segment kinds))
   pub each : All (IsLoadable file_limit) found
-
--- what was found at this place
-abbrev pub file_at : List (Option (List ℕ)) → ℕ → Option (List ℕ)
-file_at found place = unwrap_or (slice_get found place) None

@@ -9,7 +9,7 @@ ghost use Rattle.lu_command.specs.Meanings.{meaning_of};
 ghost use Rattle.lu_command.specs.Outcomes.{usage_outcome};
 ghost use Rattle.lu_command.specs.Due.{MeaningDue, Due};
 ghost use Rattle.lu_command.specs.Answers.{IsDirFault, Answers};
-ghost use Rattle.lu_command.specs.Asking.{AsksFor, Asks, Completes, folder_of};
+ghost use Rattle.lu_command.specs.Asking.{AsksFor, Asks, Completes, folder_meant};
 ghost use Rattle.lu_command.specs.Safety.{IsSafe};
 
 use crate::checking::check_outcome;
@@ -62,7 +62,7 @@ fn conclude<D: Dir, K: Sink>(
 fn obey<D: Dir, K: Sink>(alloc: Global, command: Command<'_>, dir: &mut D, out: &mut K) -> Status
     ensures answers { Answers (MeaningDue (meaning_of command.entry) (D.files dir.old)) (Rose (D.faults dir.old) (D.faults dir.new))
         (record { files = D.files dir.old; taken = K.taken out.old }) (record { files = D.files dir.new; taken = K.taken out.new }) result }
-    ensures asked { AsksFor (folder_of (meaning_of command.entry)) (D.asked dir.new) result }
+    ensures asked { AsksFor (folder_meant (meaning_of command.entry)) (D.asked dir.new) result }
     ensures folder { IsCaused (D.faults dir.old) (D.faults dir.new) (IsDirFault result) }
     ensures output { IsCaused (K.faults out.old) (K.faults out.new) (result ≡ Status.Device Which.Sink) }
 {

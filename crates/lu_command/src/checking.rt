@@ -9,7 +9,7 @@ ghost use Rattle.lu_folder.specs.Limits.{file_limit};
 ghost use Rattle.lu_command.specs.Finding.{spelled_names};
 ghost use Rattle.lu_command.specs.Checking.{no_index_outcome, commit_fault as outcome_of_commit, segment_fault as outcome_of_segment, stands_outcome, total_deleted, JudgedSays, SegmentSays, SegmentsSay, CommitSays, Refuses, CheckDue};
 
-use crate::finding::parts;
+use crate::finding::found_parts;
 use crate::naming::{commit_text, file_name, shown};
 use crate::outcome::Outcome;
 use crate::reading::too_large;
@@ -84,7 +84,7 @@ fn judged_segment(
     requires each { All (IsLoadable file_limit) loaded.now.found }
     ensures { IfOk result (λ said. JudgedSays loaded.now.found generation place info.now said) }
 {
-    let parts = parts(alloc, loaded, info)?;
+    let parts = found_parts(alloc, loaded, info)?;
     match check_segment(alloc, parts, place, info) {
         Ok(_standing) => Ok(None),
         Err(CheckFault::Fault(fault)) => Ok(Some(segment_fault(alloc, generation, info, fault)?)),

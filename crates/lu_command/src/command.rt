@@ -2,7 +2,7 @@
 ghost use Rattle.std.specs.Prelude.{◌≡◌, ℕ, List, MatchOption};
 ghost use Rattle.lu_dir.specs.Loading.{texts};
 ghost use Rattle.lu_command.specs.Commands.{Meaning, Means};
-ghost use Rattle.lu_command.specs.Asking.{folder_of};
+ghost use Rattle.lu_command.specs.Asking.{folder_meant};
 ghost use Rattle.lu_command.specs.Meanings.{meaning_of};
 
 use crate::words::{dir_alone, dir_and_segment};
@@ -40,7 +40,7 @@ impl<'a> Command<'a> {
 
     /// The folder that the command asks for, as it stands in the words.
     pub fn dir(&self) -> &'a str
-        ensures { result.now ≡ folder_of (meaning_of self.now) }
+        ensures { result.now ≡ folder_meant (meaning_of self.now) }
     {
         match self {
             Command::Fields { dir, .. } => dir,

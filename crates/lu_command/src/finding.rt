@@ -32,7 +32,7 @@ fn file<'a>(
 }
 
 /// How many norm generations the line counts.
-fn norm_count(info: &SegInfo) -> u32
+fn counted_norms(info: &SegInfo) -> u32
     requires { IsLine info.now }
     ensures { result ≡ length (unwrap_or info.now.norm_gens []) }
 {
@@ -53,14 +53,14 @@ fn separate<'a>(
         (range_with_len 0 (length (unwrap_or info.now.norm_gens [])))) }
 {
     let mut files = SepFiles::new(alloc);
-    for field in 0..norm_count(info) {
+    for field in 0..counted_norms(info) {
         files.push(file(alloc, loaded, info, FileKind::Sep(field))?)?;
     }
     Ok(files)
 }
 
 /// All files by which the segment is checked.
-pub fn parts<'a>(
+pub fn found_parts<'a>(
     alloc: Global,
     loaded: &'a Loaded,
     info: &SegInfo,

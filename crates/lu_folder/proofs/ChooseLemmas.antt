@@ -9,8 +9,8 @@ use Rattle.lu_dir.specs.Files.{Files}
 use Rattle.segment_infos.specs.Generations.{generation_in, listed_generations, AreGenerations}
 use Rattle.segment_infos.specs.LuceneNames.{IsGenerationNumber}
 use Rattle.segment_infos.specs.Values.{CommitValue}
-use Rattle.lu_folder.specs.Commits.{IsGood, IsCurrent, IsThere, IsNewest}
-use Rattle.lu_folder.specs.Choosing.{is_too_large, IsPassed, AnswersCurrent, AnswersNewest, IsNoIndex}
+use Rattle.lu_folder.specs.Commits.{IsGoodCommit, IsCurrent, HasCommitFile, IsNewest}
+use Rattle.lu_folder.specs.Choosing.{is_too_large, IsPassedOver, AnswersCurrent, AnswersNewest, IsNoIndex}
 use Rattle.lu_folder.specs.Looking.{ArePassed, Walks}
 use Rattle.lu_folder.specs.declared.choosing.Chosen.{Chosen}
 use Rattle.lu_folder.specs.declared.fault.FolderFault.{FolderFault}
@@ -31,29 +31,29 @@ take-none found many one none = omega (arith, length-take many found)
 
 module _ (files : Files) (names : List (List ℕ)) (found : List ℕ) (all : IsPermutation (keys files) names) (are : AreGenerations names found) where
   -- a commit that is there is passed, or is not above the one at a place up to which all are passed
-  passed-or_below : (place later : ℕ) → place < length found → ArePassed files found place → IsThere files later → IsPassed files later ⊎ (later ≤ get_or found place 0)
+  passed-or_below : (place later : ℕ) → place < length found → ArePassed files found place → HasCommitFile files later → IsPassedOver files later ⊎ (later ≤ get_or found place 0)
   passed-or_below place later within passed is = by_place (Contains-place found later (there-found files names all found are later is))
     where
-      by_order : (k : ℕ) → k < length found → get_or found k 0 ≡ later → (k < place) ⊎ (place ≤ k) → IsPassed files later ⊎ (later ≤ get_or found place 0)
-      by_order k short at (inl before) = inl (subst (λ (n : ℕ). IsPassed files n) at (passed k before))
+      by_order : (k : ℕ) → k < length found → get_or found k 0 ≡ later → (k < place) ⊎ (place ≤ k) → IsPassedOver files later ⊎ (later ≤ get_or found place 0)
+      by_order k short at (inl before) = inl (subst (λ (n : ℕ). IsPassedOver files n) at (passed k before))
       by_order k short at (inr behind) = inr (below (cases_lt place k))
         where
           below : (place < k) ⊎ (k ≤ place) → later ≤ get_or found place 0
           below (inl less) = let down : get_or found k 0 ≤ get_or found place 0 = are.fall place k 0 less short in omega arith
           below (inr least) = let same : k ≡ place = omega arith in let value : get_or found k 0 ≡ get_or found place 0 = ap (λ (n : ℕ). get_or found n 0) same in omega arith
 
-      by_place : (k : ℕ) × (k < length found) × (get_or found k 0 ≡ later) → IsPassed files later ⊎ (later ≤ get_or found place 0)
+      by_place : (k : ℕ) × (k < length found) × (get_or found k 0 ≡ later) → IsPassedOver files later ⊎ (later ≤ get_or found place 0)
       by_place (k, short, at) = by_order k short at (cases_lt k place)
 
   -- one that is above it is passed
-  above-passed : (place later : ℕ) → place < length found → ArePassed files found place → get_or found place 0 < later → IsThere files later → IsPassed files later
+  above-passed : (place later : ℕ) → place < length found → ArePassed files found place → get_or found place 0 < later → HasCommitFile files later → IsPassedOver files later
   above-passed place later within passed less is = by_which (passed-or_below place later within passed is)
     where
-      by_which : IsPassed files later ⊎ (later ≤ get_or found place 0) → IsPassed files later
+      by_which : IsPassedOver files later ⊎ (later ≤ get_or found place 0) → IsPassedOver files later
       by_which (inl was) = was
       by_which (inr below) = absurd (omega arith)
 
-  there-of_good : (generation : ℕ) (commit : CommitValue) → IsGood files generation commit → IsThere files generation
+  there-of_good : (generation : ℕ) (commit : CommitValue) → IsGoodCommit files generation commit → HasCommitFile files generation
   there-of_good generation commit good = record { is = good.is; there = good-there files generation commit good.says }
 
   -- the first generation is the newest
@@ -63,7 +63,7 @@ module _ (files : Files) (names : List (List ℕ)) (found : List ℕ) (all : IsP
     last = λ later less is. by_which later less (passed-or_below 0 later some (λ k none. absurd (omega arith)) is) is;
   }
     where
-      by_which : (later : ℕ) → get_or found 0 0 < later → IsPassed files later ⊎ (later ≤ get_or found 0 0) → IsThere files later → ⊥
+      by_which : (later : ℕ) → get_or found 0 0 < later → IsPassedOver files later ⊎ (later ≤ get_or found 0 0) → HasCommitFile files later → ⊥
       by_which later less (inr below) is = omega arith
       by_which later less (inl was) is = below (Contains-place found later (there-found files names all found are later is))
         where
@@ -80,7 +80,7 @@ module _ (files : Files) (names : List (List ℕ)) (found : List ℕ) (all : IsP
       current : IsCurrent files chosen.generation chosen.commit
       current = record { good = good; last = λ later other less is. (above-passed place later within passed (omega arith) (there-of_good later other is)).not_good other is }
 
-      by_which : (later : ℕ) → chosen.generation ≤ later → IsThere files later → IsPassed files later ⊎ (later ≤ get_or found place 0) → is_too_large files later ≡ false
+      by_which : (later : ℕ) → chosen.generation ≤ later → HasCommitFile files later → IsPassedOver files later ⊎ (later ≤ get_or found place 0) → is_too_large files later ≡ false
       by_which later least is (inl was) = was.fits
       by_which later least is (inr below) = let same : later ≡ chosen.generation = omega arith in ap (is_too_large files) same ∙ fits
   Walks-current (Err NoIndex) none = λ generation is. empty (Contains-place found generation (there-found files names all found are generation is))
@@ -92,8 +92,8 @@ module _ (files : Files) (names : List (List ℕ)) (found : List ℕ) (all : IsP
   Walks-current (Err (NotStanding generation fault)) (some, at, has, passed) =
       (subst (λ (n : ℕ). IsNewest files n) at (first-newest some), has, λ other is. by_place other (Contains-place found other (there-found files names all found are other is)))
     where
-      by_place : (other : ℕ) → (k : ℕ) × (k < length found) × (get_or found k 0 ≡ other) → IsPassed files other
-      by_place other (k, short, same) = subst (λ (n : ℕ). IsPassed files n) same (passed k short)
+      by_place : (other : ℕ) → (k : ℕ) × (k < length found) × (get_or found k 0 ≡ other) → IsPassedOver files other
+      by_place other (k, short, same) = subst (λ (n : ℕ). IsPassedOver files n) same (passed k short)
   Walks-current (Err Failed) is = tt
   Walks-current (Err OutOfMemory) is = tt
 
@@ -117,7 +117,7 @@ module _ (files : Files) (names : List (List ℕ)) (found : List ℕ) (all : IsP
       (is, (get_or found 0 0, first-newest some, ap (is_too_large files) here ∙ over))
   Walks-newest (Err (NotStanding generation fault)) many one (some, at, has, passed) =
       let (there, here) : (0 < length found) × (get_or found 0 0 ≡ generation) = take-one found many 0 generation one some at in
-      (subst (λ (n : ℕ). IsNewest files n) here (first-newest there), has, subst (λ (n : ℕ). IsPassed files n) at (passed 0 some))
+      (subst (λ (n : ℕ). IsNewest files n) here (first-newest there), has, subst (λ (n : ℕ). IsPassedOver files n) at (passed 0 some))
   Walks-newest (Err Failed) many one is = tt
   Walks-newest (Err OutOfMemory) many one is = tt
 

@@ -13,7 +13,7 @@ use Rattle.segment_infos.specs.LuceneNames.{Spells, IsLuceneName, name_in}
 use Rattle.segment_infos.proofs.NameSpelled.{name_in-Spells, TellsName-name_in}
 use Rattle.lu_folder.specs.declared.numbering.Counted.{Counted}
 use Rattle.lu_folder.specs.Numbers.{above}
-use Rattle.lu_folder.specs.Counting.{number_of, number_in, drawn}
+use Rattle.lu_folder.specs.Counting.{counted_number, counted_number_in, drawn}
 
 -- a number above one number more, where it is there
 abbrev pub above_found : ℕ → Option ℕ → ℕ
@@ -25,19 +25,19 @@ above-last least None numbers = fold-append (λ (number used : ℕ). max number 
 above-last least (Some used) numbers = fold-append (λ (number used : ℕ). max number (used + 1)) least numbers (used ∷ [])
 
 -- one name more
-pub drawn-more : (counted : Counted) (least : ℕ) (names : List (String Global)) (place : ℕ) (text : String Global) (name : List ℕ) (found : Option ℕ) → place < length names → text ≡ get_or names place text → name ≡ string_bytes text → found ≡ number_in counted name
+pub drawn-more : (counted : Counted) (least : ℕ) (names : List (String Global)) (place : ℕ) (text : String Global) (name : List ℕ) (found : Option ℕ) → place < length names → text ≡ get_or names place text → name ≡ string_bytes text → found ≡ counted_number_in counted name
     → drawn counted least (texts (take (place + 1) names)) ≡ above_found (drawn counted least (texts (take place names))) found
 drawn-more counted least names place text name found within at named is =
     ap (drawn counted least) (texts-more names place text within at)
     ∙ ap (λ (last : List ℕ). drawn counted least (texts (take place names) ++ last ∷ [])) (sym named)
-    ∙ ap (above least) (filter_map-append (number_in counted) (texts (take place names)) (name ∷ []))
-    ∙ ap (λ (one : Option ℕ). above least (filter_map (number_in counted) (texts (take place names)) ++ cons_option one [])) (sym is)
-    ∙ above-last least found (filter_map (number_in counted) (texts (take place names)))
+    ∙ ap (above least) (filter_map-append (counted_number_in counted) (texts (take place names)) (name ∷ []))
+    ∙ ap (λ (one : Option ℕ). above least (filter_map (counted_number_in counted) (texts (take place names)) ++ cons_option one [])) (sym is)
+    ∙ above-last least found (filter_map (counted_number_in counted) (texts (take place names)))
 
 -- the number of a text that is a name
-pub number_in-name : (counted : Counted) (text : List ℕ) (name : LuceneName) (number : Option ℕ) → Spells text name → number ≡ number_of counted name → number ≡ number_in counted text
-number_in-name counted text name number spells is = is ∙ sym (ap (option_and_then (number_of counted)) (name_in-Spells text name spells))
+pub counted_number_in-name : (counted : Counted) (text : List ℕ) (name : LuceneName) (number : Option ℕ) → Spells text name → number ≡ counted_number counted name → number ≡ counted_number_in counted text
+counted_number_in-name counted text name number spells is = is ∙ sym (ap (option_and_then (counted_number counted)) (name_in-Spells text name spells))
 
 -- that of one that is none
-pub number_in-none : (counted : Counted) (text : List ℕ) → ¬ IsLuceneName text → None ≡ number_in counted text
-number_in-none counted text none = sym (ap (option_and_then (number_of counted)) (sym (TellsName-name_in text None none)))
+pub counted_number_in-none : (counted : Counted) (text : List ℕ) → ¬ IsLuceneName text → None ≡ counted_number_in counted text
+counted_number_in-none counted text none = sym (ap (option_and_then (counted_number counted)) (sym (TellsName-name_in text None none)))

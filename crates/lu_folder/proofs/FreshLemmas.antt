@@ -20,9 +20,9 @@ use Rattle.lu_folder.specs.declared.new_file.NewFile.{NewFile}
 use Rattle.lu_folder.specs.ChangeValues.{ChangeValue, commit_name}
 use Rattle.lu_folder.specs.Changes.{pending_file, written}
 use Rattle.lu_folder.specs.Commits.{commit_file}
-use Rattle.lu_folder.specs.Keeping.{IsFresh}
+use Rattle.lu_folder.specs.Keeping.{IsFreshChange}
 use Rattle.lu_folder.specs.Fresh.{AreNewFiles}
-use Rattle.lu_folder.specs.Numbers.{above, if_below, segment_of, del_generation_of}
+use Rattle.lu_folder.specs.Numbers.{above, if_below, segment_of_name, del_generation_of}
 use Rattle.lu_folder.specs.Drawing.{numbers_in, next_generation, line_numbers, next_segment, next_del}
 use Rattle.lu_folder.proofs.AboveLemmas.{above-least, above-each, IsBelow, below-is}
 use Rattle.lu_folder.proofs.ListedLemmas.{filter_map-Contains, unnamed-none}
@@ -30,10 +30,10 @@ use Rattle.lu_folder.proofs.ReferredLemmas.{referred-segment, file-no_commit}
 use Rattle.lu_folder.proofs.SameName.{Contains-only, only-is}
 
 -- the number of a name that is listed is below the one above all
-pub listed-below : (number_of : LuceneName → Option ℕ) (least : ℕ) (names : List (List ℕ)) (name : LuceneName) (n : ℕ) → IsName name → number_of name ≡ Some n → Contains names (name_spelling name) → n < above least (numbers_in number_of names)
-listed-below number_of least names name n valid is among =
-    above-each least (numbers_in number_of names) n
-    (filter_map-Contains (λ (text : List ℕ). option_and_then number_of (name_in text)) names (name_spelling name) n among (ap (option_and_then number_of) (name_in-Spells (name_spelling name) name (valid, refl)) ∙ is))
+pub listed-below : (counted_number : LuceneName → Option ℕ) (least : ℕ) (names : List (List ℕ)) (name : LuceneName) (n : ℕ) → IsName name → counted_number name ≡ Some n → Contains names (name_spelling name) → n < above least (numbers_in counted_number names)
+listed-below counted_number least names name n valid is among =
+    above-each least (numbers_in counted_number names) n
+    (filter_map-Contains (λ (text : List ℕ). option_and_then counted_number (name_in text)) names (name_spelling name) n among (ap (option_and_then counted_number) (name_in-Spells (name_spelling name) name (valid, refl)) ∙ is))
 
 -- a generation from the drawn one on is that of no listed commit
 pub generation-unlisted : (names : List (List ℕ)) (number later : ℕ) → next_generation names ≡ Some number → number ≤ later → later < 2 ^ 63 → ¬ Contains names (commit_name later)
@@ -55,21 +55,21 @@ generation-valid names number drawn =
     (omega arith, subst (λ (n : ℕ). n < 2 ^ 63) (sym same) less)
 
 -- a file of a segment from the drawn number on is not listed
-pub segment-unlisted : (names : List (List ℕ)) (commit : CommitValue) (number : ℕ) (name : LuceneName) (segment : ℕ) → next_segment names commit ≡ Some number → IsName name → segment_of name ≡ Some segment → number ≤ segment → ¬ Contains names (name_spelling name)
+pub segment-unlisted : (names : List (List ℕ)) (commit : CommitValue) (number : ℕ) (name : LuceneName) (segment : ℕ) → next_segment names commit ≡ Some number → IsName name → segment_of_name name ≡ Some segment → number ≤ segment → ¬ Contains names (name_spelling name)
 segment-unlisted names commit number name segment drawn valid is le among =
     let least : ℕ = above commit.counter (flat_map line_numbers commit.segments) in
-    let below : IsBelow (greatest_segment + 1) (above least (numbers_in segment_of names)) number = below-is (greatest_segment + 1) (above least (numbers_in segment_of names)) number drawn in
-    let same : number ≡ above least (numbers_in segment_of names) = below.same in
-    let less : segment < above least (numbers_in segment_of names) = listed-below segment_of least names name segment valid is among in
+    let below : IsBelow (greatest_segment + 1) (above least (numbers_in segment_of_name names)) number = below-is (greatest_segment + 1) (above least (numbers_in segment_of_name names)) number drawn in
+    let same : number ≡ above least (numbers_in segment_of_name names) = below.same in
+    let less : segment < above least (numbers_in segment_of_name names) = listed-below segment_of_name least names name segment valid is among in
     omega arith
 
 -- the commit refers to no file of such a segment
-pub segment-unreferred : (names : List (List ℕ)) (commit : CommitValue) (number : ℕ) (name : LuceneName) (segment : ℕ) → next_segment names commit ≡ Some number → Contains (referred_names commit) name → segment_of name ≡ Some segment → segment < number
+pub segment-unreferred : (names : List (List ℕ)) (commit : CommitValue) (number : ℕ) (name : LuceneName) (segment : ℕ) → next_segment names commit ≡ Some number → Contains (referred_names commit) name → segment_of_name name ≡ Some segment → segment < number
 segment-unreferred names commit number name segment drawn among is =
     let least : ℕ = above commit.counter (flat_map line_numbers commit.segments) in
-    let below : IsBelow (greatest_segment + 1) (above least (numbers_in segment_of names)) number = below-is (greatest_segment + 1) (above least (numbers_in segment_of names)) number drawn in
-    let same : number ≡ above least (numbers_in segment_of names) = below.same in
-    let more : least ≤ above least (numbers_in segment_of names) = above-least least (numbers_in segment_of names) in
+    let below : IsBelow (greatest_segment + 1) (above least (numbers_in segment_of_name names)) number = below-is (greatest_segment + 1) (above least (numbers_in segment_of_name names)) number drawn in
+    let same : number ≡ above least (numbers_in segment_of_name names) = below.same in
+    let more : least ≤ above least (numbers_in segment_of_name names) = above-least least (numbers_in segment_of_name names) in
     let less : segment < least = above-each commit.counter (flat_map line_numbers commit.segments) segment (referred-segment commit.segments name segment among is) in
     omega arith
 
@@ -77,11 +77,11 @@ segment-unreferred names commit number name segment drawn among is =
 pub segment-valid : (names : List (List ℕ)) (commit : CommitValue) (number : ℕ) → next_segment names commit ≡ Some number → (number ≤ greatest_segment) × (commit.counter ≤ number)
 segment-valid names commit number drawn =
     let least : ℕ = above commit.counter (flat_map line_numbers commit.segments) in
-    let below : IsBelow (greatest_segment + 1) (above least (numbers_in segment_of names)) number = below-is (greatest_segment + 1) (above least (numbers_in segment_of names)) number drawn in
-    let same : number ≡ above least (numbers_in segment_of names) = below.same in
-    let less : above least (numbers_in segment_of names) < greatest_segment + 1 = below.less in
+    let below : IsBelow (greatest_segment + 1) (above least (numbers_in segment_of_name names)) number = below-is (greatest_segment + 1) (above least (numbers_in segment_of_name names)) number drawn in
+    let same : number ≡ above least (numbers_in segment_of_name names) = below.same in
+    let less : above least (numbers_in segment_of_name names) < greatest_segment + 1 = below.less in
     let counted : commit.counter ≤ least = above-least commit.counter (flat_map line_numbers commit.segments) in
-    let more : least ≤ above least (numbers_in segment_of names) = above-least least (numbers_in segment_of names) in
+    let more : least ≤ above least (numbers_in segment_of_name names) = above-least least (numbers_in segment_of_name names) in
     (omega arith, omega arith)
 
 -- a file of deleted documents from the drawn generation on is not listed
@@ -120,14 +120,14 @@ del-later names line number was drawn is =
     omega arith
 
 -- a file of a segment has one
-file-segment : (name : LuceneName) → IsFile name → (segment : ℕ) × (segment_of name ≡ Some segment)
+file-segment : (name : LuceneName) → IsFile name → (segment : ℕ) × (segment_of_name name ≡ Some segment)
 file-segment (Commit generation) none = absurd none
 file-segment (Part segment kind) some = (segment, refl)
 file-segment (Del segment generation) some = (segment, refl)
 file-segment (Sep segment generation field) some = (segment, refl)
 
 -- a change whose numbers are drawn from the names of the folder is fresh in it
-pub drawn-fresh : (files : Files) (names : List (List ℕ)) (change : ChangeValue) → IsPermutation (keys files) names → next_generation names ≡ Some change.generation → AreNewFiles names change.files → ((name : List ℕ) → Contains change.removable name → Contains names name) → IsFresh change files
+pub drawn-fresh : (files : Files) (names : List (List ℕ)) (change : ChangeValue) → IsPermutation (keys files) names → next_generation names ≡ Some change.generation → AreNewFiles names change.files → ((name : List ℕ) → Contains change.removable name → Contains names name) → IsFreshChange change files
 drawn-fresh files names change all drawn new among = record {
   absent = λ file there. unnamed-none files names all file.name (new.unlisted file there);
   greatest = λ generation le bound. unnamed-none files names all (commit_name generation) (generation-unlisted names change.generation generation drawn le bound);

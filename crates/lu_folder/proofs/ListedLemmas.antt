@@ -19,7 +19,7 @@ use Rattle.segment_infos.specs.LuceneNames.{IsGenerationNumber, name_in}
 use Rattle.segment_infos.specs.Generations.{generation_of, generation_named, generation_in, listed_generations, AreGenerations}
 use Rattle.segment_infos.proofs.NameSpelled.{name_in-Spells, Spells-name_in}
 use Rattle.lu_folder.specs.ChangeValues.{commit_name}
-use Rattle.lu_folder.specs.Commits.{commit_file, IsThere}
+use Rattle.lu_folder.specs.Commits.{commit_file, HasCommitFile}
 
 -- what a list has with a test is at one of its elements
 pub Contains-filter_map : {A B : Type 0} (f : A → Option B) (xs : List A) (y : B) → Contains (filter_map f xs) y → (x : A) × Contains xs x × (f x ≡ Some y)
@@ -120,18 +120,18 @@ module _ (files : Files) (names : List (List ℕ)) (all : IsPermutation (keys fi
           some_not_none e = cc
 
   -- generations that are listed are those of the commits that are there
-  pub there-listed : (generation : ℕ) → IsThere files generation → Contains (listed_generations names) generation
+  pub there-listed : (generation : ℕ) → HasCommitFile files generation → Contains (listed_generations names) generation
   there-listed generation is = filter_map-Contains generation_in names (commit_name generation) generation (there-named (commit_name generation) is.there) (commit-generation_in generation is.is)
 
-  pub listed-there : (generation : ℕ) → Contains (listed_generations names) generation → IsThere files generation
+  pub listed-there : (generation : ℕ) → Contains (listed_generations names) generation → HasCommitFile files generation
   listed-there generation among =
       let (text, here, is) : (text : List ℕ) × Contains names text × (generation_in text ≡ Some generation) = Contains-filter_map generation_in names generation among in
       let (valid, named) : IsGenerationNumber generation × (text ≡ commit_name generation) = generation_in-commit text generation is in
       record { is = valid; there = named-there (commit_name generation) (subst (λ (t : List ℕ). Contains names t) named here) }
 
   module _ (found : List ℕ) (are : AreGenerations names found) where
-    pub there-found : (generation : ℕ) → IsThere files generation → Contains found generation
+    pub there-found : (generation : ℕ) → HasCommitFile files generation → Contains found generation
     there-found generation is = Contains-permutation (listed_generations names) found generation are.all (there-listed generation is)
 
-    pub found-there : (generation : ℕ) → Contains found generation → IsThere files generation
+    pub found-there : (generation : ℕ) → Contains found generation → HasCommitFile files generation
     found-there generation among = listed-there generation (Contains-permutation found (listed_generations names) generation (IsPermutation-sym (listed_generations names) found are.all) among)

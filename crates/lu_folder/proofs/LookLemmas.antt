@@ -13,8 +13,8 @@ use Rattle.lu_types.specs.declared.fault.Spot.{Spot}
 use Rattle.segment_infos.specs.Format.{commit_plan}
 use Rattle.segment_infos.specs.Values.{CommitValue}
 use Rattle.lu_folder.specs.Commits.{commit_file, Says}
-use Rattle.lu_folder.specs.Choosing.{IsFaulty, IsPassed, is_too_large, IsNoIndex}
-use Rattle.lu_folder.specs.Looking.{fault_of, Tells, Looks, IsLookFault, first_fault, IsFirst, IsSeen}
+use Rattle.lu_folder.specs.Choosing.{IsFaulty, IsPassedOver, is_too_large, IsNoIndex}
+use Rattle.lu_folder.specs.Looking.{folder_fault_of, CommitTells, Looks, IsLookFault, first_commit_fault, IsFirst, IsSeen}
 use Rattle.lu_folder.specs.declared.choosing.Look.{Look}
 use Rattle.lu_folder.specs.declared.fault.FolderFault.{FolderFault}
 use Rattle.lu_folder.specs.declared.fault.FolderFault.TheVariants.{Failed, NoIndex, FileTooLarge, NotStanding, OutOfMemory}
@@ -56,28 +56,28 @@ faulty-not_good None spot commit fits faulty says = says
 faulty-not_good (Some bytes) spot commit fits faulty says = no_fault_if_read (commit_plan bytes) bytes commit spot.offset spot.rule fits says faulty.1
 
 -- it is passed over
-pub faulty-passed : (files : Files) (generation : ℕ) (spot : Spot) → IsFaulty (commit_file files generation) spot → is_too_large files generation ≡ false → IfSome (commit_file files generation) IsBytes → IsPassed files generation
+pub faulty-passed : (files : Files) (generation : ℕ) (spot : Spot) → IsFaulty (commit_file files generation) spot → is_too_large files generation ≡ false → IfSome (commit_file files generation) IsBytes → IsPassedOver files generation
 faulty-passed files generation spot faulty fits made = record { fits = fits; not_good = λ commit good. faulty-not_good (commit_file files generation) spot commit made faulty good.says }
 
 -- the first fault, with one more
 pub IsFirst-more : (files : Files) (generations : List ℕ) (count generation : ℕ) (first : Option (ℕ × Spot)) (spot : Spot) → generation ≡ get_or generations count 0 → IsFaulty (commit_file files generation) spot → IsFirst files generations count first
-    → IsFirst files generations (count + 1) (first_fault first (generation, spot))
+    → IsFirst files generations (count + 1) (first_commit_fault first (generation, spot))
 IsFirst-more files generations count generation None spot is faulty none = (omega arith, ap (λ (k : ℕ). get_or generations k 0) (sym none) ∙ sym is, faulty)
 IsFirst-more files generations count generation (Some one) spot is faulty (some, at, holds) = (omega arith, at, holds)
 
 -- the fault of a call that loads the file of a commit
-pub Looks-fault : (files : Files) (generation : ℕ) (fault : LoadFault) (answer : FolderFault) → answer ≡ fault_of fault kinds.Commit → ((place : ℕ) → fault ≡ load.TooLarge place → is_too_large files generation ≡ true) → Looks files generation (Err answer)
+pub Looks-fault : (files : Files) (generation : ℕ) (fault : LoadFault) (answer : FolderFault) → answer ≡ folder_fault_of fault kinds.Commit → ((place : ℕ) → fault ≡ load.TooLarge place → is_too_large files generation ≡ true) → Looks files generation (Err answer)
 Looks-fault files generation load.Failed answer is over = subst (λ (f : FolderFault). Looks files generation (Err f)) (sym is) tt
 Looks-fault files generation (load.TooLarge place) answer is over = subst (λ (f : FolderFault). Looks files generation (Err f)) (sym is) (refl, over place refl)
 Looks-fault files generation load.OutOfMemory answer is over = subst (λ (f : FolderFault). Looks files generation (Err f)) (sym is) tt
 
 -- what was judged of it
-pub Looks-judged : (files : Files) (generation : ℕ) (answer : Result Look FolderFault) (here : Option (List ℕ)) → here ≡ commit_file files generation → IfOk answer (Tells here) → ((fault : FolderFault) → answer ≡ Err fault → fault ≡ OutOfMemory) → is_too_large files generation ≡ false → IfSome here IsBytes → Looks files generation answer
-Looks-judged files generation (Ok look) here same tells memory fits made = (subst (λ (o : Option (List ℕ)). Tells o look) same tells, fits, subst (λ (o : Option (List ℕ)). IfSome o IsBytes) same made)
+pub Looks-judged : (files : Files) (generation : ℕ) (answer : Result Look FolderFault) (here : Option (List ℕ)) → here ≡ commit_file files generation → IfOk answer (CommitTells here) → ((fault : FolderFault) → answer ≡ Err fault → fault ≡ OutOfMemory) → is_too_large files generation ≡ false → IfSome here IsBytes → Looks files generation answer
+Looks-judged files generation (Ok look) here same tells memory fits made = (subst (λ (o : Option (List ℕ)). CommitTells o look) same tells, fits, subst (λ (o : Option (List ℕ)). IfSome o IsBytes) same made)
 Looks-judged files generation (Err fault) here same tells memory fits made = subst (λ (f : FolderFault). Looks files generation (Err f)) (sym (memory fault refl)) tt
 
 -- neither of them is that of a choice
-pub loaded-fault : (fault : LoadFault) (answer : FolderFault) → answer ≡ fault_of fault kinds.Commit → IsLookFault answer
+pub loaded-fault : (fault : LoadFault) (answer : FolderFault) → answer ≡ folder_fault_of fault kinds.Commit → IsLookFault answer
 loaded-fault load.Failed answer is = subst IsLookFault (sym is) tt
 loaded-fault (load.TooLarge place) answer is = subst IsLookFault (sym is) tt
 loaded-fault load.OutOfMemory answer is = subst IsLookFault (sym is) tt
@@ -100,6 +100,6 @@ IsNoIndex-fault (FileTooLarge kind) generations place within is = λ none. some_
 IsNoIndex-fault (NotStanding generation fault) generations place within is = absurd is
 IsNoIndex-fault OutOfMemory generations place within is = tt
 
-pub IsSeen-more : (count : ℕ) (first : Option (ℕ × Spot)) (fault : ℕ × Spot) → IsSeen (count + 1) (first_fault first fault)
+pub IsSeen-more : (count : ℕ) (first : Option (ℕ × Spot)) (fault : ℕ × Spot) → IsSeen (count + 1) (first_commit_fault first fault)
 IsSeen-more count None fault = omega arith
 IsSeen-more count (Some first) fault = omega arith

@@ -10,22 +10,22 @@ use Rattle.segment_infos.specs.Spelling.{commit_bytes}
 use Rattle.segment_infos.specs.Values.{CommitValue}
 use Rattle.lu_folder.specs.declared.new_file.NewFile.{NewFile}
 use Rattle.lu_folder.specs.ChangeValues.{ChangeValue, commit_name}
-use Rattle.lu_folder.specs.Writing.{with_files}
+use Rattle.lu_folder.specs.Writing.{with_new_files}
 use Rattle.lu_folder.specs.Changes.{pending_file, written, sealed, IsMade}
-use Rattle.lu_folder.specs.Commits.{commit_file, Says, IsGood, IsCurrent, IsThere, IsNewest}
-use Rattle.lu_folder.specs.Keeping.{IsFresh, IsNew, AreKept, AddsOnly}
+use Rattle.lu_folder.specs.Commits.{commit_file, Says, IsGoodCommit, IsCurrent, HasCommitFile, IsNewest}
+use Rattle.lu_folder.specs.Keeping.{IsFreshChange, IsNew, AreKept, AddsOnly}
 use Rattle.lu_folder.proofs.SameName.{same_name, Contains-only, only-is, none-within, some_is_not_none, commit_name-other}
 use Rattle.lu_folder.proofs.UnmadeLemmas.{absent-written, good-there}
 
 -- after some files were made, a file is as before and none of them has its name, or it is one of them
-with_files-at : (files : List NewFile) (base : Files) (name : List ℕ) → ((contents (with_files files base) name ≡ contents base name) × ((file : NewFile) → Contains files file → file.name ≢ name))
-    ⊎ ((file : NewFile) × Contains files file × (file.name ≡ name) × (contents (with_files files base) name ≡ Some file.bytes))
-with_files-at [] base name = inl (refl, λ file among. absurd (none-within file among))
-with_files-at (file ∷ rest) base name = cases (with_files-at rest (with_file file.name file.bytes base) name) (same_name name file.name)
+with_new_files-at : (files : List NewFile) (base : Files) (name : List ℕ) → ((contents (with_new_files files base) name ≡ contents base name) × ((file : NewFile) → Contains files file → file.name ≢ name))
+    ⊎ ((file : NewFile) × Contains files file × (file.name ≡ name) × (contents (with_new_files files base) name ≡ Some file.bytes))
+with_new_files-at [] base name = inl (refl, λ file among. absurd (none-within file among))
+with_new_files-at (file ∷ rest) base name = cases (with_new_files-at rest (with_file file.name file.bytes base) name) (same_name name file.name)
   where
-    cases : ((contents (with_files rest (with_file file.name file.bytes base)) name ≡ contents (with_file file.name file.bytes base) name) × ((f : NewFile) → Contains rest f → f.name ≢ name)) ⊎ ((f : NewFile) × Contains rest f × (f.name ≡ name) × (contents (with_files rest (with_file file.name file.bytes base)) name ≡ Some f.bytes))
+    cases : ((contents (with_new_files rest (with_file file.name file.bytes base)) name ≡ contents (with_file file.name file.bytes base) name) × ((f : NewFile) → Contains rest f → f.name ≢ name)) ⊎ ((f : NewFile) × Contains rest f × (f.name ≡ name) × (contents (with_new_files rest (with_file file.name file.bytes base)) name ≡ Some f.bytes))
         → (name ≡ file.name) ⊎ (name ≢ file.name)
-        → ((contents (with_files rest (with_file file.name file.bytes base)) name ≡ contents base name) × ((f : NewFile) → Contains (file ∷ rest) f → f.name ≢ name)) ⊎ ((f : NewFile) × Contains (file ∷ rest) f × (f.name ≡ name) × (contents (with_files rest (with_file file.name file.bytes base)) name ≡ Some f.bytes))
+        → ((contents (with_new_files rest (with_file file.name file.bytes base)) name ≡ contents base name) × ((f : NewFile) → Contains (file ∷ rest) f → f.name ≢ name)) ⊎ ((f : NewFile) × Contains (file ∷ rest) f × (f.name ≡ name) × (contents (with_new_files rest (with_file file.name file.bytes base)) name ≡ Some f.bytes))
     cases (inr (f, among, named, is)) which = inr (f, Contains-append_right (file ∷ []) rest f among, named, is)
     cases (inl (same, none)) (inl here) = inr (file, Contains-append_left (file ∷ []) rest file (Contains-only file), sym here, same ∙ ap (contents (with_file file.name file.bytes base)) here ∙ contents-with_file-same file.name file.bytes base)
     cases (inl (same, none)) (inr differ) = inl (same ∙ contents-with_file-other file.name file.bytes base name differ, λ f among. apart f (Contains-append_cases (file ∷ []) rest f among))
@@ -34,28 +34,28 @@ with_files-at (file ∷ rest) base name = cases (with_files-at rest (with_file f
         apart f (inl head) named = differ (sym named ∙ ap (λ (x : NewFile). x.name) (sym (only-is file f head)))
         apart f (inr tail) named = none f tail named
 
-module _ (change : ChangeValue) (old : Files) (valid : IsGenerationNumber change.generation) (fresh : IsFresh change old) where
+module _ (change : ChangeValue) (old : Files) (valid : IsGenerationNumber change.generation) (fresh : IsFreshChange change old) where
   own-pending : Contains (written change) (pending_file change)
   own-pending = Contains-append_right change.files (pending_file change ∷ []) (pending_file change) (Contains-only (pending_file change))
 
   -- the sealed commit
   sealed-own : commit_file (sealed change old) change.generation ≡ Some (commit_bytes change.commit)
-  sealed-own = contents-with_file-same (commit_name change.generation) (commit_bytes change.commit) (with_files change.files old)
+  sealed-own = contents-with_file-same (commit_name change.generation) (commit_bytes change.commit) (with_new_files change.files old)
 
   sealed-new : (file : NewFile) → Contains change.files file → contents (sealed change old) file.name ≡ Some file.bytes
-  sealed-new file among = contents-with_file-other (commit_name change.generation) (commit_bytes change.commit) (with_files change.files old) file.name (fresh.no_commit file among change.generation) ∙ by_file (with_files-at change.files old file.name)
+  sealed-new file among = contents-with_file-other (commit_name change.generation) (commit_bytes change.commit) (with_new_files change.files old) file.name (fresh.no_commit file among change.generation) ∙ by_file (with_new_files-at change.files old file.name)
     where
-      by_file : ((contents (with_files change.files old) file.name ≡ contents old file.name) × ((f : NewFile) → Contains change.files f → f.name ≢ file.name)) ⊎ ((f : NewFile) × Contains change.files f × (f.name ≡ file.name) × (contents (with_files change.files old) file.name ≡ Some f.bytes))
-          → contents (with_files change.files old) file.name ≡ Some file.bytes
+      by_file : ((contents (with_new_files change.files old) file.name ≡ contents old file.name) × ((f : NewFile) → Contains change.files f → f.name ≢ file.name)) ⊎ ((f : NewFile) × Contains change.files f × (f.name ≡ file.name) × (contents (with_new_files change.files old) file.name ≡ Some f.bytes))
+          → contents (with_new_files change.files old) file.name ≡ Some file.bytes
       by_file (inl (same, none)) = absurd (none file among refl)
       by_file (inr (f, there, named, is)) = is ∙ ap (λ (x : NewFile). Some x.bytes) (fresh.one f file there among named)
 
   -- a name that is not written
   sealed-other : (name : List ℕ) → name ≢ commit_name change.generation → ((file : NewFile) → Contains change.files file → file.name ≢ name) → contents (sealed change old) name ≡ contents old name
-  sealed-other name differ none = contents-with_file-other (commit_name change.generation) (commit_bytes change.commit) (with_files change.files old) name differ ∙ by_file (with_files-at change.files old name)
+  sealed-other name differ none = contents-with_file-other (commit_name change.generation) (commit_bytes change.commit) (with_new_files change.files old) name differ ∙ by_file (with_new_files-at change.files old name)
     where
-      by_file : ((contents (with_files change.files old) name ≡ contents old name) × ((f : NewFile) → Contains change.files f → f.name ≢ name)) ⊎ ((f : NewFile) × Contains change.files f × (f.name ≡ name) × (contents (with_files change.files old) name ≡ Some f.bytes))
-          → contents (with_files change.files old) name ≡ contents old name
+      by_file : ((contents (with_new_files change.files old) name ≡ contents old name) × ((f : NewFile) → Contains change.files f → f.name ≢ name)) ⊎ ((f : NewFile) × Contains change.files f × (f.name ≡ name) × (contents (with_new_files change.files old) name ≡ Some f.bytes))
+          → contents (with_new_files change.files old) name ≡ contents old name
       by_file (inl (same, apart)) = same
       by_file (inr (f, there, named, is)) = absurd (none f there named)
 
@@ -70,14 +70,14 @@ module _ (change : ChangeValue) (old : Files) (valid : IsGenerationNumber change
   pub sealed-adds : AddsOnly change old (sealed change old)
   sealed-adds name lacked = by_name (same_name name (commit_name change.generation))
     where
-      by_file : name ≢ commit_name change.generation → ((contents (with_files change.files old) name ≡ contents old name) × ((f : NewFile) → Contains change.files f → f.name ≢ name)) ⊎ ((f : NewFile) × Contains change.files f × (f.name ≡ name) × (contents (with_files change.files old) name ≡ Some f.bytes))
+      by_file : name ≢ commit_name change.generation → ((contents (with_new_files change.files old) name ≡ contents old name) × ((f : NewFile) → Contains change.files f → f.name ≢ name)) ⊎ ((f : NewFile) × Contains change.files f × (f.name ≡ name) × (contents (with_new_files change.files old) name ≡ Some f.bytes))
           → (contents (sealed change old) name ≡ None) ⊎ ((file : NewFile) × Contains (written change) file × (file.name ≡ name))
       by_file differ (inl (same, apart)) = inl (sealed-other name differ apart ∙ lacked)
       by_file differ (inr (f, there, named, is)) = inr (f, Contains-append_left change.files (pending_file change ∷ []) f there, named)
 
       by_name : (name ≡ commit_name change.generation) ⊎ (name ≢ commit_name change.generation) → (contents (sealed change old) name ≡ None) ⊎ ((file : NewFile) × Contains (written change) file × (file.name ≡ name))
       by_name (inl same) = inr (pending_file change, own-pending, sym same)
-      by_name (inr differ) = by_file differ (with_files-at change.files old name)
+      by_name (inr differ) = by_file differ (with_new_files-at change.files old name)
 
   module _ (new : Files) (made : IsMade change old new) where
     -- what is not removed is as in the sealed folder

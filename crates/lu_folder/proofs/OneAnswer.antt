@@ -10,14 +10,14 @@ use Rattle.lu_types.specs.declared.kind.FileKind.{FileKind}
 use Rattle.segment_infos.specs.Format.{commit_plan}
 use Rattle.segment_infos.specs.Values.{CommitValue}
 use Rattle.lu_folder.specs.ChangeValues.{commit_name}
-use Rattle.lu_folder.specs.Commits.{commit_file, Says, IsGood, IsCurrent, IsThere, IsNewest}
-use Rattle.lu_folder.specs.Choosing.{IsFaulty, HasFault, is_too_large, IsPassed, AnswersCurrent, AnswersNewest, IsTold}
+use Rattle.lu_folder.specs.Commits.{commit_file, Says, IsGoodCommit, IsCurrent, HasCommitFile, IsNewest}
+use Rattle.lu_folder.specs.Choosing.{IsFaulty, HasFault, is_too_large, IsPassedOver, AnswersCurrent, AnswersNewest, IsTold}
 use Rattle.lu_folder.specs.declared.choosing.Chosen.{Chosen}
 use Rattle.lu_folder.specs.declared.fault.FolderFault.{FolderFault}
 use Rattle.lu_folder.specs.declared.fault.FolderFault.TheVariants.{Failed, NoIndex, FileTooLarge, NotStanding, OutOfMemory}
 use Rattle.lu_folder.proofs.UnmadeLemmas.{good-there}
 
-there-of_good : (files : Files) (generation : ℕ) (commit : CommitValue) → IsGood files generation commit → IsThere files generation
+there-of_good : (files : Files) (generation : ℕ) (commit : CommitValue) → IsGoodCommit files generation commit → HasCommitFile files generation
 there-of_good files generation commit good = record { is = good.is; there = good-there files generation commit good.says }
 
 not_both : {A : Type 0} (files : Files) (generation : ℕ) → is_too_large files generation ≡ false → is_too_large files generation ≡ true → A
@@ -61,7 +61,7 @@ newest-one files one other first second = by_order (cases_lt one other) (cases_l
     by_order (inr most) (inl less) = absurd (second.last one less first.here)
     by_order (inr most) (inr least) = omega arith
 
-chosen-one : (files : Files) (one other : Chosen) → one.generation ≡ other.generation → IsGood files one.generation one.commit → IsGood files other.generation other.commit → one ≡ other
+chosen-one : (files : Files) (one other : Chosen) → one.generation ≡ other.generation → IsGoodCommit files one.generation one.commit → IsGoodCommit files other.generation other.commit → one ≡ other
 chosen-one files one other same first second =
     ap (λ (generation : ℕ). record { generation = generation; commit = one.commit }) same
     ∙ ap (λ (commit : CommitValue). record { generation = other.generation; commit = commit })
@@ -116,7 +116,7 @@ module _ (files : Files) (made : AreMadeOfBytes files) where
   newest-answer (Ok a) (Err (FileTooLarge kind)) told also first second =
       not_both files second.1.0 (subst (λ (n : ℕ). is_too_large files n ≡ false) (newest-one files a.generation second.1.0 first.0 second.1.1) first.2) second.1.2
   newest-answer (Ok a) (Err (NotStanding n fault)) told also first second =
-      absurd (second.2.not_good a.commit (subst (λ (m : ℕ). IsGood files m a.commit) (newest-one files a.generation n first.0 second.0) first.1))
+      absurd (second.2.not_good a.commit (subst (λ (m : ℕ). IsGoodCommit files m a.commit) (newest-one files a.generation n first.0 second.0) first.1))
   newest-answer (Err NoIndex) (Ok b) told also first second = absurd (first b.generation second.0.here)
   newest-answer (Err NoIndex) (Err NoIndex) told also first second = refl
   newest-answer (Err NoIndex) (Err (FileTooLarge kind)) told also first second = absurd (first second.1.0 second.1.1.here)
@@ -128,7 +128,7 @@ module _ (files : Files) (made : AreMadeOfBytes files) where
   newest-answer (Err (FileTooLarge kind)) (Err (NotStanding n fault)) told also first second =
       not_both files first.1.0 (subst (λ (m : ℕ). is_too_large files m ≡ false) (newest-one files n first.1.0 second.0 first.1.1) second.2.fits) first.1.2
   newest-answer (Err (NotStanding n fault)) (Ok b) told also first second =
-      absurd (first.2.not_good b.commit (subst (λ (m : ℕ). IsGood files m b.commit) (newest-one files b.generation n second.0 first.0) second.1))
+      absurd (first.2.not_good b.commit (subst (λ (m : ℕ). IsGoodCommit files m b.commit) (newest-one files b.generation n second.0 first.0) second.1))
   newest-answer (Err (NotStanding n fault)) (Err NoIndex) told also first second = absurd (second n first.0.here)
   newest-answer (Err (NotStanding n fault)) (Err (FileTooLarge kind)) told also first second =
       not_both files second.1.0 (subst (λ (m : ℕ). is_too_large files m ≡ false) (newest-one files n second.1.0 first.0 second.1.1) first.2.fits) second.1.2

@@ -20,7 +20,7 @@ use Rattle.segment_infos.specs.LuceneNames.{IsName, name_spelling}
 use Rattle.segment_infos.specs.Referring.{del_names, sep_names, sep_names_from, norm_names}
 use Rattle.segment_infos.specs.Values.{IsGeneration, IsStore, IsNormGen, AreNormGens, IsLine}
 use Rattle.segment_infos.proofs.KeptNames.{all-append}
-use Rattle.lu_folder.specs.Reading.{own_part, packed_store, document_part, holder, parts_read, front_kinds, vector_kinds, read_names, kind_of, first_too_large}
+use Rattle.lu_folder.specs.Reading.{own_part, packed_store, document_part, holder, parts_read, front_kinds, vector_kinds, read_names, kind_of_name, first_too_large}
 use Rattle.lu_folder.specs.Limits.{file_limit}
 
 -- one kind more
@@ -46,10 +46,10 @@ passed-kind line some place default start before after within is same so_far =
     same ∙ so_far ∙ ap (λ (names : List LuceneName). start ++ names) (sym (parts_read-more line some place default None within is ∙ append-nil (parts_read line (take place some))))
 
 -- the kind of the first file that is too large
-pub first_too_large-at : (files : Files) (names : List LuceneName) (spelled : List (List ℕ)) (place : ℕ) (name : LuceneName) → spelled ≡ map name_spelling names → first_over files file_limit spelled ≡ Some place → slice_get names place ≡ Some name → first_too_large files names ≡ Some (kind_of name)
+pub first_too_large-at : (files : Files) (names : List LuceneName) (spelled : List (List ℕ)) (place : ℕ) (name : LuceneName) → spelled ≡ map name_spelling names → first_over files file_limit spelled ≡ Some place → slice_get names place ≡ Some name → first_too_large files names ≡ Some (kind_of_name name)
 first_too_large-at files names spelled place name same over at =
-    ap (λ (found : Option ℕ). option_and_then (λ p. option_map kind_of (slice_get names p)) found) (ap (first_over files file_limit) (sym same) ∙ over)
-    ∙ ap (option_map kind_of) at
+    ap (λ (found : Option ℕ). option_and_then (λ p. option_map kind_of_name (slice_get names p)) found) (ap (first_over files file_limit) (sym same) ∙ over)
+    ∙ ap (option_map kind_of_name) at
 
 -- as many spellings as names
 pub spelled-count : (spelled : List (String Global)) (names : List LuceneName) → texts spelled ≡ map name_spelling names → length spelled ≡ length names

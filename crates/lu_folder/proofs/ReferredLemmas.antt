@@ -11,13 +11,13 @@ use Rattle.segment_infos.specs.declared.naming.LuceneName.TheVariants.{Commit, P
 use Rattle.segment_infos.specs.LuceneNames.{name_spelling}
 use Rattle.segment_infos.specs.Referring.{document_kinds, index_kinds, parts, own_parts, store_parts, del_names, sep_names, sep_names_from, norm_names, line_names}
 use Rattle.lu_folder.specs.ChangeValues.{commit_name}
-use Rattle.lu_folder.specs.Numbers.{segment_of}
+use Rattle.lu_folder.specs.Numbers.{segment_of_name}
 use Rattle.lu_folder.specs.Drawing.{store_numbers, line_numbers}
 use Rattle.lu_folder.proofs.SameName.{Contains-only, only-is}
 
 -- the name is of a file of one of these segments
 pub IsOf : List ℕ → LuceneName → Type 0
-IsOf numbers name = (segment : ℕ) × (segment_of name ≡ Some segment) × Contains numbers segment
+IsOf numbers name = (segment : ℕ) × (segment_of_name name ≡ Some segment) × Contains numbers segment
 
 -- each of the names is
 AreOf : List ℕ → List LuceneName → Type 0
@@ -35,9 +35,9 @@ AreOf-append numbers one other first second name among = by_part (Contains-appen
     by_part (inl here) = first name here
     by_part (inr here) = second name here
 
-AreOf-one : (numbers : List ℕ) (name : LuceneName) (number : ℕ) → segment_of name ≡ Some number → Contains numbers number → AreOf numbers (name ∷ [])
+AreOf-one : (numbers : List ℕ) (name : LuceneName) (number : ℕ) → segment_of_name name ≡ Some number → Contains numbers number → AreOf numbers (name ∷ [])
 unfolding AreOf IsOf
-AreOf-one numbers name number is among other here = (number, ap segment_of (sym (only-is name other here)) ∙ is, among)
+AreOf-one numbers name number is among other here = (number, ap segment_of_name (sym (only-is name other here)) ∙ is, among)
 
 AreOf-parts : (numbers : List ℕ) (number : ℕ) (some : List FileKind) → Contains numbers number → AreOf numbers (parts number some)
 AreOf-parts numbers number [] among = AreOf-none numbers
@@ -89,7 +89,7 @@ referred-of (line ∷ lines) name among = by_part (Contains-append_cases (line_n
     by_part (inl here) later = let (segment, is, there) : IsOf (line_numbers line) name = AreOf-line line name here in (segment, is, Contains-append_left (line_numbers line) (flat_map line_numbers lines) segment there)
     by_part (inr rest) later = let (segment, is, there) : IsOf (flat_map line_numbers lines) name = later rest in (segment, is, Contains-append_right (line_numbers line) (flat_map line_numbers lines) segment there)
 
-pub referred-segment : (lines : List SegInfo) (name : LuceneName) (segment : ℕ) → Contains (flat_map line_names lines) name → segment_of name ≡ Some segment → Contains (flat_map line_numbers lines) segment
+pub referred-segment : (lines : List SegInfo) (name : LuceneName) (segment : ℕ) → Contains (flat_map line_names lines) name → segment_of_name name ≡ Some segment → Contains (flat_map line_numbers lines) segment
 unfolding IsOf
 referred-segment lines name segment among is =
     let (one, same, there) : IsOf (flat_map line_numbers lines) name = referred-of lines name among in
@@ -102,7 +102,7 @@ first-differs : (one other : List ℕ) → get_or one 0 0 ≡ 95 → get_or othe
 first-differs one other under letter same = let e : get_or one 0 0 ≡ get_or other 0 0 = ap (λ (text : List ℕ). get_or text 0 0) same in omega arith
 
 -- it refers to files alone, and none of them has the name of a commit
-pub file-no_commit : (name : LuceneName) (segment generation : ℕ) → segment_of name ≡ Some segment → name_spelling name ≢ commit_name generation
+pub file-no_commit : (name : LuceneName) (segment generation : ℕ) → segment_of_name name ≡ Some segment → name_spelling name ≢ commit_name generation
 file-no_commit (Commit one) segment generation is same = cc
 file-no_commit (Part one kind) segment generation is same = first-differs (name_spelling (Part one kind)) (commit_name generation) refl refl same
 file-no_commit (Del one other) segment generation is same = first-differs (name_spelling (Del one other)) (commit_name generation) refl refl same

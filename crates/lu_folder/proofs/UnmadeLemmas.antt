@@ -14,8 +14,8 @@ use Rattle.lu_folder.specs.declared.new_file.NewFile.{NewFile}
 use Rattle.lu_folder.specs.ChangeValues.{ChangeValue, commit_name}
 use Rattle.lu_folder.specs.Writing.{IsBegun}
 use Rattle.lu_folder.specs.Changes.{pending_file, written, IsUnmade}
-use Rattle.lu_folder.specs.Commits.{commit_file, Says, IsGood, IsCurrent}
-use Rattle.lu_folder.specs.Keeping.{IsFresh, IsOld, AreKept, AddsOnly}
+use Rattle.lu_folder.specs.Commits.{commit_file, Says, IsGoodCommit, IsCurrent}
+use Rattle.lu_folder.specs.Keeping.{IsFreshChange, IsOld, AreKept, AddsOnly}
 use Rattle.lu_folder.proofs.SameName.{only-is, some_is_not_none}
 use Rattle.lu_folder.proofs.SealingLemmas.{take-pending}
 
@@ -33,7 +33,7 @@ begun-not_good commit v count good is = by_count (cases_lt count (length (commit
 pub good-there : (files : Files) (generation : ℕ) (commit : CommitValue) → Says (commit_file files generation) commit → commit_file files generation ≢ None
 good-there files generation commit is none = subst (λ (o : Option (List ℕ)). Says o commit) none is
 
-module _ (change : ChangeValue) (old : Files) (valid : IsGenerationNumber change.generation) (fresh : IsFresh change old) where
+module _ (change : ChangeValue) (old : Files) (valid : IsGenerationNumber change.generation) (fresh : IsFreshChange change old) where
   -- what is written was not there
   pub absent-written : (file : NewFile) → Contains (written change) file → contents old file.name ≡ None
   absent-written file among = by_part (Contains-append_cases change.files (pending_file change ∷ []) file among)
@@ -76,10 +76,10 @@ module _ (change : ChangeValue) (old : Files) (valid : IsGenerationNumber change
           by_change (inr (file, among, named, begun)) = absurd (by_part file (Contains-append_cases change.files (pending_file change ∷ []) file among) named begun)
 
       -- a commit is good exactly where it was
-      good-was : (generation : ℕ) (commit : CommitValue) → IsGood new generation commit → IsGood old generation commit
+      good-was : (generation : ℕ) (commit : CommitValue) → IsGoodCommit new generation commit → IsGoodCommit old generation commit
       good-was generation commit is = record { is = is.is; says = subst (λ (o : Option (List ℕ)). Says o commit) (says-same generation commit is.says) is.says }
 
-      good-is : (generation : ℕ) (commit : CommitValue) → IsGood old generation commit → IsGood new generation commit
+      good-is : (generation : ℕ) (commit : CommitValue) → IsGoodCommit old generation commit → IsGoodCommit new generation commit
       good-is generation commit was = record { is = was.is; says = subst (λ (o : Option (List ℕ)). Says o commit) (sym (unmade-kept (commit_name generation) (good-there old generation commit was.says))) was.says }
 
       pub unmade-old : IsOld old new

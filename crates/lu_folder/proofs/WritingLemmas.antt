@@ -6,7 +6,7 @@ use Rattle.lu_dir.specs.Files.{Files, contents, with_file, CreateLeaves, before,
 use Rattle.lu_dir.proofs.Contents.{contents-with_file-same, contents-with_file-other, contents-without_file-same, contents-without_file-other}
 use Rattle.lu_dir.proofs.Told.{CreateLeaves-whole}
 use Rattle.lu_folder.specs.declared.new_file.NewFile.{NewFile}
-use Rattle.lu_folder.specs.Writing.{with_files, IsBegun, WritesOnly}
+use Rattle.lu_folder.specs.Writing.{with_new_files, IsBegun, WritesOnly}
 use Rattle.lu_folder.proofs.SameName.{same_name, Contains-only}
 
 -- a file is its name and its bytes
@@ -46,10 +46,10 @@ WritesOnly-more one other old mid new first second name = cases (second name) (f
     cases (inl same) (inr (f, among, named, here)) = inr (f, Contains-append_left one other f among, named, subst (λ (o : Option (List ℕ)). IsBegun f.bytes o) (sym same) here)
 
 -- files that were made
-pub WritesOnly-made : (written : List NewFile) (files : Files) → WritesOnly written files (with_files written files)
+pub WritesOnly-made : (written : List NewFile) (files : Files) → WritesOnly written files (with_new_files written files)
 WritesOnly-made [] files = WritesOnly-none [] files
 WritesOnly-made (file ∷ rest) files =
-    WritesOnly-more (file ∷ []) rest files (with_file file.name file.bytes files) (with_files rest (with_file file.name file.bytes files))
+    WritesOnly-more (file ∷ []) rest files (with_file file.name file.bytes files) (with_new_files rest (with_file file.name file.bytes files))
     (WritesOnly-create file files (with_file file.name file.bytes files) (CreateLeaves-whole file.name file.bytes files))
     (WritesOnly-made rest (with_file file.name file.bytes files))
 
@@ -58,20 +58,20 @@ pub WritesOnly-among : (one other : List NewFile) (old new : Files) → WritesOn
 WritesOnly-among one other old new writes = WritesOnly-more one other old new new writes (WritesOnly-none other new)
 
 -- files that are made after others
-pub with_files-append : (one other : List NewFile) (files : Files) → with_files (one ++ other) files ≡ with_files other (with_files one files)
-with_files-append [] other files = refl
-with_files-append (file ∷ rest) other files = with_files-append rest other (with_file file.name file.bytes files)
+pub with_new_files-append : (one other : List NewFile) (files : Files) → with_new_files (one ++ other) files ≡ with_new_files other (with_new_files one files)
+with_new_files-append [] other files = refl
+with_new_files-append (file ∷ rest) other files = with_new_files-append rest other (with_file file.name file.bytes files)
 
 -- one file more
-pub with_files-next : (all : List NewFile) (place : ℕ) (file : NewFile) (files : Files) → place < length all → file ≡ get_or all place file → with_file file.name file.bytes (with_files (take place all) files) ≡ with_files (take (place + 1) all) files
-with_files-next all place file files within at =
-    sym (with_files-append (take place all) (file ∷ []) files)
-    ∙ ap (λ (some : List NewFile). with_files some files) (ap (λ (f : NewFile). take place all ++ f ∷ []) at ∙ sym (take_more all place file within))
+pub with_new_files-next : (all : List NewFile) (place : ℕ) (file : NewFile) (files : Files) → place < length all → file ≡ get_or all place file → with_file file.name file.bytes (with_new_files (take place all) files) ≡ with_new_files (take (place + 1) all) files
+with_new_files-next all place file files within at =
+    sym (with_new_files-append (take place all) (file ∷ []) files)
+    ∙ ap (λ (some : List NewFile). with_new_files some files) (ap (λ (f : NewFile). take place all ++ f ∷ []) at ∙ sym (take_more all place file within))
 
 -- one file more fails
-pub WritesOnly-next : (all : List NewFile) (place : ℕ) (file : NewFile) (old new : Files) → place < length all → file ≡ get_or all place file → CreateLeaves file.name file.bytes (with_files (take place all) old) new → WritesOnly all old new
+pub WritesOnly-next : (all : List NewFile) (place : ℕ) (file : NewFile) (old new : Files) → place < length all → file ≡ get_or all place file → CreateLeaves file.name file.bytes (with_new_files (take place all) old) new → WritesOnly all old new
 WritesOnly-next all place file old new within at left =
     subst (λ (some : List NewFile). WritesOnly some old new)
     (ap (λ (some : List NewFile). some ++ drop (place + 1) all) (ap (λ (f : NewFile). take place all ++ f ∷ []) at ∙ sym (take_more all place file within)) ∙ take-append-drop (place + 1) all)
     (WritesOnly-among (take place all ++ file ∷ []) (drop (place + 1) all) old new
-    (WritesOnly-more (take place all) (file ∷ []) old (with_files (take place all) old) new (WritesOnly-made (take place all) old) (WritesOnly-create file (with_files (take place all) old) new left)))
+    (WritesOnly-more (take place all) (file ∷ []) old (with_new_files (take place all) old) new (WritesOnly-made (take place all) old) (WritesOnly-create file (with_new_files (take place all) old) new left)))

@@ -3,7 +3,7 @@ use Rattle.std.specs.Prelude.{◌≡◌, ◌⊎◌, ℕ, List, [], ◌∷◌, �
 use Rattle.lu_dir.specs.Files.{Files, with_file}
 use Rattle.segment_infos.specs.Spelling.{commit_bytes, pending}
 use Rattle.lu_folder.specs.declared.new_file.NewFile.{NewFile}
-use Rattle.lu_folder.specs.Writing.{with_files, WritesOnly}
+use Rattle.lu_folder.specs.Writing.{with_new_files, WritesOnly}
 use Rattle.lu_folder.specs.Sweeping.{without_files, RemovesOnly}
 use Rattle.lu_folder.specs.ChangeValues.{ChangeValue, commit_name}
 
@@ -17,7 +17,7 @@ written change = change.files ++ pending_file change ∷ []
 
 -- the folder once the commit is sealed, with nothing removed
 abbrev pub sealed : ChangeValue → Files → Files
-sealed change files = with_file (commit_name change.generation) (commit_bytes change.commit) (with_files change.files files)
+sealed change files = with_file (commit_name change.generation) (commit_bytes change.commit) (with_new_files change.files files)
 
 -- the folder after the commit
 abbrev pub committed : ChangeValue → Files → Files

@@ -10,7 +10,7 @@ use Rattle.lu_types.specs.declared.kind.FileKind.TheVariants as kinds
 use Rattle.segment_infos.specs.Format.{commit_plan}
 use Rattle.segment_infos.specs.Values.{CommitValue}
 use Rattle.lu_folder.specs.Limits.{file_limit}
-use Rattle.lu_folder.specs.Commits.{commit_file, IsGood, IsCurrent, IsThere, IsNewest}
+use Rattle.lu_folder.specs.Commits.{commit_file, IsGoodCommit, IsCurrent, HasCommitFile, IsNewest}
 use Rattle.lu_folder.specs.declared.choosing.Chosen.{Chosen}
 use Rattle.lu_folder.specs.declared.fault.FolderFault.{FolderFault}
 use Rattle.lu_folder.specs.declared.fault.FolderFault.TheVariants.{Failed, NoIndex, FileTooLarge, NotStanding, OutOfMemory}
@@ -29,34 +29,34 @@ abbrev pub is_too_large : Files → ℕ → Bool
 is_too_large files generation = is_over file_limit (commit_file files generation)
 
 -- the commit of this generation is passed over: its file is not too large, and not good
-pub record IsPassed (files : Files) (generation : ℕ) : Type 0 where
+pub record IsPassedOver (files : Files) (generation : ℕ) : Type 0 where
   pub fits : is_too_large files generation ≡ false
-  pub not_good : (commit : CommitValue) → ¬ IsGood files generation commit
+  pub not_good : (commit : CommitValue) → ¬ IsGoodCommit files generation commit
 
 -- what is answered where the current commit is looked for
 abbrev pub AnswersCurrent : Files → Result Chosen FolderFault → Type 0
 AnswersCurrent files (Ok chosen) =
     IsCurrent files chosen.generation chosen.commit
-    × ((later : ℕ) → chosen.generation ≤ later → IsThere files later → is_too_large files later ≡ false)
-AnswersCurrent files (Err NoIndex) = (generation : ℕ) → ¬ IsThere files generation
+    × ((later : ℕ) → chosen.generation ≤ later → HasCommitFile files later → is_too_large files later ≡ false)
+AnswersCurrent files (Err NoIndex) = (generation : ℕ) → ¬ HasCommitFile files generation
 AnswersCurrent files (Err (FileTooLarge kind)) =
     (kind ≡ kinds.Commit)
-    × ((generation : ℕ) × IsThere files generation × (is_too_large files generation ≡ true)
-    × ((later : ℕ) → generation < later → IsThere files later → IsPassed files later))
+    × ((generation : ℕ) × HasCommitFile files generation × (is_too_large files generation ≡ true)
+    × ((later : ℕ) → generation < later → HasCommitFile files later → IsPassedOver files later))
 AnswersCurrent files (Err (NotStanding generation fault)) =
-    IsNewest files generation × HasFault files generation fault × ((other : ℕ) → IsThere files other → IsPassed files other)
+    IsNewest files generation × HasFault files generation fault × ((other : ℕ) → HasCommitFile files other → IsPassedOver files other)
 AnswersCurrent files (Err Failed) = Unit {0}
 AnswersCurrent files (Err OutOfMemory) = Unit {0}
 
 -- what is answered where the newest commit is looked for
 abbrev pub AnswersNewest : Files → Result Chosen FolderFault → Type 0
 AnswersNewest files (Ok chosen) =
-    IsNewest files chosen.generation × IsGood files chosen.generation chosen.commit × (is_too_large files chosen.generation ≡ false)
-AnswersNewest files (Err NoIndex) = (generation : ℕ) → ¬ IsThere files generation
+    IsNewest files chosen.generation × IsGoodCommit files chosen.generation chosen.commit × (is_too_large files chosen.generation ≡ false)
+AnswersNewest files (Err NoIndex) = (generation : ℕ) → ¬ HasCommitFile files generation
 AnswersNewest files (Err (FileTooLarge kind)) =
     (kind ≡ kinds.Commit) × ((generation : ℕ) × IsNewest files generation × (is_too_large files generation ≡ true))
 AnswersNewest files (Err (NotStanding generation fault)) =
-    IsNewest files generation × HasFault files generation fault × IsPassed files generation
+    IsNewest files generation × HasFault files generation fault × IsPassedOver files generation
 AnswersNewest files (Err Failed) = Unit {0}
 AnswersNewest files (Err OutOfMemory) = Unit {0}
 

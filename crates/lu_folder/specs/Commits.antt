@@ -17,21 +17,21 @@ Says None commit = ⊥
 Says (Some bytes) commit = Reads (commit_plan bytes) bytes commit
 
 -- the commit of this generation is good, and says this
-pub record IsGood (files : Files) (generation : ℕ) (commit : CommitValue) : Type 0 where
+pub record IsGoodCommit (files : Files) (generation : ℕ) (commit : CommitValue) : Type 0 where
   pub is : IsGenerationNumber generation
   pub says : Says (commit_file files generation) commit
 
 -- the current commit is of this generation and says this: it is good, and none of a greater generation is
 pub record IsCurrent (files : Files) (generation : ℕ) (commit : CommitValue) : Type 0 where
-  pub good : IsGood files generation commit
-  pub last : (later : ℕ) (other : CommitValue) → generation < later → ¬ IsGood files later other
+  pub good : IsGoodCommit files generation commit
+  pub last : (later : ℕ) (other : CommitValue) → generation < later → ¬ IsGoodCommit files later other
 
 -- there is a file of a commit of this generation
-pub record IsThere (files : Files) (generation : ℕ) : Type 0 where
+pub record HasCommitFile (files : Files) (generation : ℕ) : Type 0 where
   pub is : IsGenerationNumber generation
   pub there : commit_file files generation ≢ None
 
 -- the greatest generation of which there is a commit, good or not
 pub record IsNewest (files : Files) (generation : ℕ) : Type 0 where
-  pub here : IsThere files generation
-  pub last : (later : ℕ) → generation < later → ¬ IsThere files later
+  pub here : HasCommitFile files generation
+  pub last : (later : ℕ) → generation < later → ¬ HasCommitFile files later

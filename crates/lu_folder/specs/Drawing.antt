@@ -8,11 +8,11 @@ use Rattle.segment_infos.specs.declared.naming.LuceneName.{LuceneName}
 use Rattle.segment_infos.specs.Generations.{generation_of}
 use Rattle.segment_infos.specs.LuceneNames.{name_in}
 use Rattle.segment_infos.specs.Values.{CommitValue}
-use Rattle.lu_folder.specs.Numbers.{above, if_below, segment_of, del_generation_of}
+use Rattle.lu_folder.specs.Numbers.{above, if_below, segment_of_name, del_generation_of}
 
 -- the numbers of the names that have one
 abbrev pub numbers_in : (LuceneName → Option ℕ) → List (List ℕ) → List ℕ
-numbers_in number_of names = filter_map (λ text. option_and_then number_of (name_in text)) names
+numbers_in counted_number names = filter_map (λ text. option_and_then counted_number (name_in text)) names
 
 -- the generation of the next commit: above all listed ones, and at least 1; none where that is no generation
 abbrev pub next_generation : List (List ℕ) → Option ℕ
@@ -31,7 +31,7 @@ line_numbers line = line.number ∷ store_numbers line.store
 -- the commit and of every listed file of a segment; none where no segment may have it
 abbrev pub next_segment : List (List ℕ) → CommitValue → Option ℕ
 next_segment names commit =
-    if_below (greatest_segment + 1) (above (above commit.counter (flat_map line_numbers commit.segments)) (numbers_in segment_of names))
+    if_below (greatest_segment + 1) (above (above commit.counter (flat_map line_numbers commit.segments)) (numbers_in segment_of_name names))
 
 -- the generation of a new file of deleted documents of the segment: above that of its line and all listed ones of the segment, and
 -- at least 1; none where that is no generation

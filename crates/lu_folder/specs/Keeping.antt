@@ -10,7 +10,7 @@ use Rattle.lu_folder.specs.Commits.{commit_file, IsCurrent, IsNewest}
 
 -- the numbers of the change are new: no file has one of its names, or is a commit of its generation or a greater one; new files
 -- are no commits, two of one name are one, and nothing that is written is removed
-pub record IsFresh (change : ChangeValue) (files : Files) : Type 0 where
+pub record IsFreshChange (change : ChangeValue) (files : Files) : Type 0 where
   pub absent : (file : NewFile) → Contains change.files file → contents files file.name ≡ None
   pub greatest : (generation : ℕ) → change.generation ≤ generation → generation < 2 ^ 63 → commit_file files generation ≡ None
   pub no_commit : (file : NewFile) → Contains change.files file → (generation : ℕ) → file.name ≢ commit_name generation

@@ -4,11 +4,11 @@ use Rattle.segment_infos.specs.declared.naming.LuceneName.{LuceneName}
 use Rattle.segment_infos.specs.declared.naming.LuceneName.TheVariants.{Commit, Part, Del, Sep}
 
 -- the number of the segment whose file it is
-abbrev pub segment_of : LuceneName → Option ℕ
-segment_of (Commit generation) = None
-segment_of (Part segment kind) = Some segment
-segment_of (Del segment generation) = Some segment
-segment_of (Sep segment generation field) = Some segment
+abbrev pub segment_of_name : LuceneName → Option ℕ
+segment_of_name (Commit generation) = None
+segment_of_name (Part segment kind) = Some segment
+segment_of_name (Del segment generation) = Some segment
+segment_of_name (Sep segment generation field) = Some segment
 
 -- the generation of a file of deleted documents of the segment with this number
 abbrev pub del_generation_of : ℕ → LuceneName → Option ℕ

@@ -65,13 +65,13 @@ read_names line =
     parts_read line front_kinds ++ (norm_names line.number line.norm_gens ++ (del_names line.number line.del_gen ++ parts_read line vector_kinds))
 
 -- the kind of the file that a name names
-abbrev pub kind_of : LuceneName → FileKind
-kind_of (Commit generation) = kinds.Commit
-kind_of (Part segment kind) = kind
-kind_of (Del segment generation) = kinds.Del
-kind_of (Sep segment generation field) = kinds.Sep field
+abbrev pub kind_of_name : LuceneName → FileKind
+kind_of_name (Commit generation) = kinds.Commit
+kind_of_name (Part segment kind) = kind
+kind_of_name (Del segment generation) = kinds.Del
+kind_of_name (Sep segment generation field) = kinds.Sep field
 
 -- the kind of the first of these files that has more bytes than are read
 abbrev pub first_too_large : Files → List LuceneName → Option FileKind
 first_too_large files names =
-    option_and_then (λ place. option_map kind_of (slice_get names place)) (first_over files file_limit (map name_spelling names))
+    option_and_then (λ place. option_map kind_of_name (slice_get names place)) (first_over files file_limit (map name_spelling names))

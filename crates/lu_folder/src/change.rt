@@ -7,10 +7,10 @@ ghost use Rattle.lu_dir.specs.Loading.{texts};
 ghost use Rattle.segment_infos.specs.LuceneNames.{IsGenerationNumber};
 ghost use Rattle.segment_infos.specs.Spelling.{commit_bytes};
 ghost use Rattle.segment_infos.specs.Values.{IsCommit};
-ghost use Rattle.lu_folder.specs.Writing.{with_files};
+ghost use Rattle.lu_folder.specs.Writing.{with_new_files};
 ghost use Rattle.lu_folder.specs.Sealing.{HasFailed};
 ghost use Rattle.lu_folder.specs.Changes.{pending_file, written, committed, IsUnmade, IsMade, IsStopped};
-ghost use Rattle.lu_folder.specs.Keeping.{IsFresh, Keeps};
+ghost use Rattle.lu_folder.specs.Keeping.{IsFreshChange, Keeps};
 
 use crate::new_file::NewFile;
 use crate::putting::{put_file, put_files};
@@ -124,7 +124,7 @@ impl Change {
 
 /// Writes the new files and the commit's own file in its pending form.
 fn write_all<D: Dir>(alloc: Global, dir: &mut D, change: &Change) -> Result<(), DirFail>
-    ensures written { OnOk result (D.files dir.new ≡ option_map (with_files (written change.now)) (D.files dir.old)) }
+    ensures written { OnOk result (D.files dir.new ≡ option_map (with_new_files (written change.now)) (D.files dir.old)) }
     ensures left { OnErr result (Leaves (IsUnmade change.now) (D.files dir.old) (D.files dir.new)) }
     ensures asked { D.asked dir.new ≡ D.asked dir.old }
     ensures cause { IsCaused (D.faults dir.old) (D.faults dir.new) (IsErrOf result DirFail.Failed) }
@@ -178,7 +178,7 @@ pub fn commit<D: Dir>(
     ensures made { result ≡ Ok None → D.files dir.new ≡ option_map (committed change.now) (D.files dir.old) }
     ensures behind { OnOk result (Leaves (IsMade change.now) (D.files dir.old) (D.files dir.new)) }
     ensures stopped { OnErr result (Leaves (IsStopped change.now) (D.files dir.old) (D.files dir.new)) }
-    ensures safe { ForSome (D.files dir.old) (λ told. IsFresh change.now told)
+    ensures safe { ForSome (D.files dir.old) (λ told. IsFreshChange change.now told)
         → Leaves (λ old new. Keeps change.now result old new) (D.files dir.old) (D.files dir.new) }
     ensures asked { D.asked dir.new ≡ D.asked dir.old }
     ensures cause { IsCaused (D.faults dir.old) (D.faults dir.new) (HasFailed result) }

@@ -8,7 +8,7 @@ ghost use Rattle.segment_infos.specs.Generations.{listed_generations};
 ghost use Rattle.segment_infos.specs.LuceneNames.{IsGenerationNumber};
 ghost use Rattle.lu_folder.specs.ChangeValues.{commit_name};
 ghost use Rattle.lu_folder.specs.Choosing.{AnswersCurrent, AnswersNewest, IsNoIndex};
-ghost use Rattle.lu_folder.specs.Looking.{Tells, Looks, IsLookFault, Walks, fault_of, first_fault};
+ghost use Rattle.lu_folder.specs.Looking.{CommitTells, Looks, IsLookFault, Walks, folder_fault_of, first_commit_fault};
 
 use crate::fault::FolderFault;
 use lu_dir::{Dir, LoadFault, load};
@@ -39,7 +39,7 @@ enum Look {
 
 /// The fault of a call that loads files of which the first that is too large has this kind.
 pub(crate) fn folder_fault(fault: LoadFault, kind: FileKind) -> FolderFault
-    ensures { result ≡ fault_of fault kind }
+    ensures { result ≡ folder_fault_of fault kind }
 {
     match fault {
         LoadFault::Failed => FolderFault::Failed,
@@ -50,7 +50,7 @@ pub(crate) fn folder_fault(fault: LoadFault, kind: FileKind) -> FolderFault
 
 /// What the bytes of a commit's file tell, where it was found.
 fn judged(alloc: Global, found: Option<&[u8]>) -> Result<Look, FolderFault>
-    ensures told { IfOk result (Tells (option_copied found.entry)) }
+    ensures told { IfOk result (CommitTells (option_copied found.entry)) }
     ensures memory { (fault : FolderFault) → result ≡ Err fault → fault ≡ FolderFault.OutOfMemory }
 {
     let Some(bytes) = found else {
@@ -125,7 +125,7 @@ fn first_good<D: Dir>(
 
 /// The first of two faults, where there is one before.
 fn first_of(first: Option<(u64, Spot)>, generation: u64, spot: Spot) -> Option<(u64, Spot)>
-    ensures { result ≡ first_fault first (generation, spot) }
+    ensures { result ≡ first_commit_fault first (generation, spot) }
 {
     match first {
         None => Some((generation, spot)),

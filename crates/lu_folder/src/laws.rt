@@ -14,23 +14,23 @@ ghost use Rattle.lu_folder.specs.declared.fault.FolderFault.{FolderFault};
 ghost use Rattle.lu_folder.specs.declared.new_file.NewFile.{NewFile};
 ghost use Rattle.lu_folder.specs.ChangeValues.{ChangeValue, commit_name};
 ghost use Rattle.lu_folder.specs.Changes.{written, IsStopped, IsMade};
-ghost use Rattle.lu_folder.specs.Keeping.{IsFresh, AreKept, AddsOnly, IsOld, IsNew, IsWholeOrSame};
+ghost use Rattle.lu_folder.specs.Keeping.{IsFreshChange, AreKept, AddsOnly, IsOld, IsNew, IsWholeOrSame};
 ghost use Rattle.lu_folder.specs.Choosing.{AnswersCurrent, AnswersNewest, IsTold};
 ghost use Rattle.lu_folder.specs.Fresh.{AreNewFiles};
-ghost use Rattle.lu_folder.specs.Numbers.{above, segment_of};
+ghost use Rattle.lu_folder.specs.Numbers.{above, segment_of_name};
 ghost use Rattle.lu_folder.specs.Drawing.{next_generation as next_generation_of, next_segment as next_segment_of, next_del as next_del_of};
 
 /// A commit that was stopped leaves every file as before, and a folder that reads as before or as the new commit.
 pub fn stopped_is_old_or_new()
     ensures { (change : ChangeValue) (old new : Files) → IsGenerationNumber change.generation → IsCommit change.commit
-        → IsFresh change old → IsStopped change old new
+        → IsFreshChange change old → IsStopped change old new
         → AddsOnly change old new × AreKept old new × (IsOld old new ⊎ IsNew change old new) }
 {}
 
 /// A commit that was made leaves a folder that reads as the new commit, whatever was removed.
 pub fn made_is_new()
     ensures { (change : ChangeValue) (old new : Files) → IsGenerationNumber change.generation → IsCommit change.commit
-        → IsFresh change old → IsMade change old new → AddsOnly change old new × IsNew change old new }
+        → IsFreshChange change old → IsMade change old new → AddsOnly change old new × IsNew change old new }
 {}
 
 /// A name that is not listed is that of no file, where the names are those of the folder.
@@ -61,11 +61,11 @@ pub fn drawn_segment_is_new()
     ensures valid { (names : List (List ℕ)) (commit : CommitValue) (number : ℕ)
         → next_segment_of names commit ≡ Some number → (number ≤ greatest_segment) × (commit.counter ≤ number) }
     ensures unlisted { (names : List (List ℕ)) (commit : CommitValue) (number : ℕ) (name : LuceneName) (segment : ℕ)
-        → next_segment_of names commit ≡ Some number → IsName name → segment_of name ≡ Some segment
+        → next_segment_of names commit ≡ Some number → IsName name → segment_of_name name ≡ Some segment
         → number ≤ segment → ¬ Contains names (name_spelling name) }
     ensures unreferred { (names : List (List ℕ)) (commit : CommitValue) (number : ℕ) (name : LuceneName) (segment : ℕ)
         → next_segment_of names commit ≡ Some number → Contains (referred_names commit) name
-        → segment_of name ≡ Some segment → segment < number }
+        → segment_of_name name ≡ Some segment → segment < number }
 {}
 
 /// The next generation of a segment's deleted documents is one, and above that of its line; no listed file of deleted documents
@@ -85,7 +85,7 @@ pub fn drawn_del_is_new()
 pub fn drawn_is_fresh()
     ensures { (files : Files) (names : List (List ℕ)) (change : ChangeValue) → IsPermutation (keys files) names
         → next_generation_of names ≡ Some change.generation → AreNewFiles names change.files
-        → ((name : List ℕ) → Contains change.removable name → Contains names name) → IsFresh change files }
+        → ((name : List ℕ) → Contains change.removable name → Contains names name) → IsFreshChange change files }
 {}
 
 /// What commits refer to stays: after an error each file that a commit refers to is as before, there or not, where no file that

@@ -5,7 +5,7 @@ ghost use Rattle.lu_dir.specs.Loading.{texts};
 ghost use Rattle.segment_infos.specs.LuceneNames.{IsName};
 ghost use Rattle.lu_folder.specs.Numbers.{above};
 ghost use Rattle.lu_folder.specs.Drawing.{line_numbers, next_generation as next_generation_of, next_segment as next_segment_of, next_del as next_del_of};
-ghost use Rattle.lu_folder.specs.Counting.{number_of as number_counted, number_in as number_counted_in, drawn as number_drawn};
+ghost use Rattle.lu_folder.specs.Counting.{counted_number as number_counted, counted_number_in as number_counted_in, drawn as number_drawn};
 
 use lu_types::GREATEST_SEGMENT;
 use segment_infos::{Commit, LuceneName, SegInfo, name_value};
@@ -25,7 +25,7 @@ enum Counted {
 }
 
 /// The number of a name that counts.
-fn number_of(counted: Counted, name: LuceneName) -> Option<u64>
+fn counted_number(counted: Counted, name: LuceneName) -> Option<u64>
     requires { IsName name }
     ensures number { result ≡ number_counted counted name }
     ensures bound { IfSome result (λ number. number < 2 ^ 63) }
@@ -49,13 +49,13 @@ fn number_of(counted: Counted, name: LuceneName) -> Option<u64>
 }
 
 /// The number of a text that counts, where it is a name.
-fn number_in(counted: Counted, text: &str) -> Option<u64>
+fn counted_number_in(counted: Counted, text: &str) -> Option<u64>
     ensures number { result ≡ number_counted_in counted text.now }
     ensures bound { IfSome result (λ number. number < 2 ^ 63) }
 {
     match name_value(text) {
         None => None,
-        Some(name) => number_of(counted, name),
+        Some(name) => counted_number(counted, name),
     }
 }
 
@@ -67,7 +67,7 @@ fn drawn(counted: Counted, least: u64, names: &[String]) -> u64
 {
     let mut number = least;
     for name in names {
-        if let Some(used) = number_in(counted, name.as_str()) {
+        if let Some(used) = counted_number_in(counted, name.as_str()) {
             number = number.max(used + 1);
         }
     }

@@ -2,7 +2,7 @@
 ghost use Rattle.std.specs.Prelude.{◌≡◌, option_map, OnOk, OnErr, IsErrOf};
 ghost use Rattle.lu_dir.specs.Faults.{IsCaused};
 ghost use Rattle.lu_dir.specs.Files.{with_file, CreateLeaves, Leaves};
-ghost use Rattle.lu_folder.specs.Writing.{with_files, WritesOnly};
+ghost use Rattle.lu_folder.specs.Writing.{with_new_files, WritesOnly};
 
 use crate::new_file::NewFile;
 use lu_dir::{Dir, DirFail};
@@ -33,7 +33,7 @@ pub fn put_file<D: Dir>(alloc: Global, dir: &mut D, file: &NewFile) -> Result<()
 /// the later one is put last.
 pub fn put_files<D: Dir>(alloc: Global, dir: &mut D, files: &[NewFile]) -> Result<(), DirFail>
     ensures made { OnOk result
-        (D.files dir.new ≡ option_map (with_files files.now) (D.files dir.old)) }
+        (D.files dir.new ≡ option_map (with_new_files files.now) (D.files dir.old)) }
     ensures left { OnErr result
         (Leaves (WritesOnly files.now) (D.files dir.old) (D.files dir.new)) }
     ensures asked { D.asked dir.new ≡ D.asked dir.old }

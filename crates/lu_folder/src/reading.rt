@@ -9,7 +9,7 @@ ghost use Rattle.segment_infos.specs.LuceneNames.{IsName, name_spelling};
 ghost use Rattle.segment_infos.specs.Referring.{del_names, sep_names_from, norm_names};
 ghost use Rattle.segment_infos.specs.Values.{IsLine};
 ghost use Rattle.lu_folder.specs.Limits.{file_limit};
-ghost use Rattle.lu_folder.specs.Reading.{own_part as own_part_of, packed_store as packed_store_of, document_part as document_part_of, holder as holder_of, parts_read, read_names as names_read, kind_of as kind_named, first_too_large};
+ghost use Rattle.lu_folder.specs.Reading.{own_part as own_part_of, packed_store as packed_store_of, document_part as document_part_of, holder as holder_of, parts_read, read_names as names_read, kind_of_name as kind_named, first_too_large};
 
 use crate::choosing::FILE_LIMIT;
 use crate::fault::FolderFault;
@@ -189,7 +189,7 @@ fn spellings(alloc: Global, names: &[LuceneName]) -> Result<Vec<String>, OutOfMe
 }
 
 /// The kind of the file that a name names.
-fn kind_of(name: LuceneName) -> FileKind
+fn kind_of_name(name: LuceneName) -> FileKind
     ensures { result ≡ kind_named name }
 {
     match name {
@@ -232,7 +232,7 @@ pub fn read_segment<D: Dir>(
     match load(alloc, dir, &spelled, FILE_LIMIT) {
         Ok(loaded) => Ok(loaded),
         Err(LoadFault::TooLarge(place)) => {
-            Err(FolderFault::FileTooLarge(kind_of(names[place as usize])))
+            Err(FolderFault::FileTooLarge(kind_of_name(names[place as usize])))
         }
         Err(LoadFault::Failed) => Err(FolderFault::Failed),
         Err(LoadFault::OutOfMemory) => Err(FolderFault::OutOfMemory),

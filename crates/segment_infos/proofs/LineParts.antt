@@ -18,7 +18,7 @@ use Rattle.lu_types.specs.Names.{greatest_segment, segment_name}
 use Rattle.segment_infos.specs.declared.infos.MapPair.{MapPair}
 use Rattle.segment_infos.specs.declared.infos.SegInfo.{SegInfo}
 use Rattle.segment_infos.specs.declared.record.TheConstants.{MOST_DOCUMENTS, PACKED, NOT_PACKED}
-use Rattle.segment_infos.specs.declared.record.StorePart.{StorePart}
+use Rattle.segment_infos.specs.declared.record.SharedStorePart.{SharedStorePart}
 use Rattle.segment_infos.specs.declared.record.FrontPart.{FrontPart}
 use Rattle.segment_infos.specs.declared.record.NormPart.{NormPart}
 use Rattle.segment_infos.specs.declared.record.FlagPart.{FlagPart}
@@ -37,7 +37,7 @@ abbrev pub offset_in : Option SharedStore → ℤ
 offset_in None = negsuc 0
 offset_in (Some s) = pos s.offset
 
-abbrev pub store_in : Option SharedStore → Option StorePart
+abbrev pub store_in : Option SharedStore → Option SharedStorePart
 store_in None = None
 store_in (Some s) = Some (record { name = segment_name s.number; flag = cond s.compound PACKED 0 })
 
@@ -141,7 +141,7 @@ flag-spells s few most = (
     is_bit true = omega arith
     is_bit false = omega arith
 
-store-spells : (store : Option SharedStore) → IsStore store → (next : ℤ → Option StorePart → FrontPart)
+store-spells : (store : Option SharedStore) → IsStore store → (next : ℤ → Option SharedStorePart → FrontPart)
     → Spells (part int32 (λ offset. followed (store_if (not (is_none_number offset))) (λ st. whole (next offset st)))) (next (offset_in store) (store_in store)) (store_bytes store)
 store-spells None is next = (negsuc 0, [], none-fits, sym (append-nil (spelling int32 (negsuc 0))), (refl, refl))
 store-spells (Some s) is next = (

@@ -9,7 +9,7 @@ use Rattle.lu_types.specs.RuleNumbers as rules
 use Rattle.lu_types.specs.Names.{greatest_segment, segment_name}
 use Rattle.segment_infos.specs.declared.infos.SegInfo.{SegInfo}
 use Rattle.segment_infos.specs.declared.record.TheConstants.{MOST_DOCUMENTS, PACKED}
-use Rattle.segment_infos.specs.declared.record.StorePart.{StorePart}
+use Rattle.segment_infos.specs.declared.record.SharedStorePart.{SharedStorePart}
 use Rattle.segment_infos.specs.declared.record.FrontPart.{FrontPart}
 use Rattle.segment_infos.specs.Numbers.{is_negative, is_below_none, is_none_number, is_no_generation, count_of, given, number_or_none, number_in}
 use Rattle.segment_infos.specs.Values.{IsGeneration, IsStore, total_size}
@@ -48,13 +48,13 @@ same_pack flag h =
       | inr other ↦ let not_one : flag ≡ PACKED → ⊥ = eqb-false flag PACKED other in rw other (omega arith)
     ]
 
-pub record IsStorePart (offset : ℤ) (store : Option StorePart) (a : List ℕ) : Type 0 where
+pub record IsStorePart (offset : ℤ) (store : Option SharedStorePart) (a : List ℕ) : Type 0 where
   pub is : IsStore (store_of offset store)
   pub spelled : spelling int32 offset ++ a ≡ store_bytes (store_of offset store)
 
-store-there : (n : ℕ) (store : Option StorePart) (a : List ℕ) → FitsSigned w32 (pos n) → Spells (store_if true) store a → has_other_store store ≡ false → has_other_flag store ≡ false → IsStorePart (pos n) store a
+store-there : (n : ℕ) (store : Option SharedStorePart) (a : List ℕ) → FitsSigned w32 (pos n) → Spells (store_if true) store a → has_other_store store ≡ false → has_other_flag store ≡ false → IsStorePart (pos n) store a
 store-there n store a fits (name, b, text_fits, is, (flag, c, byte_fits, is_2, (made, none))) good_name good_flag =
-    subst (λ (s : Option StorePart). has_other_store s ≡ false → has_other_flag s ≡ false → IsStorePart (pos n) s a) made (λ has_name has_flag.
+    subst (λ (s : Option SharedStorePart). has_other_store s ≡ false → has_other_flag s ≡ false → IsStorePart (pos n) s a) made (λ has_name has_flag.
     let number = named name has_name in
     let bytes : a ≡ spelling text name ++ spelling byte flag = is ∙ ap (λ (t : List ℕ). spelling text name ++ t) (is_2 ∙ ap (λ (t : List ℕ). spelling byte flag ++ t) none ∙ append-nil (spelling byte flag)) in
     record {
@@ -64,12 +64,12 @@ store-there n store a fits (name, b, text_fits, is, (flag, c, byte_fits, is_2, (
           ∙ ap (λ (k : ℕ). spelling text (segment_name (unwrap_or (number_in name) 0)) ++ spelling byte k) (sym (same_pack flag has_flag)));
     }) good_name good_flag
 
-store-absent : (offset : ℤ) (store : Option StorePart) (a : List ℕ) → offset ≡ negsuc 0 → Spells (store_if false) store a → IsStorePart offset store a
+store-absent : (offset : ℤ) (store : Option SharedStorePart) (a : List ℕ) → offset ≡ negsuc 0 → Spells (store_if false) store a → IsStorePart offset store a
 store-absent offset store a is_none_offset (made, none) =
-    subst (λ (s : Option StorePart). IsStorePart offset s a) made
+    subst (λ (s : Option SharedStorePart). IsStorePart offset s a) made
     (record { is = tt; spelled = ap (λ (t : List ℕ). spelling int32 offset ++ t) none ∙ append-nil (spelling int32 offset) ∙ ap (spelling int32) is_none_offset })
 
-pub store-is : (offset : ℤ) (store : Option StorePart) (a : List ℕ) → FitsSigned w32 offset → Spells (store_if (not (is_none_number offset))) store a → is_below_none offset ≡ false → has_other_store store ≡ false → has_other_flag store ≡ false
+pub store-is : (offset : ℤ) (store : Option SharedStorePart) (a : List ℕ) → FitsSigned w32 offset → Spells (store_if (not (is_none_number offset))) store a → is_below_none offset ≡ false → has_other_store store ≡ false → has_other_flag store ≡ false
     → IsStorePart offset store a
 store-is (pos n) store a fits spells good good_name good_flag = store-there n store a fits spells good_name good_flag
 store-is (negsuc n) store a fits spells good good_name good_flag =
@@ -89,7 +89,7 @@ pub record IsFrontPart (f : FrontPart) (a : List ℕ) : Type 0 where
 pub front-is : (segments : List SegInfo) (f : FrontPart) (a : List ℕ) → Spells front_shape f a → first_broken (name_conditions segments f) ≡ None → first_broken (size_conditions segments f) ≡ None → first_broken (store_conditions f) ≡ None
     → IsFrontPart f a
 front-is segments f a (name, b, fits, is, (size, c, fits_2, is_2, (del_gen, d, fits_3, is_3, (offset, e, fits_4, is_4, spells)))) names sizes stores =
-    let next = λ (store : Option StorePart). whole (let made : FrontPart = record { name = name; size = size; del_gen = del_gen; offset = offset; store = store } in made) in
+    let next = λ (store : Option SharedStorePart). whole (let made : FrontPart = record { name = name; size = size; del_gen = del_gen; offset = offset; store = store } in made) in
     let then = followed-spelled (store_if (not (is_none_number offset))) next f e spells in
     let made : record { name = name; size = size; del_gen = del_gen; offset = offset; store = then.it } ≡ f = then.second.0 in
     let bytes : a ≡ spelling text name ++ (spelling int32 size ++ (spelling int64 del_gen ++ (spelling int32 offset ++ then.bytes))) =
@@ -97,7 +97,7 @@ front-is segments f a (name, b, fits, is, (size, c, fits_2, is_2, (del_gen, d, f
     subst (λ (g : FrontPart). first_broken (name_conditions segments g) ≡ None → first_broken (size_conditions segments g) ≡ None → first_broken (store_conditions g) ≡ None → IsFrontPart g a) made
     (go then.it then.bytes then.first bytes) names sizes stores
   where
-    go : (store : Option StorePart) (bs : List ℕ) → Spells (store_if (not (is_none_number offset))) store bs → a ≡ spelling text name ++ (spelling int32 size ++ (spelling int64 del_gen ++ (spelling int32 offset ++ bs)))
+    go : (store : Option SharedStorePart) (bs : List ℕ) → Spells (store_if (not (is_none_number offset))) store bs → a ≡ spelling text name ++ (spelling int32 size ++ (spelling int64 del_gen ++ (spelling int32 offset ++ bs)))
         → (let g : FrontPart = record { name = name; size = size; del_gen = del_gen; offset = offset; store = store } in first_broken (name_conditions segments g) ≡ None → first_broken (size_conditions segments g) ≡ None → first_broken (store_conditions g) ≡ None → IsFrontPart g a)
     go store bs spelled bytes names sizes stores =
         let g : FrontPart = record { name = name; size = size; del_gen = del_gen; offset = offset; store = store } in

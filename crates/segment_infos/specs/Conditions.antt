@@ -8,7 +8,7 @@ use Rattle.lu_prims.specs.Checksum.{checksum}
 use Rattle.segment_infos.specs.declared.infos.SegInfo.{SegInfo}
 use Rattle.segment_infos.specs.declared.record.TheConstants.{FORMAT_NUMBER, MOST_DOCUMENTS, PACKED, NOT_PACKED}
 use Rattle.segment_infos.specs.declared.record.Heading.{Heading}
-use Rattle.segment_infos.specs.declared.record.StorePart.{StorePart}
+use Rattle.segment_infos.specs.declared.record.SharedStorePart.{SharedStorePart}
 use Rattle.segment_infos.specs.declared.record.FrontPart.{FrontPart}
 use Rattle.segment_infos.specs.declared.record.NormPart.{NormPart}
 use Rattle.segment_infos.specs.declared.record.FlagPart.{FlagPart}
@@ -44,12 +44,12 @@ abbrev pub is_no_size : ℤ → Bool
 is_no_size size = is_negative size || nat_lt MOST_DOCUMENTS (count_of size)
 
 -- the store is there, and its name is no segment name
-abbrev pub has_other_store : Option StorePart → Bool
+abbrev pub has_other_store : Option SharedStorePart → Bool
 has_other_store None = false
 has_other_store (Some store) = is_none (number_in store.name)
 
 -- the store is there, and its flag is neither 0 nor 1
-abbrev pub has_other_flag : Option StorePart → Bool
+abbrev pub has_other_flag : Option SharedStorePart → Bool
 has_other_flag None = false
 has_other_flag (Some store) = nat_lt PACKED store.flag
 

@@ -6,7 +6,7 @@ use Rattle.lu_grammar.specs.Plans.{Plan, done, due, and_then, Kind, times}
 use Rattle.segment_infos.specs.declared.infos.SegInfo.{SegInfo}
 use Rattle.segment_infos.specs.declared.record.TheConstants.{PACKED}
 use Rattle.segment_infos.specs.declared.record.Heading.{Heading}
-use Rattle.segment_infos.specs.declared.record.StorePart.{StorePart}
+use Rattle.segment_infos.specs.declared.record.SharedStorePart.{SharedStorePart}
 use Rattle.segment_infos.specs.declared.record.NormPart.{NormPart}
 use Rattle.segment_infos.specs.declared.record.Line.{Line}
 use Rattle.segment_infos.specs.Numbers.{is_negative, count_of, given, number_in}
@@ -17,7 +17,7 @@ use Rattle.segment_infos.specs.Conditions.{heading_conditions, line_conditions, 
 -- ---- what a good line says
 
 -- the store from its place on
-abbrev pub store_of : ℤ → Option StorePart → Option SharedStore
+abbrev pub store_of : ℤ → Option SharedStorePart → Option SharedStore
 store_of offset None = None
 store_of offset (Some store) = Some (record { offset = count_of offset; number = unwrap_or (number_in store.name) 0; compound = store.flag == PACKED })
 

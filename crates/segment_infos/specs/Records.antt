@@ -4,7 +4,7 @@ use Rattle.lu_grammar.specs.Parts.{byte, int32, int64, text}
 use Rattle.lu_grammar.specs.Records.{Shape, whole, part, followed, optional, repeated}
 use Rattle.segment_infos.specs.declared.infos.MapPair.{MapPair}
 use Rattle.segment_infos.specs.declared.record.Heading.{Heading}
-use Rattle.segment_infos.specs.declared.record.StorePart.{StorePart}
+use Rattle.segment_infos.specs.declared.record.SharedStorePart.{SharedStorePart}
 use Rattle.segment_infos.specs.declared.record.FrontPart.{FrontPart}
 use Rattle.segment_infos.specs.declared.record.NormPart.{NormPart}
 use Rattle.segment_infos.specs.declared.record.FlagPart.{FlagPart}
@@ -28,11 +28,11 @@ abbrev pub heading_shape : Shape Heading
 heading_shape = part int32 (λ format. part int64 (λ version. part int32 (λ counter. part int32 (λ count. whole (record { format = format; version = version; counter = counter; count = count })))))
 
 -- DocStoreSegment and DocStoreIsCompoundFile
-abbrev pub store_shape : Shape StorePart
+abbrev pub store_shape : Shape SharedStorePart
 store_shape = part text (λ name. part byte (λ flag. whole (record { name = name; flag = flag })))
 
 -- the store where it is there
-abbrev pub store_if : Bool → Shape (Option StorePart)
+abbrev pub store_if : Bool → Shape (Option SharedStorePart)
 store_if there = optional there store_shape (λ store. whole store)
 
 -- SegName, SegSize, DelGen and DocStoreOffset, and where that is not -1 the store

@@ -12,7 +12,7 @@ use crate::numbers::{
 };
 use crate::record::{
     FORMAT_NUMBER, FlagPart, FrontPart, Heading, Line, MOST_DOCUMENTS, MapPart, NOT_PACKED,
-    NormPart, PACKED, StorePart,
+    NormPart, PACKED, SharedStorePart,
 };
 use crate::taking::Taking;
 use lu_types::rules::{
@@ -83,7 +83,7 @@ fn size_broken(front: &FrontPart<'_>, taking: &Taking) -> Option<u16>
 }
 
 /// Whether a store is there whose name is no segment name.
-fn has_other_store(store: &Option<StorePart<'_>>) -> bool
+fn has_other_store(store: &Option<SharedStorePart<'_>>) -> bool
     ensures { result ≡ has_other_store store.now }
 {
     match store {
@@ -93,7 +93,7 @@ fn has_other_store(store: &Option<StorePart<'_>>) -> bool
 }
 
 /// Whether a store is there whose flag is neither 0 nor 1.
-fn has_other_flag(store: &Option<StorePart<'_>>) -> bool
+fn has_other_flag(store: &Option<SharedStorePart<'_>>) -> bool
     ensures { result ≡ has_other_flag store.now }
 {
     match store {

@@ -10,7 +10,7 @@ ghost use Rattle.segment_infos.specs.Answers.{GivesOr};
 use crate::infos::MapPair;
 use crate::lists::{NormGens, Pairs};
 use crate::numbers::{count_of, is_none_number};
-use crate::record::{FlagPart, FrontPart, Heading, Lent, Line, MapPart, NormPart, StorePart};
+use crate::record::{FlagPart, FrontPart, Heading, Lent, Line, MapPart, NormPart, SharedStorePart};
 use crate::stop::Stop;
 use lu_prims::{Bad, Cur};
 use lu_types::Text;
@@ -33,19 +33,19 @@ pub fn heading_parts(cur: &mut Cur<'_>) -> Result<Heading, Bad>
 }
 
 /// The shared store of a segment.
-fn store_parts<'a>(cur: &mut Cur<'a>) -> Result<StorePart<'a>, Bad>
+fn store_parts<'a>(cur: &mut Cur<'a>) -> Result<SharedStorePart<'a>, Bad>
     ensures { Gives (λ x. x) (read_shape store_shape cur.old) cur.new result }
 {
     let name = cur.text()?;
     let flag = cur.u8()?;
-    Ok(StorePart {
+    Ok(SharedStorePart {
         name: Lent::new(name),
         flag,
     })
 }
 
 /// The shared store where it is there.
-fn store_if<'a>(cur: &mut Cur<'a>, there: bool) -> Result<Option<StorePart<'a>>, Bad>
+fn store_if<'a>(cur: &mut Cur<'a>, there: bool) -> Result<Option<SharedStorePart<'a>>, Bad>
     ensures { Gives (λ x. x) (read_shape (store_if there) cur.old) cur.new result }
 {
     if there {

@@ -57,7 +57,7 @@ pub struct Heading {
 
 /// The shared store of a segment.
 #[derive(Drop)]
-pub struct StorePart<'a> {
+pub struct SharedStorePart<'a> {
     pub name: Lent<'a>,
     pub flag: u8,
 }
@@ -69,7 +69,7 @@ pub struct FrontPart<'a> {
     pub size: i32,
     pub del_gen: i64,
     pub offset: i32,
-    pub store: Option<StorePart<'a>>,
+    pub store: Option<SharedStorePart<'a>>,
 }
 
 /// What is said of its norms.

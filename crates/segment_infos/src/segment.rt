@@ -6,7 +6,7 @@ ghost use Rattle.segment_infos.specs.Format.{store_of, norm_gens_of, segment_of}
 use crate::infos::SegInfo;
 use crate::lists::NormGens;
 use crate::numbers::{count_of, given, is_negative, number_in};
-use crate::record::{Line, NormPart, PACKED, StorePart};
+use crate::record::{Line, NormPart, PACKED, SharedStorePart};
 use lu_types::SharedStore;
 
 /// The number that a name spells, and 0 where it is no segment name.
@@ -17,7 +17,7 @@ fn number_or_zero(name: &str) -> u32
 }
 
 /// The shared store from its place on.
-fn store(offset: i32, store: Option<StorePart<'_>>) -> Option<SharedStore>
+fn store(offset: i32, store: Option<SharedStorePart<'_>>) -> Option<SharedStore>
     ensures { result ≡ store_of offset store.entry }
 {
     match store {

@@ -9,7 +9,7 @@ use Rattle.lu_types.specs.declared.term.TermNumbers.{TermNumbers}
 use Rattle.term_dict.specs.Headings.{heading_shape, heading_conditions, numbers_of, Line, heading, entry, heading_of, on_entry}
 use Rattle.term_dict.specs.Entries.{TermRecord, entry_shape}
 use Rattle.term_dict.specs.Terms.{DictionaryTerm, last_term, term_after}
-use Rattle.term_dict.specs.Dictionary.{Standing, Progress, term_conditions, term_kind}
+use Rattle.term_dict.specs.Dictionary.{TermConditions, Progress, term_conditions, term_kind}
 use Rattle.term_dict.specs.Last.{IsSoundTerm}
 use Rattle.term_dict.specs.Checks.{AreBounded, IsHeader, IsNextTerm, record_of}
 use Rattle.term_dict.proofs.LineLemmas.{line_at-good, line_at-broken, line_at-unread}
@@ -28,19 +28,19 @@ pub header-unread : (old new : Cursor) (bad : Bad) (rule : ℕ) → read_shape h
 header-unread old new bad rule e is = line_at-unread heading_shape heading header_rules old bad e ∙ ap (λ (n : ℕ). Err n) (sym is)
 
 -- an entry that was read, and what was found against it
-next-read : (standing : Standing) (interval : ℕ) (s : Progress) (old new : Cursor) (e : TermRecord) (last : DictionaryTerm) (o : Option ℕ) → read_shape (entry_shape false interval) old ≡ Ok (e, new)
+next-read : (standing : TermConditions) (interval : ℕ) (s : Progress) (old new : Cursor) (e : TermRecord) (last : DictionaryTerm) (o : Option ℕ) → read_shape (entry_shape false interval) old ≡ Ok (e, new)
     → o ≡ first_broken (term_conditions standing s.terms e) → (o ≡ None → last ≡ term_after (last_term s.terms) e) → IsNextTerm standing interval s old new last o
 next-read standing interval s old new e last None read is good =
     (e, line_at-good (entry_shape false interval) entry (λ line. on_entry [] (term_conditions standing s.terms) line) old e new read (sym is), good refl)
 next-read standing interval s old new e last (Some rule) read is good =
     line_at-broken (entry_shape false interval) entry (λ line. on_entry [] (term_conditions standing s.terms) line) old e new rule read (sym is)
 
-pub next-judged : {E : Type 0} (standing : Standing) (interval : ℕ) (s : Progress) (old new : Cursor) (e : TermRecord) (before last : DictionaryTerm) (r : Result (Option ℕ) E) → read_shape (entry_shape false interval) old ≡ Ok (e, new)
+pub next-judged : {E : Type 0} (standing : TermConditions) (interval : ℕ) (s : Progress) (old new : Cursor) (e : TermRecord) (before last : DictionaryTerm) (r : Result (Option ℕ) E) → read_shape (entry_shape false interval) old ≡ Ok (e, new)
     → last_term s.terms ≡ before → IfOk r (λ o. o ≡ first_broken (term_conditions standing s.terms e)) → IfOk r (λ o. o ≡ None → (last ≡ term_after before e) × IsSoundTerm last) → IfOk r (IsNextTerm standing interval s old new last)
 next-judged standing interval s old new e before last (Ok o) read is judged good = next-read standing interval s old new e last o read judged (λ none. (good none).0 ∙ ap (λ (t : DictionaryTerm). term_after t e) (sym is))
 next-judged standing interval s old new e before last (Err x) read is judged good = tt
 
-pub next-unread : (standing : Standing) (interval : ℕ) (s : Progress) (old : Cursor) (bad : Bad) (rule : ℕ) → read_shape (entry_shape false interval) old ≡ Err bad → rule ≡ rule_of bad
+pub next-unread : (standing : TermConditions) (interval : ℕ) (s : Progress) (old : Cursor) (bad : Bad) (rule : ℕ) → read_shape (entry_shape false interval) old ≡ Err bad → rule ≡ rule_of bad
     → record_of (term_kind standing interval) s old ≡ Err rule
 next-unread standing interval s old bad rule e is =
     line_at-unread (entry_shape false interval) entry (λ line. on_entry [] (term_conditions standing s.terms) line) old bad e ∙ ap (λ (n : ℕ). Err n) (sym is)

@@ -11,24 +11,24 @@ use Rattle.lu_grammar.specs.Records.{Condition, first_broken}
 use Rattle.lu_types.specs.Tables.{TableField}
 use Rattle.term_dict.specs.Entries.{TermRecord}
 use Rattle.term_dict.specs.Terms.{DictionaryTerm, last_term, term_after, is_above, bytes_cmp, field_of}
-use Rattle.term_dict.specs.Dictionary.{Standing, term_place_conditions, against, term_conditions}
+use Rattle.term_dict.specs.Dictionary.{TermConditions, term_place_conditions, against, term_conditions}
 use Rattle.term_dict.proofs.OrderLemmas.{text_cmp-tail}
 
 -- a term whose text stands is judged by its segment and its places
-pub against-text : (standing : Standing) (before : List DictionaryTerm) (e : TermRecord) (t : DictionaryTerm) → e.prefix ≤ length (last_term before).text → is_utf8 t.text ≡ true
+pub against-text : (standing : TermConditions) (before : List DictionaryTerm) (e : TermRecord) (t : DictionaryTerm) → e.prefix ≤ length (last_term before).text → is_utf8 t.text ≡ true
     → first_broken (against standing before e t) ≡ first_broken (standing before t ++ term_place_conditions t)
 against-text standing before e t fits valid =
     let f : ltb (length (last_term before).text) e.prefix ≡ false = le-ltb _ _ fits in
     rw (f, valid) refl
 
 -- the term of the entry after this one
-pub standing-broken : (standing : Standing) (before : List DictionaryTerm) (e : TermRecord) (last : DictionaryTerm) (rule : ℕ) → last_term before ≡ last → e.prefix ≤ length last.text → is_utf8 (term_after last e).text ≡ true
+pub standing-broken : (standing : TermConditions) (before : List DictionaryTerm) (e : TermRecord) (last : DictionaryTerm) (rule : ℕ) → last_term before ≡ last → e.prefix ≤ length last.text → is_utf8 (term_after last e).text ≡ true
     → first_broken (standing before (term_after last e)) ≡ Some rule → first_broken (term_conditions standing before e) ≡ Some rule
 standing-broken standing before e last rule is =
     subst (λ (l : DictionaryTerm). e.prefix ≤ length l.text → is_utf8 (term_after l e).text ≡ true → first_broken (standing before (term_after l e)) ≡ Some rule → first_broken (term_conditions standing before e) ≡ Some rule) is
     (λ fits valid broken. against-text standing before e (term_after (last_term before) e) fits valid ∙ first_broken-front (standing before (term_after (last_term before) e)) (term_place_conditions (term_after (last_term before) e)) rule broken)
 
-pub standing-good : (standing : Standing) (before : List DictionaryTerm) (e : TermRecord) (last : DictionaryTerm) → last_term before ≡ last → e.prefix ≤ length last.text → is_utf8 (term_after last e).text ≡ true
+pub standing-good : (standing : TermConditions) (before : List DictionaryTerm) (e : TermRecord) (last : DictionaryTerm) → last_term before ≡ last → e.prefix ≤ length last.text → is_utf8 (term_after last e).text ≡ true
     → first_broken (standing before (term_after last e)) ≡ None → first_broken (term_conditions standing before e) ≡ first_broken (term_place_conditions (term_after last e))
 standing-good standing before e last is =
     subst (λ (l : DictionaryTerm). e.prefix ≤ length l.text → is_utf8 (term_after l e).text ≡ true → first_broken (standing before (term_after l e)) ≡ None → first_broken (term_conditions standing before e) ≡ first_broken (term_place_conditions (term_after l e))) is

@@ -21,7 +21,7 @@ use Rattle.lu_types.specs.declared.term.TermNumbers.{TermNumbers}
 use Rattle.term_dict.specs.Headings.{heading_shape, header, heading_conditions, numbers_of, Line, heading, entry, heading_of, on_entry}
 use Rattle.term_dict.specs.Entries.{TermRecord, entry_shape}
 use Rattle.term_dict.specs.Terms.{DictionaryTerm, last_term, term_after}
-use Rattle.term_dict.specs.Dictionary.{Dictionary, Standing, anywhere, Progress, no_terms, with_term, term_conditions, term_kind, terms_plan, dictionary_plan}
+use Rattle.term_dict.specs.Dictionary.{Dictionary, TermConditions, anywhere, Progress, no_terms, with_term, term_conditions, term_kind, terms_plan, dictionary_plan}
 use Rattle.term_dict.specs.Content.{dictionary_in, IsRead}
 use Rattle.term_dict.proofs.FileLemmas.{record_at-was, dictionary_of, finish, inner}
 
@@ -62,12 +62,12 @@ entry-read interval c line d e =
     (x.0.0, x.1 ∙ ap (λ (f : Cursor). ok_pair x.0.0 f) same.1, sym same.0)
 
 -- a good line is a good entry
-pub record IsGoodEntry (standing : Standing) (interval : ℕ) (s : Progress) (c : Cursor) (e : TermRecord) (d : Cursor) : Type 0 where
+pub record IsGoodEntry (standing : TermConditions) (interval : ℕ) (s : Progress) (c : Cursor) (e : TermRecord) (d : Cursor) : Type 0 where
   pub read : read_shape (entry_shape false interval) c ≡ ok_pair e d
   pub good : first_broken (term_conditions standing s.terms e) ≡ None
   pub whole_record : record_at ((term_kind standing interval).shape s) ((term_kind standing interval).conditions s c.place) c ≡ ok_pair (entry e) d
 
-pub good_entry : (standing : Standing) (interval : ℕ) (s : Progress) (c : Cursor) (line : Line TermRecord) (d : Cursor) → record_at ((term_kind standing interval).shape s) ((term_kind standing interval).conditions s c.place) c ≡ ok_pair line d
+pub good_entry : (standing : TermConditions) (interval : ℕ) (s : Progress) (c : Cursor) (line : Line TermRecord) (d : Cursor) → record_at ((term_kind standing interval).shape s) ((term_kind standing interval).conditions s c.place) c ≡ ok_pair line d
     → (e : TermRecord) × IsGoodEntry standing interval s c e d × (line ≡ entry e)
 good_entry standing interval s c line d e =
     let was = record_at-was ((term_kind standing interval).shape s) ((term_kind standing interval).conditions s c.place) c line d e in
@@ -81,7 +81,7 @@ good_entry standing interval s c line d e =
       x.2,
     )
 
-pub grows : (standing : Standing) (interval n : ℕ) (s : Progress) (c : Cursor) (z : Progress × Cursor) → read_plan (times (term_kind standing interval) n s) c ≡ ok_of z → Grows s z.0 n
+pub grows : (standing : TermConditions) (interval n : ℕ) (s : Progress) (c : Cursor) (z : Progress × Cursor) → read_plan (times (term_kind standing interval) n s) c ≡ ok_of z → Grows s z.0 n
 unfolding each read_plan
 grows standing interval zero s c z e =
     let same : (s, c) ≡ z = inner (s, c) z e in

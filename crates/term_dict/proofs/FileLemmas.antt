@@ -20,19 +20,19 @@ use Rattle.lu_types.specs.declared.term.TermNumbers.{TermNumbers}
 use Rattle.term_dict.specs.Headings.{header, heading_conditions, numbers_of, Line, heading, entry, heading_of, on_entry}
 use Rattle.term_dict.specs.Entries.{TermRecord}
 use Rattle.term_dict.specs.Terms.{DictionaryTerm, last_term, term_after}
-use Rattle.term_dict.specs.Dictionary.{Dictionary, Standing, anywhere, Progress, no_terms, term_place_conditions, against, term_conditions, term_kind, terms_plan, dictionary_plan}
+use Rattle.term_dict.specs.Dictionary.{Dictionary, TermConditions, anywhere, Progress, no_terms, term_place_conditions, against, term_conditions, term_kind, terms_plan, dictionary_plan}
 use Rattle.term_dict.specs.Checks.{IsHeader}
 use Rattle.lu_types.specs.Judging.{IsBrokenSo, IsFault}
 use Rattle.term_dict.specs.Content.{dictionary_in, no_dictionary}
 
 -- ---- from the parts of a file to the whole
 
-pub header-good : (standing : Standing) (size : ℕ) (c d : Cursor) (numbers : TermNumbers) → IsHeader c d (Ok numbers) → read_plan (dictionary_plan standing size) c ≡ read_plan (terms_plan standing size numbers) d
+pub header-good : (standing : TermConditions) (size : ℕ) (c d : Cursor) (numbers : TermNumbers) → IsHeader c d (Ok numbers) → read_plan (dictionary_plan standing size) c ≡ read_plan (terms_plan standing size numbers) d
 header-good standing size c d numbers (h, read, is, bounded) =
     read_due header (λ place line. heading_conditions (heading_of line)) (λ place line. terms_plan standing size (numbers_of (heading_of line))) c (heading h) d read
     ∙ ap (λ (n : TermNumbers). read_plan (terms_plan standing size n) d) (sym is)
 
-pub header-broken : (standing : Standing) (size : ℕ) (c d : Cursor) (rule : ℕ) → IsHeader c d (Err rule) → read_plan (dictionary_plan standing size) c ≡ Err (record { offset = c.place; rule = rule })
+pub header-broken : (standing : TermConditions) (size : ℕ) (c d : Cursor) (rule : ℕ) → IsHeader c d (Err rule) → read_plan (dictionary_plan standing size) c ≡ Err (record { offset = c.place; rule = rule })
 header-broken standing size c d rule broken =
     read_due_broken header (λ place line. heading_conditions (heading_of line)) (λ place line. terms_plan standing size (numbers_of (heading_of line))) c rule broken
 
@@ -44,14 +44,14 @@ dictionary_of numbers size s = record { numbers = numbers; terms = s.terms; star
 abbrev pub finish : TermNumbers → ℕ → Progress → Plan Dictionary (Line TermRecord)
 finish numbers size s = done (dictionary_of numbers size s)
 
-pub terms-read : (standing : Standing) (size : ℕ) (numbers : TermNumbers) (c d : Cursor) (s : Progress) → read_plan (times (term_kind standing numbers.skip_interval) numbers.count no_terms) c ≡ Ok (s, d)
+pub terms-read : (standing : TermConditions) (size : ℕ) (numbers : TermNumbers) (c d : Cursor) (s : Progress) → read_plan (times (term_kind standing numbers.skip_interval) numbers.count no_terms) c ≡ Ok (s, d)
     → read_plan (terms_plan standing size numbers) c ≡ Ok (dictionary_of numbers size s, d)
 unfolding read_plan
 terms-read standing size numbers c d s read =
     read_plan-and_then (times (term_kind standing numbers.skip_interval) numbers.count no_terms) (finish numbers size) c
     ∙ ap (λ (r : Result (Progress × Cursor) Broken). r >>= λ x. read_plan (finish numbers size x.0) x.1) read
 
-pub terms-broken : (standing : Standing) (size : ℕ) (numbers : TermNumbers) (c : Cursor) (b : Broken) → read_plan (times (term_kind standing numbers.skip_interval) numbers.count no_terms) c ≡ Err b
+pub terms-broken : (standing : TermConditions) (size : ℕ) (numbers : TermNumbers) (c : Cursor) (b : Broken) → read_plan (times (term_kind standing numbers.skip_interval) numbers.count no_terms) c ≡ Err b
     → read_plan (terms_plan standing size numbers) c ≡ Err b
 terms-broken standing size numbers c b broken =
     read_plan-and_then (times (term_kind standing numbers.skip_interval) numbers.count no_terms) (finish numbers size) c
@@ -88,11 +88,11 @@ good-front true b rule other x y less good = cc
 good-front false true rule other x y less good = cc
 good-front false false rule other x y less good = less good
 
-good-anywhere : (standing : Standing) (before : List DictionaryTerm) (e : TermRecord) (t : DictionaryTerm) → first_broken (against standing before e t) ≡ None → first_broken (against anywhere before e t) ≡ None
+good-anywhere : (standing : TermConditions) (before : List DictionaryTerm) (e : TermRecord) (t : DictionaryTerm) → first_broken (against standing before e t) ≡ None → first_broken (against anywhere before e t) ≡ None
 good-anywhere standing before e t good =
     good-front (ltb (length (last_term before).text) e.prefix) (not (is_utf8 t.text)) number.term_prefix number.term_utf8 (first_broken (standing before t ++ term_place_conditions t)) (first_broken (term_place_conditions t)) (good-back (standing before t) (term_place_conditions t)) good
 
-line-anywhere : (standing : Standing) (before : List DictionaryTerm) (line : Line TermRecord) → first_broken (on_entry [] (term_conditions standing before) line) ≡ None → first_broken (on_entry [] (term_conditions anywhere before) line) ≡ None
+line-anywhere : (standing : TermConditions) (before : List DictionaryTerm) (line : Line TermRecord) → first_broken (on_entry [] (term_conditions standing before) line) ≡ None → first_broken (on_entry [] (term_conditions anywhere before) line) ≡ None
 line-anywhere standing before (heading h) good = refl
 line-anywhere standing before (entry e) good = good-anywhere standing before e (term_after (last_term before) e) good
 
@@ -117,7 +117,7 @@ record_at-was {R} shape conditions c x d e = go (read_shape shape c) e
     go (Err bad) e = absurd (err_is_not_ok e)
     go (Ok y) e = let p = good y (first_broken (conditions y.0)) e in (ap (λ (z : R × Cursor). ok_of z) p.0, ap (λ (z : R × Cursor). first_broken (conditions z.0)) (sym p.0) ∙ p.1)
 
-times-anywhere : (standing : Standing) (interval n : ℕ) (s : Progress) (c : Cursor) (z : Progress × Cursor) → read_plan (times (term_kind standing interval) n s) c ≡ ok_of z → read_plan (times (term_kind anywhere interval) n s) c ≡ ok_of z
+times-anywhere : (standing : TermConditions) (interval n : ℕ) (s : Progress) (c : Cursor) (z : Progress × Cursor) → read_plan (times (term_kind standing interval) n s) c ≡ ok_of z → read_plan (times (term_kind anywhere interval) n s) c ≡ ok_of z
 unfolding each read_plan
 times-anywhere standing interval zero s c z e = e
 times-anywhere standing interval (suc n) s c z e =
@@ -130,7 +130,7 @@ times-anywhere standing interval (suc n) s c z e =
     ∙ ap (λ (r : Result (Progress × Cursor) Broken). r >>= λ x. read_plan (times (term_kind anywhere interval) n x.0) x.1) turn
     ∙ times-anywhere standing interval n first.0.0 first.0.1 z first.2
 
-pub file-anywhere : (standing : Standing) (size : ℕ) (bytes : List ℕ) (v : Dictionary) → read_file (dictionary_plan standing size) bytes ≡ ok_of v → read_file (dictionary_plan anywhere size) bytes ≡ ok_of v
+pub file-anywhere : (standing : TermConditions) (size : ℕ) (bytes : List ℕ) (v : Dictionary) → read_file (dictionary_plan standing size) bytes ≡ ok_of v → read_file (dictionary_plan anywhere size) bytes ≡ ok_of v
 unfolding read_plan
 file-anywhere standing size bytes v e =
     let c = start_of bytes in
@@ -147,5 +147,5 @@ file-anywhere standing size bytes v e =
     ∙ whole.2
 
 -- and so the bytes stand for what they stand for in a segment
-pub dictionary_in-is : (standing : Standing) (bytes : List ℕ) (v : Dictionary) → read_file (dictionary_plan standing (length bytes)) bytes ≡ ok_of v → dictionary_in bytes ≡ v
+pub dictionary_in-is : (standing : TermConditions) (bytes : List ℕ) (v : Dictionary) → read_file (dictionary_plan standing (length bytes)) bytes ≡ ok_of v → dictionary_in bytes ≡ v
 dictionary_in-is standing bytes v e = ap (λ (r : Result Dictionary Broken). value_or no_dictionary r) (file-anywhere standing (length bytes) bytes v e)

@@ -10,7 +10,7 @@ use Rattle.lu_grammar.specs.Plans.{Broken, read_plan, one, times}
 use Rattle.lu_grammar.proofs.Loops.{each-none, times-more, times-fault}
 use Rattle.term_dict.specs.Headings.{entry}
 use Rattle.term_dict.specs.Terms.{DictionaryTerm, no_term, last_term}
-use Rattle.term_dict.specs.Dictionary.{Standing, Progress, no_terms, term_kind}
+use Rattle.term_dict.specs.Dictionary.{TermConditions, Progress, no_terms, term_kind}
 use Rattle.term_dict.specs.Last.{IsSoundTerm}
 use Rattle.term_dict.specs.Checks.{IsNextTerm, AreWithin, broken_so}
 use Rattle.lu_types.specs.Judging.{IsBrokenSo}
@@ -32,7 +32,7 @@ AreWithin-push longest more ts t within le here = λ i. elim (cases_lt i (length
 ]
 
 -- so many terms are read between two places, the last is this one, and no text is longer
-pub record HasRead (standing : Standing) (interval : ℕ) (start : Cursor) (i : ℕ) (here : Cursor) (last : DictionaryTerm) (longest : ℕ) : Type 0 where
+pub record HasRead (standing : TermConditions) (interval : ℕ) (start : Cursor) (i : ℕ) (here : Cursor) (last : DictionaryTerm) (longest : ℕ) : Type 0 where
   pub so_far : Progress
   pub read : read_plan (times (term_kind standing interval) i no_terms) start ≡ Ok (so_far, here)
   pub is_last : last_term so_far.terms ≡ last
@@ -40,7 +40,7 @@ pub record HasRead (standing : Standing) (interval : ℕ) (start : Cursor) (i : 
   pub within : AreWithin longest so_far.terms
   pub sound : IsSoundTerm last
 
-pub HasRead-none : (standing : Standing) (interval : ℕ) (start : Cursor) (last : DictionaryTerm) → last ≡ no_term → IsSoundTerm last → HasRead standing interval start 0 start last 0
+pub HasRead-none : (standing : TermConditions) (interval : ℕ) (start : Cursor) (last : DictionaryTerm) → last ≡ no_term → IsSoundTerm last → HasRead standing interval start 0 start last 0
 HasRead-none standing interval start last is sound = record {
   so_far = no_terms;
   read = each-none (one (term_kind standing interval)) no_terms start;
@@ -50,7 +50,7 @@ HasRead-none standing interval start last is sound = record {
   sound = sound;
 }
 
-pub HasRead-more : (standing : Standing) (interval : ℕ) (start : Cursor) (i : ℕ) (here : Cursor) (last : DictionaryTerm) (longest : ℕ) (new : Cursor) (next : DictionaryTerm) (more : ℕ) → (h : HasRead standing interval start i here last longest)
+pub HasRead-more : (standing : TermConditions) (interval : ℕ) (start : Cursor) (i : ℕ) (here : Cursor) (last : DictionaryTerm) (longest : ℕ) (new : Cursor) (next : DictionaryTerm) (more : ℕ) → (h : HasRead standing interval start i here last longest)
     → IsNextTerm standing interval h.so_far here new next None → IsSoundTerm next → longest ≤ more → length next.text ≤ more → HasRead standing interval start (i + 1) new next more
 HasRead-more standing interval start i here last longest new next more h (e, good, is) sound le fits = record {
   so_far = record { terms = h.so_far.terms ++ _ ∷ []; starts = h.so_far.starts ++ here.place ∷ [] };
@@ -61,7 +61,7 @@ HasRead-more standing interval start i here last longest new next more h (e, goo
   sound = sound;
 }
 
-pub HasRead-fault : (standing : Standing) (interval : ℕ) (start : Cursor) (i n : ℕ) (here : Cursor) (last : DictionaryTerm) (longest : ℕ) (new : Cursor) (next : DictionaryTerm) (rule : ℕ) → (h : HasRead standing interval start i here last longest)
+pub HasRead-fault : (standing : TermConditions) (interval : ℕ) (start : Cursor) (i n : ℕ) (here : Cursor) (last : DictionaryTerm) (longest : ℕ) (new : Cursor) (next : DictionaryTerm) (rule : ℕ) → (h : HasRead standing interval start i here last longest)
     → i < n → IsNextTerm standing interval h.so_far here new next (Some rule) → read_plan (times (term_kind standing interval) n no_terms) start ≡ Err (record { offset = here.place; rule = rule })
 HasRead-fault standing interval start i n here last longest new next rule h lt broken = times-fault (term_kind standing interval) i n no_terms start h.so_far here rule lt h.read broken
 

@@ -8,7 +8,7 @@ use Rattle.lu_types.specs.declared.term.TermNumbers.{TermNumbers}
 use Rattle.term_dict.specs.Headings.{header, heading_conditions, numbers_of, Line, heading, entry, heading_of}
 use Rattle.term_dict.specs.Entries.{TermRecord}
 use Rattle.term_dict.specs.Terms.{DictionaryTerm, no_term, last_term, term_after}
-use Rattle.term_dict.specs.Dictionary.{Standing, Progress, term_kind}
+use Rattle.term_dict.specs.Dictionary.{TermConditions, Progress, term_kind}
 
 -- a rule is broken at a place
 abbrev pub broken_so : ℕ → ℕ → Result (Unit {0}) Broken
@@ -31,7 +31,7 @@ IsHeader old new (Ok numbers) = (h : Heading) × (record_at {R = Line TermRecord
 IsHeader old new (Err rule) = record_at {R = Line TermRecord} header (λ line. heading_conditions (heading_of line)) old ≡ Err rule
 
 -- after these terms the entry of this last one stands between two places and is good; or the rule is broken first
-abbrev pub IsNextTerm : Standing → ℕ → Progress → Cursor → Cursor → DictionaryTerm → Option ℕ → Type 0
+abbrev pub IsNextTerm : TermConditions → ℕ → Progress → Cursor → Cursor → DictionaryTerm → Option ℕ → Type 0
 IsNextTerm standing interval s old new last None = (e : TermRecord) × (record_of (term_kind standing interval) s old ≡ Ok (entry e, new)) × (last ≡ term_after (last_term s.terms) e)
 IsNextTerm standing interval s old new last (Some rule) = record_of (term_kind standing interval) s old ≡ Err rule
 

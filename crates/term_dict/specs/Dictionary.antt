@@ -31,15 +31,15 @@ abbrev pub with_term : Progress → ℕ → TermRecord → Progress
 with_term s place e = record { terms = s.terms ++ term_after (last_term s.terms) e ∷ []; starts = s.starts ++ place ∷ [] }
 
 -- what a term must meet in its segment, given the terms before it
-abbrev pub Standing : Type 0
-Standing = List DictionaryTerm → DictionaryTerm → List Condition
+abbrev pub TermConditions : Type 0
+TermConditions = List DictionaryTerm → DictionaryTerm → List Condition
 
 -- nothing
-abbrev pub anywhere : Standing
+abbrev pub anywhere : TermConditions
 anywhere before t = []
 
 -- its field is indexed, it is above the term before, and it is in some of the documents and in no more
-abbrev pub within : List TableField → ℕ → Standing
+abbrev pub within : List TableField → ℕ → TermConditions
 within fields documents before t =
     record { rule = number.term_field; broken = not (is_indexed fields t.info.field) } ∷
     record { rule = number.term_order; broken = not (is_above fields before t) } ∷
@@ -55,7 +55,7 @@ abbrev pub term_place_conditions : DictionaryTerm → List Condition
 term_place_conditions t = record { rule = number.term_place; broken = is_past_files t } ∷ []
 
 -- the conditions against the entry that stands for this term, after these
-abbrev pub against : Standing → List DictionaryTerm → TermRecord → DictionaryTerm → List Condition
+abbrev pub against : TermConditions → List DictionaryTerm → TermRecord → DictionaryTerm → List Condition
 against standing before e t =
     record { rule = number.term_prefix; broken = nat_lt (length (last_term before).text) e.prefix } ∷
     record { rule = number.term_utf8; broken = not (is_utf8 t.text) } ∷
@@ -63,7 +63,7 @@ against standing before e t =
     term_place_conditions t
 
 -- the conditions against an entry after these terms
-abbrev pub term_conditions : Standing → List DictionaryTerm → TermRecord → List Condition
+abbrev pub term_conditions : TermConditions → List DictionaryTerm → TermRecord → List Condition
 term_conditions standing before e = against standing before e (term_after (last_term before) e)
 
 -- the records of terms, with these conditions against an entry after some terms
@@ -75,16 +75,16 @@ terms_by conditions interval = record {
 }
 
 -- the records of terms
-abbrev pub term_kind : Standing → ℕ → Kind Progress (Line TermRecord)
+abbrev pub term_kind : TermConditions → ℕ → Kind Progress (Line TermRecord)
 term_kind standing interval = terms_by (term_conditions standing) interval
 
 -- so many terms, as the numbers say
-abbrev pub terms_plan : Standing → ℕ → TermNumbers → Plan Dictionary (Line TermRecord)
+abbrev pub terms_plan : TermConditions → ℕ → TermNumbers → Plan Dictionary (Line TermRecord)
 terms_plan standing size numbers =
     and_then (times (term_kind standing numbers.skip_interval) numbers.count no_terms) (λ s. done (record { numbers = numbers; terms = s.terms; starts = s.starts; size = size }))
 
 -- a file of so many bytes: its header, and then the terms
-abbrev pub dictionary_plan : Standing → ℕ → Plan Dictionary (Line TermRecord)
+abbrev pub dictionary_plan : TermConditions → ℕ → Plan Dictionary (Line TermRecord)
 dictionary_plan standing size =
     due header (λ place line. heading_conditions (heading_of line)) (λ place line. terms_plan standing size (numbers_of (heading_of line)))
 

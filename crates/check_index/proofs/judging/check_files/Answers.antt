@@ -1,7 +1,7 @@
 use Rattle.std.proofs.Common.{refl}
 use Rattle.check_index.specs.Files.{folder_of}
 use Rattle.check_index.specs.Locating.{part_files_of}
-use Rattle.check_index.specs.Segments.{Segment, segment_of}
+use Rattle.check_index.specs.Segments.{SegmentValue, segment_value}
 use Rattle.check_index.specs.Opened.{contents_of, columns_of}
 use Rattle.check_index.proofs.LocatedLemmas.{located-short}
 use Rattle.check_index.proofs.ContentFiles.{located-fault, contents-fault, columns-fault, segment-stands}
@@ -20,12 +20,12 @@ open_columns-requires-clause-within c =
 
 pub returns-in-Err-open_contents : goal.returns-in-Err-open_contents
 returns-in-Err-open_contents c =
-    contents-fault (λ (s : Segment). s) (folder_of c.args.parts.now) c.args.info.now (part_files_of c.in-Ok.files) c.in-Ok.ensures (contents_of c.args.info.now.size) c.in-Err-open_contents.fault c.in-Err-open_contents.ensures.judged
+    contents-fault (λ (s : SegmentValue). s) (folder_of c.args.parts.now) c.args.info.now (part_files_of c.in-Ok.files) c.in-Ok.ensures (contents_of c.args.info.now.size) c.in-Err-open_contents.fault c.in-Err-open_contents.ensures.judged
 
 pub returns-in-Err-open_columns : goal.returns-in-Err-open_columns
 returns-in-Err-open_columns c =
     let size = c.args.info.now.size in
-    columns-fault (λ (s : Segment). s) (folder_of c.args.parts.now) c.args.info.now (part_files_of c.in-Ok.files) c.in-Ok.ensures (contents_of size c.in-Ok-open_contents.contents) c.in-Ok-open_contents.ensures.judged
+    columns-fault (λ (s : SegmentValue). s) (folder_of c.args.parts.now) c.args.info.now (part_files_of c.in-Ok.files) c.in-Ok.ensures (contents_of size c.in-Ok-open_contents.contents) c.in-Ok-open_contents.ensures.judged
     (columns_of size) c.in-Err-open_columns.fault c.in-Err-open_columns.ensures.judged
 
 pub returns : goal.returns
@@ -33,7 +33,7 @@ returns c =
     let size = c.args.info.now.size in
     let contents = contents_of size c.in-Ok-open_contents.contents in
     let columns = columns_of size c.in-Ok-open_columns.columns in
-    segment-stands (λ (s : Segment). s) (folder_of c.args.parts.now) c.args.info.now (part_files_of c.in-Ok.files) c.in-Ok.ensures contents c.in-Ok-open_contents.ensures.judged columns (segment_of size contents columns) c.in-Ok-open_columns.ensures.judged refl
+    segment-stands (λ (s : SegmentValue). s) (folder_of c.args.parts.now) c.args.info.now (part_files_of c.in-Ok.files) c.in-Ok.ensures contents c.in-Ok-open_contents.ensures.judged columns (segment_value size contents columns) c.in-Ok-open_columns.ensures.judged refl
 
 pub returns-in-Err : goal.returns-in-Err
-returns-in-Err c = located-fault (λ (s : Segment). s) (folder_of c.args.parts.now) c.args.info.now part_files_of c.in-Err.fault c.in-Err.ensures
+returns-in-Err c = located-fault (λ (s : SegmentValue). s) (folder_of c.args.parts.now) c.args.info.now part_files_of c.in-Err.fault c.in-Err.ensures

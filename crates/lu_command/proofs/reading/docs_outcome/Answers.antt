@@ -10,7 +10,8 @@ use Rattle.lu_dir.specs.declared.loading.Loaded.{Loaded}
 use Rattle.lu_command.specs.declared.outcome.Outcome.{Outcome}
 use Rattle.lu_command.specs.Outcomes.{too_large_outcome}
 use Rattle.lu_command.specs.Texts.{doc_lines}
-use Rattle.lu_command.specs.Files.{part_names, file_at}
+use Rattle.check_index.specs.Files.{file_at}
+use Rattle.lu_command.specs.Files.{part_names}
 use Rattle.lu_command.specs.Needs.{docs_kinds, document_files}
 use Rattle.lu_command.specs.Due.{FilesSay, DocsSay, FilesDue}
 use Rattle.lu_command.proofs.LoadLemmas.{file_at-found, FilesDue-loaded, FilesDue-too_large}

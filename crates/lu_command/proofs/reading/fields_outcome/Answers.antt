@@ -9,7 +9,8 @@ use Rattle.lu_dir.specs.declared.loading.Loaded.{Loaded}
 use Rattle.lu_command.specs.declared.outcome.Outcome.{Outcome}
 use Rattle.lu_command.specs.Outcomes.{too_large_outcome}
 use Rattle.lu_command.specs.Texts.{field_lines}
-use Rattle.lu_command.specs.Files.{file_limit, part_names}
+use Rattle.lu_folder.specs.Limits.{file_limit}
+use Rattle.lu_command.specs.Files.{part_names}
 use Rattle.lu_command.specs.Needs.{fields_kinds, table_files}
 use Rattle.lu_command.specs.Due.{FilesSay, FieldsSay, FilesDue}
 use Rattle.lu_command.proofs.LoadLemmas.{file_at-found, FilesDue-loaded, FilesDue-too_large}

@@ -2,7 +2,7 @@ use Rattle.std.proofs.Common.{◌∙◌, ◌≤◌, ℕ, List, length, ap, sym, 
 use Rattle.segment_infos.specs.Spelling.{commit_bytes}
 use Rattle.lu_dir.specs.Loading.{texts}
 use Rattle.lu_folder.specs.declared.new_file.NewFile.{NewFile}
-use Rattle.lu_folder.specs.Writing.{with_files}
+use Rattle.lu_folder.specs.Writing.{with_new_files}
 use Rattle.lu_folder.specs.Sealing.{SealLeaves}
 use Rattle.lu_folder.specs.Sweeping.{without_files, RemovesOnly}
 use Rattle.lu_folder.specs.Changes.{written, sealed, committed, IsUnmade, IsMade, IsStopped}
@@ -28,11 +28,11 @@ returns-in-Ok-Some-clause-behind g c =
 
 pub returns-in-Err-seal-clause-stopped : goal.returns-in-Err-seal-clause-stopped
 returns-in-Err-seal-clause-stopped g c =
-    Leaves-after (with_files (written c.args.change.now)) (SealLeaves c.as_str.result.now c.bytes.result.now) (IsStopped c.args.change.now) (g.D.Dir.files c.args.dir.now) (g.D.Dir.files c.write_all.new.dir) (g.D.Dir.files c.seal.new.dir)
+    Leaves-after (with_new_files (written c.args.change.now)) (SealLeaves c.as_str.result.now c.bytes.result.now) (IsStopped c.args.change.now) (g.D.Dir.files c.args.dir.now) (g.D.Dir.files c.write_all.new.dir) (g.D.Dir.files c.seal.new.dir)
     c.in-Ok.ensures.written
     (λ old new left. SealLeaves-stopped c.args.change.now old new
-    (subst (λ (name : List ℕ). SealLeaves name (commit_bytes c.args.change.now.commit) (with_files (written c.args.change.now) old) new) (c.as_str.ensures.same ∙ ap (λ (file : NewFile). file.name) c.pending.ensures)
-    (subst (λ (bytes : List ℕ). SealLeaves c.as_str.result.now bytes (with_files (written c.args.change.now) old) new) c.bytes.ensures left)))
+    (subst (λ (name : List ℕ). SealLeaves name (commit_bytes c.args.change.now.commit) (with_new_files (written c.args.change.now) old) new) (c.as_str.ensures.same ∙ ap (λ (file : NewFile). file.name) c.pending.ensures)
+    (subst (λ (bytes : List ℕ). SealLeaves c.as_str.result.now bytes (with_new_files (written c.args.change.now) old) new) c.bytes.ensures left)))
     c.in-Err-seal.ensures.left
 
 pub returns-in-Ok-sweep-clause-made : goal.returns-in-Ok-sweep-clause-made

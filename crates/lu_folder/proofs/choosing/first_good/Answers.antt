@@ -3,7 +3,7 @@ use Rattle.lu_grammar.specs.Bytes.{IsBytes}
 use Rattle.lu_dir.specs.Files.{Files}
 use Rattle.lu_types.specs.declared.fault.Spot.{Spot}
 use Rattle.lu_folder.specs.Commits.{commit_file}
-use Rattle.lu_folder.specs.Choosing.{IsFaulty, IsPassed, is_too_large}
+use Rattle.lu_folder.specs.Choosing.{IsFaulty, IsPassedOver, is_too_large}
 use Rattle.lu_folder.specs.Looking.{Looks, IsFirst, IsSeen}
 use Rattle.lu_folder.specs.declared.choosing.Look.{Look}
 use Rattle.lu_folder.proofs.LookLemmas.{faulty-passed, IsFirst-more, IsSeen-more, IsNoIndex-fault}

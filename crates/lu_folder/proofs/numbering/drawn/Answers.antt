@@ -7,7 +7,7 @@ pub loop-name-preserved : goal.loop-name-preserved
 loop-name-preserved c =
     let names = c.args.names.now in
     let place = c.loop-name.name-index in
-    elim c.match-number_in.branch [
+    elim c.match-counted_number_in.branch [
       | in-Some w ↦ record {
         number = w.number-is ∙ w.max-number.ensures
             ∙ ap (λ (n : ℕ). max n (w.in-Some.used + 1)) c.loop-name.invariant.number

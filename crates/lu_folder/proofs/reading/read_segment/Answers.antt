@@ -25,7 +25,7 @@ returns-in-Err-TooLarge-clause-too_large g c = λ kind same told is.
     let failed : LoadFault → Result Loading LoadFault = λ fault. Err fault in
     let over = c.in-Err-TooLarge.ensures.over c.in-Err-TooLarge.place (ap failed c.in-Err-TooLarge.field-0-is) in
     let within : c.in-Err-TooLarge.place < length c.in_ok-names.names.items = omega (arith, over.0, spelled-count c.deref-2.result.now names spelled, ap length c.in_ok-names.ensures) in
-    let kind_is : c.kind_of.result ≡ kind = cc in
+    let kind_is : c.kind_of_name.result ≡ kind = cc in
     first_too_large-at told names (texts c.deref-2.result.now) c.in-Err-TooLarge.place c.index.result.now spelled (over.1 told is)
     (ap (λ (all : List LuceneName). slice_get all c.in-Err-TooLarge.place) (sym c.in_ok-names.ensures) ∙ at-place c.in_ok-names.names.items c.in-Err-TooLarge.place c.index.result.now within c.index.ensures)
-    ∙ ap (λ (k : FileKind). Some k) (sym c.kind_of.ensures ∙ kind_is)
+    ∙ ap (λ (k : FileKind). Some k) (sym c.kind_of_name.ensures ∙ kind_is)

@@ -4,20 +4,20 @@ use Rattle.lu_types.specs.RuleNumbers as number
 use Rattle.lu_grammar.specs.Plans.{Broken, read_plan, times, read_file}
 use Rattle.lu_types.specs.declared.kind.FileKind.TheVariants.{Tis}
 use Rattle.lu_types.specs.declared.term.TermNumbers.{TermNumbers}
-use Rattle.term_dict.specs.Dictionary.{Standing, Progress, within, term_kind, no_terms, dictionary_plan}
+use Rattle.term_dict.specs.Dictionary.{TermConditions, Progress, within, term_kind, no_terms, dictionary_plan}
 use Rattle.term_dict.specs.Checks.{IsHeader}
 use Rattle.term_dict.proofs.LoopLemmas.{IsBrokenSo-same, IsBrokenSo-map}
 use Rattle.term_dict.proofs.FileLemmas.{header-good, header-broken, dictionary_of, terms-read, terms-broken, file-read, file-trailing, file-broken}
 use Rattle.term_dict.proofs.checking.check_bytes.Goals as goal
 
 -- what is read of a file whose header is good, and whose terms are
-to_terms : (standing : Standing) (bytes : List ℕ) (c d : Cursor) (numbers : TermNumbers) → c ≡ start_of bytes → IsHeader c d (Ok numbers) → (s : Progress) (e : Cursor)
+to_terms : (standing : TermConditions) (bytes : List ℕ) (c d : Cursor) (numbers : TermNumbers) → c ≡ start_of bytes → IsHeader c d (Ok numbers) → (s : Progress) (e : Cursor)
     → read_plan (times (term_kind standing numbers.skip_interval) numbers.count no_terms) d ≡ Ok (s, e)
     → read_plan (dictionary_plan standing (length bytes)) (start_of bytes) ≡ Ok (dictionary_of numbers (length bytes) s, e)
 to_terms standing bytes c d numbers is good s e read =
     ap (λ (x : Cursor). read_plan (dictionary_plan standing (length bytes)) x) (sym is) ∙ header-good standing (length bytes) c d numbers good ∙ terms-read standing (length bytes) numbers d e s read
 
-to_fault : (standing : Standing) (bytes : List ℕ) (c d : Cursor) (numbers : TermNumbers) → c ≡ start_of bytes → IsHeader c d (Ok numbers) → (b : Broken)
+to_fault : (standing : TermConditions) (bytes : List ℕ) (c d : Cursor) (numbers : TermNumbers) → c ≡ start_of bytes → IsHeader c d (Ok numbers) → (b : Broken)
     → read_plan (times (term_kind standing numbers.skip_interval) numbers.count no_terms) d ≡ Err b → read_file (dictionary_plan standing (length bytes)) bytes ≡ Err b
 to_fault standing bytes c d numbers is good b broken =
     file-broken (dictionary_plan standing (length bytes)) bytes b (ap (λ (x : Cursor). read_plan (dictionary_plan standing (length bytes)) x) (sym is) ∙ header-good standing (length bytes) c d numbers good ∙ terms-broken standing (length bytes) numbers d b broken)

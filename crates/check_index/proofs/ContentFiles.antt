@@ -5,7 +5,7 @@ use Rattle.lu_types.specs.Tables.{TableField}
 use Rattle.lu_types.specs.declared.fault.CodecFault.{CodecFault}
 use Rattle.lu_types.proofs.FileLaws.{first-judged, then-judged}
 use Rattle.lu_model.specs.Index.{FieldVector}
-use Rattle.stored_fields.specs.Values.{Document}
+use Rattle.stored_fields.specs.Values.{StoredDocument}
 use Rattle.segment_infos.specs.declared.infos.SegInfo.{SegInfo}
 use Rattle.check_index.specs.Files.{PartFiles, FolderFiles}
 use Rattle.check_index.specs.Locating.{located_parts}
@@ -19,26 +19,26 @@ use Rattle.check_index.specs.Segments.{SegmentValue, Contents, Columns, content_
 -- ---- the field table, the stored documents and the terms
 
 module _ {Y : Type 0} (seen : Y → Contents) (files : PartFiles) (line : SegInfo) where
-  abbrev all_contents : List TableField → List Document → TermLists → List TermOccurrences → Contents
+  abbrev all_contents : List TableField → List StoredDocument → TermLists → List TermOccurrences → Contents
   all_contents fields stored terms occurrences = record { fields = fields; stored = stored; terms = terms; occurrences = occurrences }
 
-  abbrev pub after_terms : List TableField → List Document → TermLists → FilePlan Contents
+  abbrev pub after_terms : List TableField → List StoredDocument → TermLists → FilePlan Contents
   after_terms fields stored terms = followed_by (position_files files.index line fields terms) (λ occurrences. stands (all_contents fields stored terms occurrences))
 
-  abbrev pub after_stored : List TableField → List Document → FilePlan Contents
+  abbrev pub after_stored : List TableField → List StoredDocument → FilePlan Contents
   after_stored fields stored = followed_by (term_files files.index line.size fields) (after_terms fields stored)
 
-  abbrev pub documents_of : List TableField → FilePlan (List Document)
+  abbrev pub documents_of : List TableField → FilePlan (List StoredDocument)
   documents_of fields = stored_files line.store line.size (length fields) files.documents.fdx files.documents.fdt
 
   abbrev pub after_fields : List TableField → FilePlan Contents
   after_fields fields = followed_by (documents_of fields) (after_stored fields)
 
   module _ (fields : List TableField) (fields_stand : StandFor (field_files files.index line) fields) where
-    pub stored-fault : {X : Type 0} (view : X → List Document) (fault : CodecFault) → Judges view (documents_of fields) (Err fault) → Judges seen (content_files files line) (Err fault)
+    pub stored-fault : {X : Type 0} (view : X → List StoredDocument) (fault : CodecFault) → Judges view (documents_of fields) (Err fault) → Judges seen (content_files files line) (Err fault)
     stored-fault view fault h = then-judged seen (field_files files.index line) after_fields fields (Err fault) fields_stand (first-judged view seen (documents_of fields) (after_stored fields) fault h)
 
-    module _ (stored : List Document) (stored_stand : StandFor (documents_of fields) stored) where
+    module _ (stored : List StoredDocument) (stored_stand : StandFor (documents_of fields) stored) where
       terms-judged : (r : Result Y CodecFault) → Judges seen (after_stored fields stored) r → Judges seen (content_files files line) r
       terms-judged r h = then-judged seen (field_files files.index line) after_fields fields r fields_stand (then-judged seen (documents_of fields) (after_stored fields) stored r stored_stand h)
 

@@ -12,6 +12,7 @@ pub mod MadeFiles
 pub mod SegmentMade
 pub mod PositionLemmas
 pub mod PositionFiles
+pub mod KnownTerms
 pub mod StandsLemmas
 pub mod StandsLaws
 pub mod ValidFields
@@ -30,3 +31,4 @@ pub mod ValidBits
 pub mod ValidSlots
 pub mod ValidVectors
 pub mod ValidSegment
+pub mod OmittedTerms

@@ -1,5 +1,5 @@
 -- Files that are needed, of which those that were read are made of bytes: they stand for one thing, or have one first fault.
-use Rattle.std.proofs.Common.{◌≡◌, ◌⊎◌, ℕ, List, [], ◌∷◌, Bool, true, false, Option, Some, None, Result, Ok, Err, refl, sym, ap, subst, ◌∙◌, inl, inr}
+use Rattle.std.proofs.Common.{◌≡◌, ◌⊎◌, ℕ, List, [], ◌∷◌, Bool, true, false, Option, Some, None, Result, Ok, Err, refl, sym, subst, ◌∙◌, inl, inr}
 use Rattle.std.specs.Option.{ForSome}
 use Rattle.lu_grammar.specs.Bytes.{IsBytes}
 use Rattle.lu_grammar.specs.Plans.{Plan, Broken, read_file}
@@ -9,6 +9,7 @@ use Rattle.lu_grammar.proofs.Files.{read_file-judges, FileJudges}
 use Rattle.lu_types.specs.declared.kind.FileKind.{FileKind}
 use Rattle.lu_types.specs.declared.fault.Spot.{Spot}
 use Rattle.lu_types.specs.FilePlans.{FilePlan, stands, needs, StandFor, missing, followed_by, each_file, where_needed, IsFaultAmong}
+use Rattle.lu_types.proofs.SpotLemmas.{spot_of, same_spot}
 use Rattle.check_index.proofs.ReadBytes.{read-bytes}
 
 -- each file that is needed is made of bytes, where those before it were read
@@ -24,14 +25,6 @@ no_fault (needs kind None plan after) x spot a fault = a
 no_fault (needs kind (Some bytes) plan after) x spot (v, reads, a) (inl f) = no_fault_if_read (plan bytes) bytes v spot.offset spot.rule (read-bytes (plan bytes) bytes v reads) reads f.1
 no_fault (needs kind (Some bytes) plan after) x spot (v, reads, a) (inr (w, also, f)) =
     no_fault (after bytes v) x spot a (subst (λ u. IsFaultAmong (after bytes u) spot) (value_is_one (plan bytes) bytes w v also reads) f)
-
--- the spot of these parts
-abbrev spot_of : FileKind → ℕ → ℕ → Spot
-spot_of kind offset rule = record { kind = kind; offset = offset; rule = rule }
-
--- spots with the same parts are one
-same_spot : (a b : Spot) → a.kind ≡ b.kind → a.offset ≡ b.offset → a.rule ≡ b.rule → a ≡ b
-same_spot a b kind offset rule = ap (λ k. spot_of k a.offset a.rule) kind ∙ ap (λ n. spot_of b.kind n a.rule) offset ∙ ap (spot_of b.kind b.offset) rule
 
 -- they have one first fault at most
 pub one_fault : {X : Type 0} (files : FilePlan X) (a b : Spot) → AreMade files → IsFaultAmong files a → IsFaultAmong files b → a ≡ b

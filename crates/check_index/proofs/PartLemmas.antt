@@ -17,8 +17,8 @@ use Rattle.lu_grammar.proofs.Parts.{IsBytes-take, IsBytes-drop}
 use Rattle.lu_grammar.proofs.Places.{IsBytes-after}
 use Rattle.lu_grammar.proofs.Records.{ok_pair, same_pair}
 use Rattle.lu_grammar.proofs.Codecs.{ok_of, record_at-was, alone_was, due_was, read_due, then_ok, read_plan-and_then, read_plan-ReadsTo, reads-read_plan}
-use Rattle.compound_file.specs.Entries.{NamedPart, Entry, Span, part_named, spans}
-use Rattle.compound_file.specs.Cfs.{CfsRecord, content, header_shape, content_shape, count_of, content_of, entry_kind, part_plan, parts_plan, cfs_plan}
+use Rattle.compound_file.specs.Entries.{NamedPart, PartEntry, PartSpan, part_named, spans}
+use Rattle.compound_file.specs.Cfs.{CfsRecord, content, header_shape, content_shape, part_count_of, part_content_of, entry_kind, part_plan, parts_plan, cfs_plan}
 use Rattle.check_index.specs.Files.{IsShort}
 
 one_bytes : (a b : List ℕ) → ◌≡◌ {A = Option (List ℕ)} (Some a) (Some b) → a ≡ b
@@ -52,18 +52,18 @@ so_many-was n c d front fits e = go (nat_lt (length c.rest) n) e
         )
 
 -- parts that were read are within what there was
-parts-within : (most : ℕ) (front : List NamedPart) (ss : List Span) (c : Cursor) (parts : List NamedPart) (d : Cursor) → length c.rest ≤ most → IsBytes c.rest → All (IsWithin most) front → read_plan (gather part_plan front ss) c ≡ ok_of (parts, d)
+parts-within : (most : ℕ) (front : List NamedPart) (ss : List PartSpan) (c : Cursor) (parts : List NamedPart) (d : Cursor) → length c.rest ≤ most → IsBytes c.rest → All (IsWithin most) front → read_plan (gather part_plan front ss) c ≡ ok_of (parts, d)
     → All (IsWithin most) parts
 unfolding read_plan
 parts-within most front [] c parts d le fits all e = subst (All (IsWithin most)) (same_pair front parts c d e).0 all
 parts-within most front (s ∷ ss) c parts d le fits all e =
-    let first = due_was (content_shape (s.end - s.start)) (λ _ _. []) (λ _ r. gather part_plan (front ++ record { name = s.name; bytes = content_of r } ∷ []) ss) c (parts, d) e in
+    let first = due_was (content_shape (s.end - s.start)) (λ _ _. []) (λ _ r. gather part_plan (front ++ record { name = s.name; bytes = part_content_of r } ∷ []) ss) c (parts, d) e in
     let was = record_at-was (content_shape (s.end - s.start)) (λ _. []) c first.0.0 first.0.1 first.1 in
     let alone = alone_was (so_many (s.end - s.start)) content c first.0.0 first.0.1 was.0 in
     let within = so_many-was (s.end - s.start) c first.0.1 alone.0 fits alone.1 in
-    let part : NamedPart = record { name = s.name; bytes = content_of first.0.0 } in
+    let part : NamedPart = record { name = s.name; bytes = part_content_of first.0.0 } in
     let le_most : length alone.0 ≤ most = omega (arith, within.0, le) in
-    let here : IsWithin most part = subst (λ (r : CfsRecord). (length (content_of r) ≤ most) × IsBytes (content_of r)) alone.2 (le_most, within.1) in
+    let here : IsWithin most part = subst (λ (r : CfsRecord). (length (part_content_of r) ≤ most) × IsBytes (part_content_of r)) alone.2 (le_most, within.1) in
     parts-within most (front ++ part ∷ []) ss first.0.1 parts d (omega (arith, within.2, le)) within.3 (All-append (IsWithin most) front (part ∷ []) all (All-cons (IsWithin most) part [] here (All-nil (IsWithin most)))) first.2
 
 -- a plan that was read leaves no more than there was
@@ -77,12 +77,12 @@ pub file-within : (cfs : List ℕ) (parts : List NamedPart) → IsBytes cfs → 
 file-within cfs parts fits reads =
     let n = length cfs in
     let whole = read_plan-ReadsTo (cfs_plan n) (start_of cfs) parts (end_of cfs) reads in
-    let head = due_was header_shape (λ _ _. []) (λ _ r. and_then (times (entry_kind n (count_of r)) (count_of r) []) (parts_plan n)) (start_of cfs) (parts, end_of cfs) whole in
-    let count = count_of head.0.0 in
-    let body = then_ok (read_plan (times (entry_kind n count) count []) head.0.1) (λ (x : List Entry × Cursor). read_plan (parts_plan n x.0) x.1) (parts, end_of cfs)
+    let head = due_was header_shape (λ _ _. []) (λ _ r. and_then (times (entry_kind n (part_count_of r)) (part_count_of r) []) (parts_plan n)) (start_of cfs) (parts, end_of cfs) whole in
+    let count = part_count_of head.0.0 in
+    let body = then_ok (read_plan (times (entry_kind n count) count []) head.0.1) (λ (x : List PartEntry × Cursor). read_plan (parts_plan n x.0) x.1) (parts, end_of cfs)
     (sym (read_plan-and_then (times (entry_kind n count) count []) (parts_plan n) head.0.1) ∙ head.2) in
-    let directory : Plan (List Entry) CfsRecord = due header_shape (λ _ _. []) (λ _ r. times (entry_kind n (count_of r)) (count_of r) []) in
-    let read = read_due header_shape (λ _ _. []) (λ _ r. times (entry_kind n (count_of r)) (count_of r) []) (start_of cfs) head.0.0 head.0.1 head.1 ∙ body.1 in
+    let directory : Plan (List PartEntry) CfsRecord = due header_shape (λ _ _. []) (λ _ r. times (entry_kind n (part_count_of r)) (part_count_of r) []) in
+    let read = read_due header_shape (λ _ _. []) (λ _ r. times (entry_kind n (part_count_of r)) (part_count_of r) []) (start_of cfs) head.0.0 head.0.1 head.1 ∙ body.1 in
     parts-within n [] (spans n body.0.0) body.0.1 parts (end_of cfs) (left-within directory (start_of cfs) body.0.0 body.0.1 fits read) (IsBytes-after directory (start_of cfs) body.0.0 body.0.1 fits read) (All-nil (IsWithin n)) body.2
 
 -- nor is one that is found by its name

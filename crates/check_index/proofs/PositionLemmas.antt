@@ -24,7 +24,7 @@ use Rattle.check_index.specs.Positions.{TermOccurrences, listed_postings, occurr
 use Rattle.check_index.proofs.TurnLemmas.{one_element, HavePassed-none, HavePassed-more, HavePassed-fault, HavePassed-trailing, HavePassed-all, broken-read}
 use Rattle.check_index.proofs.TermLemmas.{rules_for, ruled_at, ruled-length}
 
-posted-at : (ts : List RuledTerm) (vs : List TermData) (n : ℕ) (t : RuledTerm) (v : TermData) → slice_get ts n ≡ Some t → slice_get vs n ≡ Some v → slice_get (posted_terms ts vs) n ≡ Some (record { term = t; value = v })
+pub posted-at : (ts : List RuledTerm) (vs : List TermData) (n : ℕ) (t : RuledTerm) (v : TermData) → slice_get ts n ≡ Some t → slice_get vs n ≡ Some v → slice_get (posted_terms ts vs) n ≡ Some (record { term = t; value = v })
 posted-at [] vs n t v e f = cc
 posted-at (u ∷ ts) [] n t v e f = cc
 posted-at (u ∷ ts) (w ∷ vs) zero t v e f =

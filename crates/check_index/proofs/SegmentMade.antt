@@ -12,10 +12,11 @@ use Rattle.lu_types.specs.declared.kind.FileKind.TheVariants.{Cfs, Cfx, Fnm, Fdx
 use Rattle.lu_types.specs.declared.stored.SharedStore.{SharedStore}
 use Rattle.lu_types.specs.declared.stored.Window.{Window}
 use Rattle.lu_types.proofs.FileLaws.{followed_by-was}
+use Rattle.lu_types.specs.Stores.{whole_store, windowed}
 use Rattle.field_infos.specs.Fnm.{fnm_plan}
 use Rattle.stored_fields.specs.Places.{fdx_plan}
 use Rattle.stored_fields.specs.Documents.{fdt_plan}
-use Rattle.stored_fields.specs.Stores.{total_of, whole_store, windowed, store_files}
+use Rattle.stored_fields.specs.Stores.{total_of, store_files}
 use Rattle.term_dict.specs.Dictionary.{tis_plan}
 use Rattle.term_dict.specs.Index.{tii_plan}
 use Rattle.freq_skips.specs.Terms.{frq_plan}
@@ -27,7 +28,6 @@ use Rattle.term_vectors.specs.declared.layout.DocumentPlaces.{DocumentPlaces}
 use Rattle.term_vectors.specs.Places.{tvx_plan}
 use Rattle.term_vectors.specs.Fields.{VectorPlace, tvd_plan}
 use Rattle.term_vectors.specs.Vectors.{tvf_plan}
-use Rattle.term_vectors.specs.Stores.{windowed as windowed_vectors}
 use Rattle.segment_infos.specs.declared.infos.SegInfo.{SegInfo}
 use Rattle.check_index.specs.Files.{DocumentFiles, IndexFiles, PartFiles, FolderFiles, file_at, AreDocumentBytes, AreIndexBytes, AreBytes}
 use Rattle.check_index.specs.Locating.{packed_part, packed_documents, packed_index, packed_files, compound_files, own_part_files, document_parts, located_parts}
@@ -163,12 +163,12 @@ module _ (folder : FolderFiles) (line : SegInfo) (made : AreBytes folder) where
   vectors-made : (files : DocumentFiles) (fields : List TableField) → AreDocumentBytes files → AreMade (document_vectors files line fields)
   vectors-made files fields held =
       let part = store_part line.store line.size files.fdx in
-      let last = λ (slots : List (List VectorPlace)). needs Tvf files.tvf (λ _. tvf_plan slots) (λ _ all. stands (windowed_vectors part.window all)) in
+      let last = λ (slots : List (List VectorPlace)). needs Tvf files.tvf (λ _. tvf_plan slots) (λ _ all. stands (windowed part.window all)) in
       let next = λ (places : List DocumentPlaces). needs Tvd files.tvd (λ _. tvd_plan fields part.window places) (λ _ slots. last slots) in
       asked-made (have_vectors fields && is_some files.tvx) (no_vectors line.size) (part_vectors part files fields)
       (needed-made Tvx files.tvx (λ _. tvx_plan part.total) (λ _ places. next places) held.tvx
       (λ tvx places reads. needed-made Tvd files.tvd (λ _. tvd_plan fields part.window places) (λ _ slots. last slots) held.tvd
-      (λ tvd slots also. needed-made Tvf files.tvf (λ _. tvf_plan slots) (λ _ all. stands (windowed_vectors part.window all)) held.tvf (λ tvf all too. tt))))
+      (λ tvd slots also. needed-made Tvf files.tvf (λ _. tvf_plan slots) (λ _ all. stands (windowed part.window all)) held.tvf (λ tvf all too. tt))))
 
   contents-made : (files : PartFiles) → ArePartBytes files → AreMade (content_files files line)
   contents-made files held =

@@ -7,10 +7,11 @@ use Rattle.lu_types.specs.Tables.{TableField}
 use Rattle.lu_types.specs.declared.kind.FileKind.TheVariants.{Cfs, Cfx, Fnm, Tis, Tii, Frq, Prx, Nrm, Del}
 use Rattle.lu_types.specs.declared.stored.SharedStore.{SharedStore}
 use Rattle.lu_types.proofs.FileLaws.{followed_by-was, followed_by-stand}
+use Rattle.lu_types.specs.Stores.{whole_store}
 use Rattle.lu_model.specs.Index.{FieldVector}
 use Rattle.field_infos.specs.Fnm.{fnm_plan}
-use Rattle.stored_fields.specs.Values.{Document}
-use Rattle.stored_fields.specs.Stores.{total_of, whole_store}
+use Rattle.stored_fields.specs.Values.{StoredDocument}
+use Rattle.stored_fields.specs.Stores.{total_of}
 use Rattle.term_dict.specs.Dictionary.{tis_plan}
 use Rattle.term_dict.specs.Index.{tii_plan}
 use Rattle.freq_skips.specs.Terms.{frq_plan}
@@ -58,11 +59,11 @@ documents-stand : (folder : FolderFiles) (store : Option SharedStore) (own docum
 documents-stand folder None own documents h = h
 documents-stand folder (Some store) own documents h = shared-stand folder store.number store.compound documents h
 
-stored-was : (store : Option SharedStore) (size fields : ℕ) (fdx fdt : Option (List ℕ)) (stored : List Document) → StandFor (stored_files store size fields fdx fdt) stored → HoldStored store size fields fdx fdt stored
+stored-was : (store : Option SharedStore) (size fields : ℕ) (fdx fdt : Option (List ℕ)) (stored : List StoredDocument) → StandFor (stored_files store size fields fdx fdt) stored → HoldStored store size fields fdx fdt stored
 stored-was None size fields fdx fdt stored h = store-was (λ _. size) (whole_store size) fields fdx fdt stored h
 stored-was (Some store) size fields fdx fdt stored h = store-was total_of (window_of store size) fields fdx fdt stored h
 
-stored-stand : (store : Option SharedStore) (size fields : ℕ) (fdx fdt : Option (List ℕ)) (stored : List Document) → HoldStored store size fields fdx fdt stored → StandFor (stored_files store size fields fdx fdt) stored
+stored-stand : (store : Option SharedStore) (size fields : ℕ) (fdx fdt : Option (List ℕ)) (stored : List StoredDocument) → HoldStored store size fields fdx fdt stored → StandFor (stored_files store size fields fdx fdt) stored
 stored-stand None size fields fdx fdt stored h = store-stand (λ _. size) (whole_store size) fields fdx fdt stored h
 stored-stand (Some store) size fields fdx fdt stored h = store-stand total_of (window_of store size) fields fdx fdt stored h
 
@@ -72,17 +73,17 @@ module _ (folder : FolderFiles) (line : SegInfo) where
   abbrev after_own : PartFiles → FilePlan PartFiles
   after_own own = followed_by (document_parts folder line.store own.documents) (λ documents. stands (with_documents own documents))
 
-  abbrev contents_by : List TableField → List Document → TermLists → List TermOccurrences → Contents
+  abbrev contents_by : List TableField → List StoredDocument → TermLists → List TermOccurrences → Contents
   contents_by fields stored terms occurrences = record { fields = fields; stored = stored; terms = terms; occurrences = occurrences }
 
   abbrev columns_by : FieldNorms → List ℕ → List (List (FieldVector ℕ)) → Columns
   columns_by norms deleted vectors = record { norms = norms; deleted = deleted; vectors = vectors }
 
   module _ (files : PartFiles) where
-    abbrev after_terms : List TableField → List Document → TermLists → FilePlan Contents
+    abbrev after_terms : List TableField → List StoredDocument → TermLists → FilePlan Contents
     after_terms fields stored terms = followed_by (position_files files.index line fields terms) (λ occurrences. stands (contents_by fields stored terms occurrences))
 
-    abbrev after_stored : List TableField → List Document → FilePlan Contents
+    abbrev after_stored : List TableField → List StoredDocument → FilePlan Contents
     after_stored fields stored = followed_by (term_files files.index line.size fields) (after_terms fields stored)
 
     abbrev after_fields : List TableField → FilePlan Contents

@@ -1,11 +1,11 @@
 -- The terms of the dictionary, one after another in `.frq`.
-use Rattle.std.proofs.Common.{◌≡◌, ℕ, ◌+◌, ◌<◌, ◌≤◌, List, [], length, Some, sym, ap, subst, ◌∙◌, arith}
+use Rattle.std.proofs.Common.{◌≡◌, ℕ, ◌+◌, ◌<◌, ◌≤◌, ◌^◌, List, [], length, Some, sym, ap, subst, ◌∙◌, arith}
 use Rattle.std.specs.Prelude.{slice_get, slice_index_or, option_map}
 use Rattle.std.proofs.lemmas.List.{length-map}
 use Rattle.std.proofs.lemmas.Option.{slice_get-map, get_or_from_slice_get, slice_get_within}
 use Rattle.lu_grammar.specs.Bytes.{IsBytes, Cursor, place_in}
 use Rattle.lu_grammar.specs.Reading.{value_or}
-use Rattle.lu_grammar.specs.Meaning.{Reads, ReadsTo, FirstFault}
+use Rattle.lu_grammar.specs.Meaning.{ReadsTo, FirstFault}
 use Rattle.lu_grammar.specs.RuleNumbers as rules
 use Rattle.lu_grammar.proofs.Parts.{IsBytes-drop}
 use Rattle.lu_grammar.proofs.Files.{read_file-Reads}
@@ -14,24 +14,29 @@ use Rattle.lu_types.specs.Terms.{term_rules}
 use Rattle.lu_types.specs.declared.term.TermInfo.{TermInfo}
 use Rattle.lu_types.specs.declared.term.TermRules.{TermRules}
 use Rattle.term_dict.specs.Terms.{DictionaryTerm}
-use Rattle.term_dict.specs.Dictionary.{Dictionary, tis_plan}
-use Rattle.term_dict.proofs.FactLemmas.{good-terms}
+use Rattle.term_dict.specs.Dictionary.{Dictionary}
+use Rattle.term_dict.specs.Facts.{IsTermOfSegment, AreGoodTerms}
 use Rattle.freq_skips.specs.Terms.{TermData, term_plan, term_of, frq_plan, IsGoodTerm, IsTermFault}
 use Rattle.freq_skips.specs.Walks.{WalkState}
-use Rattle.check_index.specs.Terms.{infos_of, ruled_terms, lists_in, IsListed, HavePassedTerms, AreListed, AreUsed}
+use Rattle.check_index.specs.Terms.{infos_of, ruled_terms, lists_in, IsListed, HavePassedTerms, AreListed}
 use Rattle.check_index.proofs.TurnLemmas.{element, HavePassed-none, HavePassed-more, HavePassed-fault, HavePassed-trailing, HavePassed-all, broken-read}
 
--- each term of a dictionary that was read is in some document
-pub terms_are_used : (fields : List TableField) (size : ℕ) (tis : List ℕ) (d : Dictionary) → Reads (tis_plan fields size (length tis)) tis d → AreUsed d
-terms_are_used fields size tis d reads = λ k e lt. omega (arith, ((good-terms fields size tis d reads).each k e lt).some)
-
--- so is the one with a number
-pub used_at : (d : Dictionary) (n : ℕ) (info : TermInfo) → AreUsed d → option_map (λ (t : DictionaryTerm). t.info) (slice_get d.terms n) ≡ Some info → 0 < info.doc_freq
-used_at d n info used there =
+-- the term with a number is one of the segment
+pub good_term_at : (fields : List TableField) (size : ℕ) (d : Dictionary) (n : ℕ) (info : TermInfo) → AreGoodTerms fields size d → option_map (λ (t : DictionaryTerm). t.info) (slice_get d.terms n) ≡ Some info
+    → (t : DictionaryTerm) × (t.info ≡ info) × IsTermOfSegment fields size d.numbers.skip_interval t
+good_term_at fields size d n info good there =
     let found = element (λ (t : DictionaryTerm). t.info) (slice_get d.terms n) info there in
     let t = found.0 in
-    let here : 0 < t.info.doc_freq = subst (λ (u : DictionaryTerm). 0 < u.info.doc_freq) (get_or_from_slice_get d.terms n t t found.1) (used n t (slice_get_within d.terms n t found.1)) in
-    subst (λ (i : TermInfo). 0 < i.doc_freq) found.2 here
+    let here = subst (IsTermOfSegment fields size d.numbers.skip_interval) (get_or_from_slice_get d.terms n t t found.1) (good.each n t (slice_get_within d.terms n t found.1)) in
+    (t, found.2, here)
+
+-- so it is in some document, and its positions start where a file may have bytes
+pub used_at : (fields : List TableField) (size : ℕ) (d : Dictionary) (n : ℕ) (info : TermInfo) → AreGoodTerms fields size d → option_map (λ (t : DictionaryTerm). t.info) (slice_get d.terms n) ≡ Some info
+    → (0 < info.doc_freq) × (info.prox < 2 ^ 31)
+used_at fields size d n info good there =
+    let h = good_term_at fields size d n info good there in
+    let some : 0 < h.0.info.doc_freq = omega (arith, h.2.some) in
+    (subst (λ (i : TermInfo). 0 < i.doc_freq) h.1 some, subst (λ (i : TermInfo). i.prox < 2 ^ 31) h.1 h.2.prox)
 
 module _ (fields : List TableField) (size : ℕ) (d : Dictionary) where
   abbrev pub rules_for : TermInfo → TermRules

@@ -14,7 +14,7 @@ use Rattle.lu_model.specs.Valid.{IsIndexedTerm}
 use Rattle.lu_model.proofs.Words.{Each}
 use Rattle.lu_model.proofs.Each.{all-from_each, each-from_all, each-from_pairs}
 use Rattle.term_dict.specs.Dictionary.{Dictionary, tis_plan}
-use Rattle.term_dict.specs.Terms.{DictionaryTerm, no_term, term_cmp as dictionary_cmp}
+use Rattle.term_dict.specs.Terms.{DictionaryTerm, no_term, dictionary_term_cmp}
 use Rattle.term_dict.specs.Facts.{IsTermOfSegment, AreGoodTerms}
 use Rattle.term_dict.proofs.FactLemmas.{good-terms}
 use Rattle.compound_file.specs.Entries.{NamedPart}
@@ -68,7 +68,7 @@ module _ (folder : FolderFiles) (line : SegInfo) (x : SegmentValue) (h : StandFo
       let by = stands-by_files folder line x h in
       let good = terms-good x.index.fields line.size by.own.index.tis x.dictionary by.tis in
       subst (λ (ts : List IndexedTerm). IsStrictlySortedBy term_cmp (map (term_of x.index.fields) ts)) (sym terms-is)
-      (terms-rise x.index.fields x.dictionary.terms x.lists x.occurrences (each-from_pairs (λ a b. dictionary_cmp x.index.fields a b ≡ Less) x.dictionary.terms good.rise))
+      (terms-rise x.index.fields x.dictionary.terms x.lists x.occurrences (each-from_pairs (λ a b. dictionary_term_cmp x.index.fields a b ≡ Less) x.dictionary.terms good.rise))
 
   pub indexed-few : length x.index.terms < 2 ^ 31
   indexed-few =

@@ -65,7 +65,7 @@ module _ (fields : List TableField) (size : ℕ) (numbers : TermNumbers) where
 
   -- ---- a segment without positions
 
-  omits : (n : ℕ) → AreFine false fields → n < length fields → has_bit bit.indexed (get_or fields n no_field).bits ≡ true → has_bit bit.omit_tf (bits_at fields n) ≡ true
+  pub omits : (n : ℕ) → AreFine false fields → n < length fields → has_bit bit.indexed (get_or fields n no_field).bits ≡ true → has_bit bit.omit_tf (bits_at fields n) ≡ true
   omits n fine lt indexed =
       ap (λ (b : ℕ). has_bit bit.omit_tf b) (bits-same n fields) ∙ go (has_bit bit.indexed (get_or fields n no_field).bits) (has_bit bit.omit_tf (get_or fields n no_field).bits) indexed (fine.prox n no_field lt)
     where

@@ -5,63 +5,61 @@ use Rattle.std.specs.List.{AllByRecursion}
 use Rattle.std.specs.List.Sorted.{IsStrictlySortedBy}
 use Rattle.std.specs.Ordering.{nat_cmp}
 use Rattle.std.specs.declared.cmp.Ordering.TheVariants.{Less}
-use Rattle.std.proofs.lemmas.List.{length-map}
 use Rattle.lu_prims.proofs.OrderLemmas.{nat_less}
 use Rattle.lu_types.specs.Bits as bit
 use Rattle.lu_types.specs.Bits.{has_bit}
 use Rattle.lu_types.specs.declared.stored.Stored.TheVariants.{Binary}
-use Rattle.lu_model.specs.Index.{Occurrence as IndexedOccurrence, IndexedEntry}
+use Rattle.lu_types.specs.Occurrences.{Occurrence}
+use Rattle.lu_model.specs.Index.{IndexedEntry}
 use Rattle.lu_model.specs.Valid.{IsSmall, IsStorable, AreOccurrences, IsKept}
 use Rattle.lu_model.proofs.Words.{Each, EachPair}
 use Rattle.lu_model.proofs.Each.{all-from_each, non_decreasing}
 use Rattle.freq_skips.specs.Entries.{Posting, no_posting}
-use Rattle.positions.specs.Occurrences.{Occurrence}
-use Rattle.positions.specs.Written.{IsDocument}
+use Rattle.positions.specs.Written.{AreGoodOccurrences}
 use Rattle.check_index.specs.Positions.{TermOccurrences}
-use Rattle.check_index.specs.Indexed.{indexed_occurrence, omitted_entry, given_entries}
+use Rattle.check_index.specs.Indexed.{omitted_entry, given_entries}
 
 -- ---- the occurrences in a document
 
 abbrev places : List Occurrence → List ℕ
-places os = map (λ (o : IndexedOccurrence). o.position) (map indexed_occurrence os)
+places os = map (λ (o : Occurrence). o.position) os
 
 further : (m n : ℕ) (ks : List ℕ) → m ≤ n → Each (λ k. n ≤ k) ks → Each (λ k. m ≤ k) ks
 further m n [] le h = tt
 further m n (k ∷ ks) le h = let first : n ≤ k = h.0 in (omega (arith, le, first), further m n ks le h.1)
 
-not-before : (payloads : Bool) (last : ℕ) (os : List Occurrence) → IsDocument payloads last os → Each (λ n. last ≤ n) (places os)
+not-before : (payloads : Bool) (last : ℕ) (os : List Occurrence) → AreGoodOccurrences payloads last os → Each (λ n. last ≤ n) (places os)
 not-before payloads last [] h = tt
 not-before payloads last (o ∷ os) h = (h.0, further last o.position (places os) h.0 (not-before payloads o.position os h.5))
 
-do-not-fall : (payloads : Bool) (last : ℕ) (os : List Occurrence) → IsDocument payloads last os → EachPair (λ m n. m ≤ n) (places os)
+do-not-fall : (payloads : Bool) (last : ℕ) (os : List Occurrence) → AreGoodOccurrences payloads last os → EachPair (λ m n. m ≤ n) (places os)
 do-not-fall payloads last [] h = tt
 do-not-fall payloads last (o ∷ os) h = (not-before payloads o.position os h.5, do-not-fall payloads o.position os h.5)
 
-are-small : (payloads : Bool) (last : ℕ) (os : List Occurrence) → IsDocument payloads last os → Each (λ (o : IndexedOccurrence). IsSmall o.position × IsStorable (Binary o.payload)) (map indexed_occurrence os)
+are-small : (payloads : Bool) (last : ℕ) (os : List Occurrence) → AreGoodOccurrences payloads last os → Each (λ (o : Occurrence). IsSmall o.position × IsStorable (Binary o.payload)) os
 are-small payloads last [] h = tt
 are-small payloads last (o ∷ os) h = ((h.1, (h.3, h.2)), are-small payloads o.position os h.5)
 
-are-empty : (payloads : Bool) (last : ℕ) (os : List Occurrence) → payloads ≡ false → IsDocument payloads last os → Each (λ (o : IndexedOccurrence). o.payload ≡ []) (map indexed_occurrence os)
+are-empty : (payloads : Bool) (last : ℕ) (os : List Occurrence) → payloads ≡ false → AreGoodOccurrences payloads last os → Each (λ (o : Occurrence). o.payload ≡ []) os
 are-empty payloads last [] e h = tt
 are-empty payloads last (o ∷ os) e h = (h.4 e, are-empty payloads o.position os e h.5)
 
 -- the occurrences of an entry, which are as many as its frequency
 pub record Fits (bits : ℕ) (p : Posting) (os : List Occurrence) : Type 0 where
-  pub document : IsDocument (has_bit bit.payloads bits) 0 os
+  pub document : AreGoodOccurrences (has_bit bit.payloads bits) 0 os
   pub count : length os ≡ p.freq
   pub some : 1 ≤ p.freq
   pub few : p.freq < 2 ^ 31
 
-are-occurrences : (bits : ℕ) (p : Posting) (os : List Occurrence) → Fits bits p os → AreOccurrences bits (map indexed_occurrence os)
+are-occurrences : (bits : ℕ) (p : Posting) (os : List Occurrence) → Fits bits p os → AreOccurrences bits os
 are-occurrences bits p os h =
     let payloads = has_bit bit.payloads bits in
-    let long : length (map indexed_occurrence os) ≡ p.freq = simp length-map h.count in
     record {
-      some = omega (arith, long, h.some);
-      few = omega (arith, long, h.few);
+      some = omega (arith, h.count, h.some);
+      few = omega (arith, h.count, h.few);
       rise = non_decreasing (places os) (do-not-fall payloads 0 os h.document);
-      small = all-from_each (λ (o : IndexedOccurrence). IsSmall o.position × IsStorable (Binary o.payload)) (map indexed_occurrence os) (are-small payloads 0 os h.document);
-      payloads = λ none. all-from_each (λ (o : IndexedOccurrence). o.payload ≡ []) (map indexed_occurrence os) (are-empty payloads 0 os none h.document);
+      small = all-from_each (λ (o : Occurrence). IsSmall o.position × IsStorable (Binary o.payload)) os (are-small payloads 0 os h.document);
+      payloads = λ none. all-from_each (λ (o : Occurrence). o.payload ≡ []) os (are-empty payloads 0 os none h.document);
     }
 
 -- ---- the entries

@@ -20,14 +20,14 @@ use Rattle.term_dict.specs.Facts.{IsTermOfSegment}
 use Rattle.freq_skips.specs.declared.rules.RuledTerm.{RuledTerm}
 use Rattle.freq_skips.specs.Entries.{Posting, no_posting}
 use Rattle.freq_skips.specs.Terms.{TermData, term_plan, term_of}
-use Rattle.freq_skips.specs.Sound.{IsSoundTerm}
+use Rattle.freq_skips.specs.Sound.{IsSoundTermData}
 use Rattle.freq_skips.proofs.TermLemmas.{TermParts-ReadsTo}
 use Rattle.freq_skips.proofs.WalkLemmas.{entries-start}
-use Rattle.freq_skips.proofs.SoundLemmas.{IsSoundTerm-good}
+use Rattle.freq_skips.proofs.SoundLemmas.{IsSoundTermData-good}
 use Rattle.positions.specs.Occurrences.{count_at}
 use Rattle.positions.specs.Cursors.{StandsInBoth, posted_term}
 use Rattle.positions.specs.Terms.{term_plan as posted_plan}
-use Rattle.positions.specs.Written.{IsDocument}
+use Rattle.positions.specs.Written.{AreGoodOccurrences}
 use Rattle.positions.proofs.AgainLemmas.{term-starts}
 use Rattle.positions.proofs.GoodLemmas.{entry-good}
 use Rattle.check_index.specs.Positions.{TermOccurrences}
@@ -45,7 +45,7 @@ module _ (fields : List TableField) (size : ℕ) (numbers : TermNumbers) where
   -- the occurrences of a term in a field that keeps them, entry by entry
   abbrev pub AreKept : DictionaryTerm → TermData → TermOccurrences → Type 0
   AreKept t v o = has_bit bit.omit_tf (bits_at fields t.info.field) ≡ false → (k : ℕ) → k < t.info.doc_freq
-      → IsDocument (has_bit bit.payloads (bits_at fields t.info.field)) 0 (slice_index_or o k []) × (length (slice_index_or o k []) ≡ (slice_index_or v.postings k no_posting).freq)
+      → AreGoodOccurrences (has_bit bit.payloads (bits_at fields t.info.field)) 0 (slice_index_or o k []) × (length (slice_index_or o k []) ≡ (slice_index_or v.postings k no_posting).freq)
 
   module _ (frq : List ℕ) (frq_fits : IsBytes frq) (interval : 2 ≤ numbers.skip_interval) (t : DictionaryTerm) (v : TermData) (some : 0 < t.info.doc_freq) (stands : StandsSomewhere term_plan frq (ruled t) v) where
     begins : stands.place ≡ t.info.freq
@@ -56,8 +56,8 @@ module _ (fields : List TableField) (size : ℕ) (numbers : TermNumbers) where
     there : ReadsTo (term_plan (ruled t)) (place_in frq t.info.freq) v stands.end
     there = subst (λ (n : ℕ). ReadsTo (term_plan (ruled t)) (place_in frq n) v stands.end) begins stands.reads
 
-    pub term-sound : IsSoundTerm (ruled t) v
-    term-sound = IsSoundTerm-good (ruled t) frq v stands.end frq_fits interval (omega (arith, begins, stands.within)) there
+    pub term-sound : IsSoundTermData (ruled t) v
+    term-sound = IsSoundTermData-good (ruled t) frq v stands.end frq_fits interval (omega (arith, begins, stands.within)) there
 
     pub term-few : Each IsFew v.postings
     term-few = each-from_all IsFew v.postings (postings-few (ruled t) (place_in frq stands.place) v stands.end (IsBytes-drop stands.place frq frq_fits) stands.reads)
@@ -81,7 +81,7 @@ module _ (fields : List TableField) (size : ℕ) (numbers : TermNumbers) where
 
   -- ---- the term of the index
 
-  module _ (t : DictionaryTerm) (v : TermData) (o : TermOccurrences) (good : IsTermOfSegment fields size numbers.skip_interval t) (short : length t.text < 2 ^ 31) (sound : IsSoundTerm (ruled t) v) (few : Each IsFew v.postings) (kept : AreKept t v o) where
+  module _ (t : DictionaryTerm) (v : TermData) (o : TermOccurrences) (good : IsTermOfSegment fields size numbers.skip_interval t) (short : length t.text < 2 ^ 31) (sound : IsSoundTermData (ruled t) v) (few : Each IsFew v.postings) (kept : AreKept t v o) where
     abbrev bits : ℕ
     bits = bits_at fields t.info.field
 

@@ -11,7 +11,7 @@ use Rattle.lu_grammar.specs.Meaning.{Spelled, AreGood, due_after, ReadsTo}
 use Rattle.lu_grammar.proofs.Codecs.{reads-read_plan}
 use Rattle.freq_skips.specs.declared.rules.RuledTerm.{RuledTerm}
 use Rattle.freq_skips.specs.Records.{Record, alone, entry, stated_of, states_frequency, entry_shape}
-use Rattle.freq_skips.specs.Entries.{Posting, Passed, no_entry, frequency, posting_of, with_posting, entry_kind, entries, read_postings}
+use Rattle.freq_skips.specs.Entries.{Posting, EntriesSoFar, no_entry, frequency, posting_of, with_posting, entry_kind, entries, read_postings}
 use Rattle.freq_skips.specs.Terms.{TermData, term_plan}
 use Rattle.freq_skips.proofs.TermLemmas.{TermParts-ReadsTo}
 
@@ -28,17 +28,17 @@ module _ (t : RuledTerm) where
       go false (made, none) = subst (λ (x : Record). frequency (stated_of x) < 2 ^ 31) made (omega arith)
 
   -- what a plan stands for where nothing more is due, and whether that is so
-  abbrev value_or : Passed → Plan Passed Record → Passed
+  abbrev value_or : EntriesSoFar → Plan EntriesSoFar Record → EntriesSoFar
   value_or other (done v) = v
   value_or other (due shape conditions after) = other
 
-  abbrev ends : Plan Passed Record → Bool
+  abbrev ends : Plan EntriesSoFar Record → Bool
   ends (done v) = true
   ends (due shape conditions after) = false
 
-  entries-few : (n : ℕ) (s : Passed) (place : ℕ) (ss : List (Spelled Record)) (z : Passed) → All IsFew s.postings → AreGood (times (entry_kind t) n s) place ss → due_after (times (entry_kind t) n s) place ss ≡ done z → All IsFew z.postings
+  entries-few : (n : ℕ) (s : EntriesSoFar) (place : ℕ) (ss : List (Spelled Record)) (z : EntriesSoFar) → All IsFew s.postings → AreGood (times (entry_kind t) n s) place ss → due_after (times (entry_kind t) n s) place ss ≡ done z → All IsFew z.postings
   unfolding each
-  entries-few zero s place [] z h good none = subst (λ (x : Passed). All IsFew x.postings) (ap (value_or s) none) h
+  entries-few zero s place [] z h good none = subst (λ (x : EntriesSoFar). All IsFew x.postings) (ap (value_or s) none) h
   entries-few zero s place (r ∷ ss) z h good none = absurd good
   entries-few (suc n) s place [] z h good none = absurd (true≢false (sym (ap ends none)))
   entries-few (suc n) s place (r ∷ ss) z h good none =
@@ -51,5 +51,5 @@ module _ (t : RuledTerm) where
       let parts = TermParts-ReadsTo t start value end h in
       let reads = reads-read_plan (entries t) start parts.all.passed parts.mid fits parts.all.reads in
       let few = entries-few t.info.doc_freq no_entry start.place reads.records parts.all.passed (All-nil IsFew) reads.good reads.none_due in
-      let same : parts.all.passed.postings ≡ value.postings = ap (λ (r : Result (Passed × Cursor) Broken). read_postings r) (sym parts.all.reads) ∙ sym parts.postings in
+      let same : parts.all.passed.postings ≡ value.postings = ap (λ (r : Result (EntriesSoFar × Cursor) Broken). read_postings r) (sym parts.all.reads) ∙ sym parts.postings in
       subst (All IsFew) same few

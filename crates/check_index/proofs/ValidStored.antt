@@ -9,11 +9,12 @@ use Rattle.lu_types.specs.declared.stored.SharedStore.{SharedStore}
 use Rattle.lu_types.specs.declared.stored.Stored.{Stored}
 use Rattle.lu_types.specs.declared.stored.Stored.TheVariants.{Text, Binary}
 use Rattle.lu_types.specs.declared.stored.Window.{Window}
+use Rattle.lu_types.specs.Stores.{whole_store}
 use Rattle.lu_model.specs.Valid.{IsSmall, IsStorable}
-use Rattle.stored_fields.specs.Values.{Document, HasFields}
+use Rattle.stored_fields.specs.Values.{StoredDocument, HasFields}
 use Rattle.stored_fields.specs.Places.{fdx_plan}
 use Rattle.stored_fields.specs.Documents.{fdt_plan}
-use Rattle.stored_fields.specs.Stores.{total_of, whole_store}
+use Rattle.stored_fields.specs.Stores.{total_of}
 use Rattle.stored_fields.specs.Writing.{IsStorableValue, IsStorableDocument}
 use Rattle.stored_fields.proofs.PlaceLemmas.{has_places}
 use Rattle.stored_fields.proofs.StandsLemmas.{all_stand}
@@ -27,7 +28,7 @@ abbrev pub IsGoodValue : ℕ → StoredField → Type 0
 IsGoodValue fields value = (value.field < fields) × IsStorable value.value
 
 -- as many documents as the segment has, each with its values
-pub record AreGoodDocuments (size fields : ℕ) (stored : List Document) : Type 0 where
+pub record AreGoodDocuments (size fields : ℕ) (stored : List StoredDocument) : Type 0 where
   pub number : length stored ≡ size
   pub few : All (λ values. IsSmall (length values)) stored
   pub values : All (All (IsGoodValue fields)) stored
@@ -38,7 +39,7 @@ storable (Binary bytes) (short, (same, fits)) = (fits, short)
 
 -- what a window has of documents that can be stored, and have the fields
 module _ (size fields : ℕ) (window : Window) (fdx fdt : List ℕ) (total : List ℕ → ℕ) (size_is : window.count ≡ size) where
-  good-window : (stored : List Document) → AreStored total window fields (Some fdx) (Some fdt) stored → AreGoodDocuments size fields stored
+  good-window : (stored : List StoredDocument) → AreStored total window fields (Some fdx) (Some fdt) stored → AreGoodDocuments size fields stored
   good-window stored h =
       let fdx_fits = read-bytes (fdx_plan (total fdx) window) fdx h.places h.places_held in
       let fdt_fits = read-bytes (fdt_plan window fields h.places) fdt h.all h.documents_held in
@@ -58,11 +59,11 @@ module _ (size fields : ℕ) (window : Window) (fdx fdt : List ℕ) (total : Lis
       }
 
 -- the documents of a store
-of-store : (size fields : ℕ) (window : Window) (fdx fdt : Option (List ℕ)) (total : List ℕ → ℕ) (stored : List Document) → window.count ≡ size → AreStored total window fields fdx fdt stored → AreGoodDocuments size fields stored
+of-store : (size fields : ℕ) (window : Window) (fdx fdt : Option (List ℕ)) (total : List ℕ → ℕ) (stored : List StoredDocument) → window.count ≡ size → AreStored total window fields fdx fdt stored → AreGoodDocuments size fields stored
 of-store size fields window None fdt total stored size_is h = absurd h.places_held
 of-store size fields window (Some fdx) None total stored size_is h = absurd h.documents_held
 of-store size fields window (Some fdx) (Some fdt) total stored size_is h = good-window size fields window fdx fdt total size_is stored h
 
-pub stored-are : (store : Option SharedStore) (size fields : ℕ) (fdx fdt : Option (List ℕ)) (stored : List Document) → HoldStored store size fields fdx fdt stored → AreGoodDocuments size fields stored
+pub stored-are : (store : Option SharedStore) (size fields : ℕ) (fdx fdt : Option (List ℕ)) (stored : List StoredDocument) → HoldStored store size fields fdx fdt stored → AreGoodDocuments size fields stored
 stored-are None size fields fdx fdt stored h = of-store size fields (whole_store size) fdx fdt (λ _. size) stored refl h
 stored-are (Some store) size fields fdx fdt stored h = of-store size fields (window_of store size) fdx fdt total_of stored refl h

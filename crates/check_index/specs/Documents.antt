@@ -7,7 +7,7 @@ use Rattle.lu_types.specs.declared.kind.FileKind.TheVariants.{Fnm, Del}
 use Rattle.lu_types.specs.declared.stored.SharedStore.{SharedStore}
 use Rattle.lu_types.specs.declared.stored.Window.{Window}
 use Rattle.field_infos.specs.Fnm.{fnm_plan}
-use Rattle.stored_fields.specs.Values.{Document}
+use Rattle.stored_fields.specs.Values.{StoredDocument}
 use Rattle.stored_fields.specs.Stores.{own_files, shared_files}
 use Rattle.doc_marks.specs.Deletions.{del_plan}
 use Rattle.segment_infos.specs.declared.infos.SegInfo.{SegInfo}
@@ -26,7 +26,7 @@ abbrev pub window_of : SharedStore → ℕ → Window
 window_of store size = record { offset = store.offset; count = size }
 
 -- the stored documents of a segment of so many, with so many fields: its own, or its part of a shared store
-abbrev pub stored_files : Option SharedStore → ℕ → ℕ → Option (List ℕ) → Option (List ℕ) → FilePlan (List Document)
+abbrev pub stored_files : Option SharedStore → ℕ → ℕ → Option (List ℕ) → Option (List ℕ) → FilePlan (List StoredDocument)
 stored_files None size fields fdx fdt = own_files size fields fdx fdt
 stored_files (Some store) size fields fdx fdt = shared_files (window_of store size) fields fdx fdt
 

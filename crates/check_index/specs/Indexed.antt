@@ -3,16 +3,11 @@ use Rattle.std.specs.Prelude.{ℕ, List, [], ◌∷◌, map, cond}
 use Rattle.lu_types.specs.Bits as bit
 use Rattle.lu_types.specs.Bits.{has_bit}
 use Rattle.lu_types.specs.Tables.{TableField, bits_at}
-use Rattle.lu_model.specs.Index.{Occurrence as IndexedOccurrence, given, omitted, IndexedEntry, IndexedTerm}
+use Rattle.lu_model.specs.Index.{given, omitted, IndexedEntry, IndexedTerm}
 use Rattle.term_dict.specs.Terms.{DictionaryTerm}
 use Rattle.freq_skips.specs.Entries.{Posting}
 use Rattle.freq_skips.specs.Terms.{TermData}
-use Rattle.positions.specs.Occurrences.{Occurrence}
 use Rattle.check_index.specs.Positions.{TermOccurrences}
-
--- an occurrence of the index
-abbrev pub indexed_occurrence : Occurrence → IndexedOccurrence
-indexed_occurrence o = record { position = o.position; payload = o.payload }
 
 -- a document of which is known only that it has the term
 abbrev pub omitted_entry : Posting → IndexedEntry
@@ -22,7 +17,7 @@ omitted_entry p = record { document = p.doc; occurrences = omitted }
 abbrev pub given_entries : List Posting → TermOccurrences → List IndexedEntry
 given_entries [] all = []
 given_entries (p ∷ ps) [] = []
-given_entries (p ∷ ps) (here ∷ all) = (record { document = p.doc; occurrences = given (map indexed_occurrence here) }) ∷ given_entries ps all
+given_entries (p ∷ ps) (here ∷ all) = (record { document = p.doc; occurrences = given here }) ∷ given_entries ps all
 
 -- the entries of a term in a field with these bits
 abbrev pub indexed_entries : ℕ → List Posting → TermOccurrences → List IndexedEntry

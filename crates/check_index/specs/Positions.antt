@@ -1,13 +1,17 @@
 -- The positions of the terms of a segment: `.prx` (format page, "Positions").
-use Rattle.std.specs.Prelude.{◌≡◌, ℕ, false, List, [], map, Option, Some, None}
+use Rattle.std.specs.Prelude.{◌≡◌, ℕ, ◌<◌, ◌^◌, true, false, List, [], length, map, Option, Some, None, All, unwrap_or}
+use Rattle.lu_grammar.specs.Bytes.{IsBytes}
 use Rattle.lu_grammar.specs.Reading.{value_or}
 use Rattle.lu_grammar.specs.Plans.{read_file}
 use Rattle.lu_types.specs.FilePlans.{FilePlan, stands, needs, where_needed}
-use Rattle.lu_types.specs.Tables.{TableField}
+use Rattle.lu_types.specs.Bits as bit
+use Rattle.lu_types.specs.Bits.{has_bit}
+use Rattle.lu_types.specs.Tables.{TableField, bits_at}
 use Rattle.lu_types.specs.declared.kind.FileKind.TheVariants.{Prx}
+use Rattle.lu_types.specs.Occurrences.{Occurrence}
 use Rattle.term_dict.specs.Dictionary.{Dictionary}
 use Rattle.freq_skips.specs.Terms.{TermData}
-use Rattle.positions.specs.Occurrences.{Occurrence, PostedTerm}
+use Rattle.positions.specs.Occurrences.{PostedTerm}
 use Rattle.positions.specs.Terms.{term_plan, posted_terms, prx_plan}
 use Rattle.positions.specs.Cursors.{StandsInBoth}
 use Rattle.segment_infos.specs.declared.infos.SegInfo.{SegInfo}
@@ -51,7 +55,15 @@ HavePassedPositions fields size d lists prx passed place = HavePassed term_plan 
 abbrev pub ArePosted : List TableField → ℕ → Dictionary → List TermData → List ℕ → List TermOccurrences → Type 0
 ArePosted fields size d lists prx occurrences = AreTaken term_plan (IsPosted prx) (listed_postings fields size d lists) prx occurrences
 
--- so they are, where there is such a file
+-- no term is of a field that keeps positions
+abbrev pub AreOmitted : List TableField → Dictionary → Type 0
+AreOmitted fields d = All (λ t. has_bit bit.omit_tf (bits_at fields t.info.field) ≡ true) d.terms
+
+-- the bytes of the file; none where it is not there
+abbrev pub bytes_if_any : Option (List ℕ) → List ℕ
+bytes_if_any file = unwrap_or file []
+
+-- so they are, where there is such a file, which has as many bytes as a file may have; without one, no term keeps positions
 abbrev pub ArePositions : List TableField → ℕ → Dictionary → List TermData → Option (List ℕ) → Type 0
-ArePositions fields size d lists None = Unit {0}
-ArePositions fields size d lists (Some prx) = ArePosted fields size d lists prx (occurrences_in fields size d lists (Some prx))
+ArePositions fields size d lists None = AreOmitted fields d
+ArePositions fields size d lists (Some prx) = IsBytes prx × (length prx < 2 ^ 31) × ArePosted fields size d lists prx (occurrences_in fields size d lists (Some prx))

@@ -3,7 +3,7 @@ use Rattle.std.specs.Prelude.{◌≡◌, ℕ, List, length, Result, Ok, Err}
 use Rattle.lu_types.specs.FilePlans.{FilePlan, stands, followed_by, StandFor, IsFaultAmong}
 use Rattle.lu_types.specs.Tables.{TableField}
 use Rattle.lu_model.specs.Index.{FieldVector, Index}
-use Rattle.stored_fields.specs.Values.{Document}
+use Rattle.stored_fields.specs.Values.{StoredDocument}
 use Rattle.term_dict.specs.Dictionary.{Dictionary}
 use Rattle.freq_skips.specs.Terms.{TermData}
 use Rattle.segment_infos.specs.declared.infos.SegInfo.{SegInfo}
@@ -28,7 +28,7 @@ pub record SegmentValue : Type 0 where
 -- what its fields, stored documents and terms are, read from these parts
 pub record Contents : Type 0 where
   pub fields : List TableField
-  pub stored : List Document
+  pub stored : List StoredDocument
   pub terms : TermLists
   pub occurrences : List TermOccurrences
 

@@ -7,11 +7,12 @@ use Rattle.lu_types.specs.Names.{segment_name}
 use Rattle.lu_types.specs.Tables.{TableField}
 use Rattle.lu_types.specs.declared.stored.SharedStore.{SharedStore}
 use Rattle.lu_types.specs.declared.stored.Window.{Window}
+use Rattle.lu_types.specs.Stores.{whole_store, windowed}
 use Rattle.field_infos.specs.Fnm.{fnm_plan}
-use Rattle.stored_fields.specs.Values.{Document}
+use Rattle.stored_fields.specs.Values.{StoredDocument}
 use Rattle.stored_fields.specs.Places.{fdx_plan}
 use Rattle.stored_fields.specs.Documents.{fdt_plan}
-use Rattle.stored_fields.specs.Stores.{total_of, whole_store, windowed}
+use Rattle.stored_fields.specs.Stores.{total_of}
 use Rattle.term_dict.specs.Dictionary.{tis_plan}
 use Rattle.term_dict.specs.Index.{tii_plan}
 use Rattle.freq_skips.specs.Terms.{frq_plan}
@@ -20,12 +21,11 @@ use Rattle.doc_marks.specs.Norms.{nrm_plan}
 use Rattle.doc_marks.specs.Deletions.{del_plan}
 use Rattle.compound_file.specs.Entries.{NamedPart}
 use Rattle.compound_file.specs.Cfs.{cfs_plan}
-use Rattle.term_vectors.specs.declared.fields.StorePart.{StorePart}
+use Rattle.term_vectors.specs.declared.fields.StoreWindow.{StoreWindow}
 use Rattle.term_vectors.specs.declared.layout.DocumentPlaces.{DocumentPlaces}
 use Rattle.term_vectors.specs.Places.{tvx_plan}
 use Rattle.term_vectors.specs.Fields.{VectorPlace, tvd_plan}
-use Rattle.term_vectors.specs.Vectors.{Vector, tvf_plan}
-use Rattle.term_vectors.specs.Stores.{windowed as windowed_vectors}
+use Rattle.term_vectors.specs.Vectors.{StoredVector, tvf_plan}
 use Rattle.segment_infos.specs.declared.infos.SegInfo.{SegInfo}
 use Rattle.check_index.specs.Files.{DocumentFiles, PartFiles, FolderFiles}
 use Rattle.check_index.specs.Locating.{packed_documents, packed_files}
@@ -61,15 +61,15 @@ AreDocuments folder (Some store) own documents = AreShared store.compound folder
 -- ---- what stands in them
 
 -- the stored documents are those of a store that its window has
-pub record AreStored (total : List ℕ → ℕ) (window : Window) (fields : ℕ) (fdx fdt : Option (List ℕ)) (stored : List Document) : Type 0 where
+pub record AreStored (total : List ℕ → ℕ) (window : Window) (fields : ℕ) (fdx fdt : Option (List ℕ)) (stored : List StoredDocument) : Type 0 where
   pub places : List ℤ
   pub places_held : Holds fdx (λ bytes. fdx_plan (total bytes) window) places
-  pub all : List Document
+  pub all : List StoredDocument
   pub documents_held : Holds fdt (λ _. fdt_plan window fields places) all
   pub windowed_is : stored ≡ windowed window all
 
 -- the store is the segment's own, of as many documents; or a shared one, of which it takes its part
-abbrev pub HoldStored : Option SharedStore → ℕ → ℕ → Option (List ℕ) → Option (List ℕ) → List Document → Type 0
+abbrev pub HoldStored : Option SharedStore → ℕ → ℕ → Option (List ℕ) → Option (List ℕ) → List StoredDocument → Type 0
 HoldStored None size fields fdx fdt stored = AreStored (λ _. size) (whole_store size) fields fdx fdt stored
 HoldStored (Some store) size fields fdx fdt stored = AreStored total_of (window_of store size) fields fdx fdt stored
 
@@ -84,17 +84,17 @@ HoldColumns size fields nrm norms =
     Either (nat_lt 0 (count_with_norms fields)) ((columns : List (List ℕ)) × Holds nrm (λ _. nrm_plan (count_with_norms fields) size) columns × (norms ≡ norms_from 0 columns fields)) norms (map (λ _. None) fields)
 
 -- the vectors are those of a store that the segment's part has
-pub record AreStoreVectors (part : StorePart) (fields : List TableField) (files : DocumentFiles) (vectors : List (List Vector)) : Type 0 where
+pub record AreStoreVectors (part : StoreWindow) (fields : List TableField) (files : DocumentFiles) (vectors : List (List StoredVector)) : Type 0 where
   pub places : List DocumentPlaces
   pub places_held : Holds files.tvx (λ _. tvx_plan part.total) places
   pub slots : List (List VectorPlace)
   pub slots_held : Holds files.tvd (λ _. tvd_plan fields part.window places) slots
-  pub all : List (List Vector)
+  pub all : List (List StoredVector)
   pub vectors_held : Holds files.tvf (λ _. tvf_plan slots) all
-  pub windowed_is : vectors ≡ windowed_vectors part.window all
+  pub windowed_is : vectors ≡ windowed part.window all
 
 -- they are where some field has vectors and there is a `.tvx`; otherwise no document has vectors
-abbrev pub HoldVectors : SegInfo → List TableField → DocumentFiles → List (List Vector) → Type 0
+abbrev pub HoldVectors : SegInfo → List TableField → DocumentFiles → List (List StoredVector) → Type 0
 HoldVectors line fields files vectors =
     Either (have_vectors fields && is_some files.tvx) (AreStoreVectors (store_part line.store line.size files.fdx) fields files vectors) vectors (no_vectors line.size)
 

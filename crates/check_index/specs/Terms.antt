@@ -1,5 +1,5 @@
 -- The terms of a segment and their entries: `.tis`, `.tii` and `.frq` (format page, "Terms", "Term index", "Entries and skip data").
-use Rattle.std.specs.Prelude.{ℕ, ◌<◌, List, [], length, map, All}
+use Rattle.std.specs.Prelude.{ℕ, List, [], length, map}
 use Rattle.lu_grammar.specs.Bytes.{Cursor, place_in}
 use Rattle.lu_grammar.specs.Reading.{value_or}
 use Rattle.lu_grammar.specs.Plans.{read_file}
@@ -31,10 +31,6 @@ pub record TermLists : Type 0 where
 -- the same by its parts
 abbrev pub listed_terms : Dictionary → List TermData → TermLists
 listed_terms d lists = record { dictionary = d; lists = lists }
-
--- each term of the dictionary is in some document
-abbrev pub AreUsed : Dictionary → Type 0
-AreUsed d = All (λ t. 0 < t.info.doc_freq) d.terms
 
 -- the terms, their index, and their entries
 abbrev pub term_files : IndexFiles → ℕ → List TableField → FilePlan TermLists

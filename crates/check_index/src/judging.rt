@@ -1,11 +1,12 @@
 //! The files of a segment are checked in their order (format page, "How a fault is found").
-ghost use Rattle.std.specs.Prelude.{◌≡◌, length, IfOk, IfSome, option_copied};
+ghost use Rattle.std.specs.Prelude.{◌≡◌, ◌<◌, ◌^◌, length, IfOk, IfSome, option_copied};
 ghost use Rattle.lu_types.specs.FilePlans.{Judges};
+ghost use Rattle.term_dict.specs.Facts.{AreGoodTerms};
 ghost use Rattle.term_index.specs.Seeking.{AreChecked};
 ghost use Rattle.segment_infos.specs.Values.{IsLine};
 ghost use Rattle.check_index.specs.Files.{folder_of, IsShort, AreShort, AreShortParts};
 ghost use Rattle.check_index.specs.Locating.{part_files_of};
-ghost use Rattle.check_index.specs.Terms.{AreUsed, lists_in, AreListed};
+ghost use Rattle.check_index.specs.Terms.{lists_in, AreListed};
 ghost use Rattle.check_index.specs.Positions.{ArePositions};
 ghost use Rattle.check_index.specs.Vectors.{store_part, IsWithin, HaveSome};
 ghost use Rattle.check_index.specs.Segments.{content_files, side_files, segment_files, IsJudged};
@@ -36,7 +37,8 @@ fn open_contents<'a>(
     ensures judged { Judges (contents_of info.now.size) (content_files (part_files_of files.now) info.now) result }
     ensures documents { IfOk result (λ o. length o.stored ≡ info.now.size) }
     ensures checked { IfOk result (λ o. AreChecked o.terms.tii.now o.terms.terms o.fields) }
-    ensures used { IfOk result (λ o. AreUsed o.terms.terms) }
+    ensures good { IfOk result (λ o. AreGoodTerms o.fields info.now.size o.terms.terms) }
+    ensures small { IfOk result (λ o. length o.terms.frq.now < 2 ^ 31) }
     ensures posted { IfOk result (λ o. ArePositions o.fields info.now.size o.terms.terms (lists_in o.fields info.now.size o.terms.terms o.terms.frq.now) (option_copied o.prx)) }
     ensures listed { IfOk result (λ o. AreListed o.fields info.now.size o.terms.terms o.terms.frq.now (lists_in o.fields info.now.size o.terms.terms o.terms.frq.now)) }
 {

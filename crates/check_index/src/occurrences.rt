@@ -1,11 +1,13 @@
 //! The positions of the terms of a segment (format page, "Positions").
-ghost use Rattle.std.specs.Prelude.{◌≡◌, ◌<◌, ◌^◌, length, Some, IfOk, IfErr, option_copied};
+ghost use Rattle.std.specs.Prelude.{◌≡◌, ◌<◌, ◌^◌, false, length, Some, IfOk, IfErr, option_copied};
+ghost use Rattle.lu_grammar.specs.Bytes.{IsBytes};
 ghost use Rattle.lu_types.specs.FilePlans.{Judges};
 ghost use Rattle.lu_types.specs.Judging.{IsFault};
+ghost use Rattle.term_dict.specs.Facts.{AreGoodTerms};
 ghost use Rattle.positions.specs.Terms.{prx_plan};
-ghost use Rattle.check_index.specs.Files.{IndexFiles};
-ghost use Rattle.check_index.specs.Terms.{AreUsed, infos_of, lists_in, listed_terms, AreListed};
-ghost use Rattle.check_index.specs.Positions.{occurrences_in, position_files, ArePosted, ArePositions};
+ghost use Rattle.check_index.specs.Files.{IndexFiles, IsShort};
+ghost use Rattle.check_index.specs.Terms.{infos_of, lists_in, listed_terms, AreListed};
+ghost use Rattle.check_index.specs.Positions.{occurrences_in, position_files, ArePosted, AreOmitted, ArePositions};
 
 use crate::needed::needed;
 use crate::terms::{OpenTerms, rules_of};
@@ -24,9 +26,10 @@ fn check_positions(
     fields: &FieldTable<'_>,
     size: u32,
 ) -> Result<(), CodecFault>
-    requires used { AreUsed opened.now.terms }
+    requires good { AreGoodTerms fields.now size opened.now.terms }
     requires listed { AreListed fields.now size opened.now.terms opened.now.frq.now (lists_in fields.now size opened.now.terms opened.now.frq.now) }
     requires small { length opened.now.frq.now < 2 ^ 31 }
+    ensures bytes { IsBytes prx.now }
     ensures posted { IfOk result (λ _. ArePosted fields.now size opened.now.terms (lists_in fields.now size opened.now.terms opened.now.frq.now) prx.now
         (occurrences_in fields.now size opened.now.terms (lists_in fields.now size opened.now.terms opened.now.frq.now) (Some prx.now))) }
     ensures fault { IfErr result (IsFault FileKind.Prx (prx_plan fields.now opened.now.terms.numbers size (infos_of opened.now.terms)
@@ -59,7 +62,9 @@ pub fn open_positions<'a>(
     fields: &FieldTable<'_>,
     opened: &OpenTerms<'_>,
 ) -> Result<Option<&'a [u8]>, CodecFault>
-    requires used { AreUsed opened.now.terms }
+    requires good { AreGoodTerms fields.now info.now.size opened.now.terms }
+    requires omitted { info.now.has_prox ≡ false → AreOmitted fields.now opened.now.terms }
+    requires short { IsShort (option_copied file) }
     requires listed { AreListed fields.now info.now.size opened.now.terms opened.now.frq.now (lists_in fields.now info.now.size opened.now.terms opened.now.frq.now) }
     requires small { length opened.now.frq.now < 2 ^ 31 }
     ensures judged { (files : IndexFiles) → files.prx ≡ option_copied file.entry

@@ -1,16 +1,19 @@
 //! A segment whose files stand together (format page, "Indexes").
-ghost use Rattle.std.specs.Prelude.{◌≡◌, ℕ, IfOk, IfSome, option_copied};
+ghost use Rattle.std.specs.Prelude.{◌≡◌, ℕ, List, IfOk, IfSome, option_copied};
 ghost use Rattle.term_index.specs.Seeking.{searched, names_of};
 ghost use Rattle.check_index.specs.Files.{file_at};
 ghost use Rattle.check_index.specs.Vectors.{HaveSome, vectors_seen};
-ghost use Rattle.check_index.specs.Opened.{IsTermOf, entries_of};
+ghost use Rattle.lu_types.specs.Occurrences.{Occurrence};
+ghost use Rattle.check_index.specs.Positions.{bytes_if_any as bytes_there};
+ghost use Rattle.check_index.specs.Opened.{IsTermOf, entries_of, skips_of, IsPointOf, KeepsPositions, StandsAt, occurrences_of};
 
 use crate::norms::FieldNorms;
 use crate::terms::{OpenTerms, rules_of};
 use doc_marks::Live;
-use freq_skips::Entries;
+use freq_skips::{Entries, SkipPoint, Skips};
 use lu_prims::OutOfMemory;
 use lu_types::{FieldTable, TermInfo};
+use positions::Occurrences;
 use std::alloc::Global;
 use std::marker::Model;
 use stored_fields::StoredView;
@@ -54,6 +57,16 @@ impl<'a> Model for Standing<'a> {
     ghost view = { λ s. segment_value s.size (contents_of s.size s.contents) (columns_of s.size s.columns) };
 
     ghost invariant = { λ s. IsTied s.size s.contents s.columns };
+}
+
+/// The bytes of a file; none where it is not there.
+fn bytes_if_any<'a>(file: Option<&'a [u8]>) -> &'a [u8]
+    ensures { result.now ≡ bytes_there (option_copied file.entry) }
+{
+    match file {
+        Some(bytes) => bytes,
+        None => &[],
+    }
 }
 
 impl<'a> Standing<'a> {
@@ -129,5 +142,29 @@ impl<'a> Standing<'a> {
         let numbers = contents.terms.terms.numbers();
         let rules = rules_of(&contents.fields, &numbers, term.field, self.size);
         Entries::at(contents.terms.frq, term, &rules)
+    }
+
+    /// The skip data of a term of the segment. Takes no memory.
+    pub fn skips(&self, term: &TermInfo) -> Skips<'a>
+        requires { (n : ℕ) × IsTermOf self.now n term.now }
+        ensures { (n : ℕ) → IsTermOf self.now n term.now → result ≡ skips_of self.now n term.now }
+    {
+        let contents = &self.contents;
+        let numbers = contents.terms.terms.numbers();
+        let rules = rules_of(&contents.fields, &numbers, term.field, self.size);
+        Skips::at(contents.terms.frq, term, &rules)
+    }
+
+    /// The occurrences of a term of the segment, from the entry on that a point leads to: the term's start, or one that its skip
+    /// data give; no document is open. A term of a field without positions has no occurrence. Takes no memory.
+    pub fn occurrences(&self, term: &TermInfo, at: &SkipPoint) -> Occurrences<'a>
+        requires { (n : ℕ) × IsPointOf self.now n term.now at.now }
+        ensures kept { (n : ℕ) → IsPointOf self.now n term.now at.now → KeepsPositions self.now term.now → StandsAt self.now n term.now at.now (occurrences_of self.now n) result }
+        ensures stands { (n : ℕ) → IsPointOf self.now n term.now at.now → (some : List (List Occurrence)) × StandsAt self.now n term.now at.now some result }
+    {
+        let contents = &self.contents;
+        let numbers = contents.terms.terms.numbers();
+        let rules = rules_of(&contents.fields, &numbers, term.field, self.size);
+        Occurrences::at(bytes_if_any(contents.prx), term, &rules, at)
     }
 }

@@ -5,11 +5,12 @@ ghost use Rattle.lu_types.specs.FilePlans.{Judges};
 ghost use Rattle.lu_types.specs.Judging.{IsFault};
 ghost use Rattle.lu_types.specs.Tables.{bits_at};
 ghost use Rattle.lu_types.specs.Terms.{term_rules};
+ghost use Rattle.term_dict.specs.Facts.{AreGoodTerms};
 ghost use Rattle.freq_skips.specs.Terms.{frq_plan};
 ghost use Rattle.term_index.specs.Seeking.{AreChecked};
 ghost use Rattle.check_index.specs.Files.{IsShort};
 ghost use Rattle.check_index.specs.Locating.{index_files_of};
-ghost use Rattle.check_index.specs.Terms.{TermLists, infos_of, term_files, lists_in, listed_terms, AreListed, AreUsed};
+ghost use Rattle.check_index.specs.Terms.{TermLists, infos_of, term_files, lists_in, listed_terms, AreListed};
 
 use crate::locating::IndexParts;
 use crate::needed::needed;
@@ -48,7 +49,7 @@ fn check_entries(
     fields: &FieldTable<'_>,
     size: u32,
 ) -> Result<(), CodecFault>
-    requires { AreUsed terms.now }
+    requires { AreGoodTerms fields.now size terms.now }
     ensures listed { IfOk result (λ _. AreListed fields.now size terms.now frq.now (lists_in fields.now size terms.now frq.now)) }
     ensures fault { IfErr result (IsFault FileKind.Frq (frq_plan fields.now terms.now.numbers size (infos_of terms.now)) frq.now) }
 {
@@ -82,7 +83,7 @@ pub fn open_terms<'a>(
     requires frq { IsShort (option_copied files.now.frq) }
     ensures judged { Judges (λ o. listed_terms o.terms (lists_in fields.now size o.terms o.frq.now)) (term_files (index_files_of files.now) size fields.now) result }
     ensures checked { IfOk result (λ o. AreChecked o.tii.now o.terms fields.now) }
-    ensures used { IfOk result (λ o. AreUsed o.terms) }
+    ensures good { IfOk result (λ o. AreGoodTerms fields.now size o.terms) }
     ensures small { IfOk result (λ o. length o.frq.now < 2 ^ 31) }
     ensures listed { IfOk result (λ o. AreListed fields.now size o.terms o.frq.now (lists_in fields.now size o.terms o.frq.now)) }
 {

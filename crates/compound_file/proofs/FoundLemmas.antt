@@ -8,8 +8,9 @@ use Rattle.lu_types.specs.declared.kind.FileKind.{FileKind}
 use Rattle.lu_types.specs.declared.kind.FileKind.TheVariants.{Commit, Cfs, Cfx, Fnm, Fdx, Fdt, Tis, Tii, Frq, Prx, Nrm, Sep, Del, Tvx, Tvd, Tvf}
 use Rattle.lu_types.specs.declared.named_file.NamedFile.{NamedFile}
 use Rattle.lu_types.specs.Names.{part_name, IsPart}
+use Rattle.lu_types.specs.Kinds.{part_kinds}
 use Rattle.compound_file.specs.Entries.{part_named}
-use Rattle.compound_file.specs.Packing.{part_kinds, is_same, file_of, packed_in}
+use Rattle.compound_file.specs.Packing.{is_same, file_of, packed_in}
 use Rattle.compound_file.proofs.KindLemmas.{file_of-kind, same_kind, same_name, all-parts}
 use Rattle.compound_file.proofs.PackedLemmas.{same_kind-refl, has, differ, part_kinds-differ}
 

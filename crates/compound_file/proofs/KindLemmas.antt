@@ -17,11 +17,11 @@ use Rattle.lu_prims.specs.Base36.{base36}
 use Rattle.lu_types.specs.declared.kind.FileKind.{FileKind}
 use Rattle.lu_types.specs.declared.kind.FileKind.TheVariants.{Commit, Cfs, Cfx, Fnm, Fdx, Fdt, Tis, Tii, Frq, Prx, Nrm, Sep, Del, Tvx, Tvd, Tvf}
 use Rattle.lu_types.specs.declared.named_file.NamedFile.{NamedFile}
-use Rattle.lu_types.specs.Kinds.{turn, extension}
+use Rattle.lu_types.specs.Kinds.{turn, extension, part_kinds}
 use Rattle.lu_types.specs.Names.{segment_name, part_name, IsPart}
 use Rattle.compound_file.specs.Entries.{NamedPart}
 use Rattle.compound_file.specs.declared.packing.Packed.{Packed}
-use Rattle.compound_file.specs.Packing.{part_kinds, is_same, file_of, packed_in}
+use Rattle.compound_file.specs.Packing.{is_same, file_of, packed_in}
 use Rattle.compound_file.specs.Packs.{part_of}
 
 -- ---- one kind

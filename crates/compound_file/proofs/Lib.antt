@@ -9,5 +9,4 @@ pub mod KindLemmas
 pub mod WrittenLemmas
 pub mod PackedLemmas
 pub mod FoundLemmas
-pub mod SplitRecords
 pub mod OnlyPacked

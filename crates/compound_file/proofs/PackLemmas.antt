@@ -9,7 +9,7 @@ use Rattle.std.proofs.Math.Seq.{drop-cons}
 use Rattle.lu_grammar.specs.Parts.{groups, spelling, int64, num, text}
 use Rattle.compound_file.specs.declared.packing.Packed.{Packed}
 use Rattle.compound_file.specs.Entries.{NamedPart}
-use Rattle.compound_file.specs.Packing.{entry_size, directory_size, entries_bytes, contents, contents_size, cfs_bytes}
+use Rattle.compound_file.specs.Packing.{entry_size, directory_size, entries_bytes, part_contents, contents_size, cfs_bytes}
 use Rattle.compound_file.specs.Packs.{part_of}
 
 -- a number below 128 is its own spelling
@@ -40,9 +40,9 @@ module _ (parts : List Packed) (i : ℕ) (item : Packed) (within : i < length pa
   pub contents_size-left : contents_size (drop i (map part_of parts)) ≡ length item.bytes.now + contents_size (drop (i + 1) (map part_of parts))
   contents_size-left = ap contents_size drop-next ∙ sum_by-cons (λ p. length p.bytes) (part_of item) (drop (i + 1) (map part_of parts))
 
-  pub contents-left : (front : List ℕ) → (front ++ item.bytes.now) ++ contents (drop (i + 1) (map part_of parts)) ≡ front ++ contents (drop i (map part_of parts))
-  contents-left front =
-      append_assoc front item.bytes.now (contents (drop (i + 1) (map part_of parts))) ∙ ap (λ (ps : List NamedPart). front ++ contents ps) (sym drop-next)
+  pub part_contents-left : (front : List ℕ) → (front ++ item.bytes.now) ++ part_contents (drop (i + 1) (map part_of parts)) ≡ front ++ part_contents (drop i (map part_of parts))
+  part_contents-left front =
+      append_assoc front item.bytes.now (part_contents (drop (i + 1) (map part_of parts))) ∙ ap (λ (ps : List NamedPart). front ++ part_contents ps) (sym drop-next)
 
   pub entries_bytes-left : (front : List ℕ) (start : ℕ)
       → ((front ++ spelling int64 (pos start)) ++ spelling text item.name) ++ entries_bytes (start + length item.bytes.now) (drop (i + 1) (map part_of parts)) ≡ front ++ entries_bytes start (drop i (map part_of parts))
@@ -66,4 +66,4 @@ pub length-cfs_bytes : (parts : List NamedPart) → length (cfs_bytes parts) ≡
 length-cfs_bytes parts =
     let header = spelling num (length parts) in
     let entries = entries_bytes (directory_size parts) parts in
-    omega (arith, length-append (header ++ entries) (contents parts), length-append header entries, length-entries_bytes (directory_size parts) parts, length-flat_map (λ (p : NamedPart). p.bytes) parts)
+    omega (arith, length-append (header ++ entries) (part_contents parts), length-append header entries, length-entries_bytes (directory_size parts) parts, length-flat_map (λ (p : NamedPart). p.bytes) parts)

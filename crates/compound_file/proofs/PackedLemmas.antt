@@ -13,13 +13,13 @@ use Rattle.lu_prims.proofs.Base36Lemmas.{spelled_plain}
 use Rattle.lu_types.specs.declared.kind.FileKind.{FileKind}
 use Rattle.lu_types.specs.declared.kind.FileKind.TheVariants.{Commit, Cfs, Cfx, Fnm, Fdx, Fdt, Tis, Tii, Frq, Prx, Nrm, Sep, Del, Tvx, Tvd, Tvf}
 use Rattle.lu_types.specs.declared.named_file.NamedFile.{NamedFile}
-use Rattle.lu_types.specs.Kinds.{turn, extension}
+use Rattle.lu_types.specs.Kinds.{turn, extension, part_kinds}
 use Rattle.lu_types.specs.Names.{segment_name, part_name, IsPart}
 use Rattle.lu_grammar.specs.Bytes.{IsBytes}
 use Rattle.lu_grammar.specs.Parts.{text, IsValue}
 use Rattle.compound_file.specs.declared.packing.Packed.{Packed}
 use Rattle.compound_file.specs.Entries.{NamedPart, AreParts}
-use Rattle.compound_file.specs.Packing.{part_kinds, is_same, file_of, packed_in, packed_parts}
+use Rattle.compound_file.specs.Packing.{is_same, file_of, packed_in, packed_parts}
 use Rattle.compound_file.specs.Packs.{part_of}
 use Rattle.compound_file.proofs.KindLemmas.{file_of-kind, same_name, short-name, found-all, found-few, all-parts, All-cons}
 

@@ -11,14 +11,14 @@ use Rattle.lu_grammar.specs.Parts.{int64, text, spelling}
 use Rattle.lu_grammar.specs.Records.{Spells, Condition, first_broken, read_shape, record_at}
 use Rattle.lu_grammar.proofs.Records.{TakesRecord, ShapeJudges, read_shape-judges}
 use Rattle.lu_grammar.proofs.Codecs.{ok_pair, record_at-read, record_at-breaks, all_unbroken}
-use Rattle.compound_file.specs.Entries.{Entry, number_of, first_start, last_start}
+use Rattle.compound_file.specs.Entries.{PartEntry, entry_number_of, first_start, last_start}
 use Rattle.compound_file.specs.Cfs.{CfsRecord, entry, entry_shape, place_of, after_entry, is_misplaced, is_apart, conditions_after, entry_conditions}
 use Rattle.compound_file.specs.Directories.{IsGoodEntry}
 
 -- ---- the conditions of an entry
 
 -- an offset that is not misplaced is a place
-pub placed : (size : ℕ) (before : List Entry) (z : ℤ) → is_misplaced size before z ≡ false → (z ≡ pos (nat_abs z)) × (last_start 0 before ≤ nat_abs z) × (nat_abs z ≤ size)
+pub placed : (size : ℕ) (before : List PartEntry) (z : ℤ) → is_misplaced size before z ≡ false → (z ≡ pos (nat_abs z)) × (last_start 0 before ≤ nat_abs z) × (nat_abs z ≤ size)
 placed size before (pos n) e =
     let parts = or_parts (int_lt (pos n) (pos (last_start 0 before))) (int_lt (pos size) (pos n)) e in
     (refl, ltb-false n (last_start 0 before) parts.0, ltb-false size n parts.1)
@@ -29,7 +29,7 @@ none_of None e = refl
 none_of (Some x) e = cc
 
 -- where an entry that is not apart is the last, the first part starts just after it
-pub closed : (count : ℕ) (before : List Entry) (z : ℤ) (after : ℕ) → is_apart count before z after ≡ false → length before + 1 ≡ count → first_start (place_of z) before ≡ after
+pub closed : (count : ℕ) (before : List PartEntry) (z : ℤ) (after : ℕ) → is_apart count before z after ≡ false → length before + 1 ≡ count → first_start (place_of z) before ≡ after
 closed count before z after e last =
     let is : eqb (length before + 1) count ≡ true = eq-eqb (length before + 1) count last in
     eqb-true (first_start (place_of z) before) after (turned (eqb (first_start (place_of z) before) after) (rw is at e))
@@ -63,7 +63,7 @@ module _ (c d : Cursor) (z : ℤ) (name : List ℕ) (fits : IsBytes c.rest) (rea
   pub entry-bytes : IsBytes d.rest
   entry-bytes = taken.fits
 
-  module _ (size count : ℕ) (before : List Entry) where
+  module _ (size count : ℕ) (before : List PartEntry) where
     conditions : List Condition
     conditions = conditions_after size count before d.place z name
 
@@ -74,7 +74,7 @@ module _ (c d : Cursor) (z : ℤ) (name : List ℕ) (fits : IsBytes c.rest) (rea
     entry-breaks rule broken = record_at-breaks entry_shape (entry_conditions size count before c.place) c (entry z name) d rule read (sym here ∙ sym broken)
 
     module _ (good : None ≡ first_broken (conditions_after size count before d.place z name)) where
-      unbroken : (is_misplaced size before z ≡ false) × ((is_some (number_of name before) ≡ false) × ((is_apart count before z d.place ≡ false) × Unit {0}))
+      unbroken : (is_misplaced size before z ≡ false) × ((is_some (entry_number_of name before) ≡ false) × ((is_apart count before z d.place ≡ false) × Unit {0}))
       unbroken = let u = all_unbroken (conditions_after size count before d.place z name) (sym good) in u
 
       pub entry-read : record_at entry_shape (entry_conditions size count before c.place) c ≡ Ok (entry (pos (nat_abs z)) name, d)
@@ -88,6 +88,6 @@ module _ (c d : Cursor) (z : ℤ) (name : List ℕ) (fits : IsBytes c.rest) (rea
           record {
             rises = at.1;
             within = at.2;
-            new = none_of (number_of name before) unbroken.1.0;
+            new = none_of (entry_number_of name before) unbroken.1.0;
             closed = λ last. ap (λ (x : ℤ). first_start (place_of x) before) (sym at.0) ∙ closed count before z d.place unbroken.1.1.0 last;
           }

@@ -2,15 +2,10 @@
 use Rattle.std.specs.Prelude.{ℕ, ◌+◌, Bool, ◌&&◌, ◌==◌, List, [], ◌∷◌, ◌++◌, length, map, find, filter_map, flat_map, sum_by, Option, pos}
 use Rattle.lu_grammar.specs.Parts.{int64, num, text, spelling}
 use Rattle.lu_types.specs.declared.kind.FileKind.{FileKind}
-use Rattle.lu_types.specs.declared.kind.FileKind.TheVariants.{Cfs, Cfx, Fnm, Fdx, Fdt, Tis, Tii, Frq, Prx, Nrm, Tvx, Tvd, Tvf}
 use Rattle.lu_types.specs.declared.named_file.NamedFile.{NamedFile}
-use Rattle.lu_types.specs.Kinds.{turn}
+use Rattle.lu_types.specs.Kinds.{turn, part_kinds}
 use Rattle.lu_types.specs.Names.{segment_name, part_name}
 use Rattle.compound_file.specs.Entries.{NamedPart}
-
--- the kinds of files that are parts, in the order in which files are checked
-abbrev pub part_kinds : List FileKind
-part_kinds = Cfs ∷ Cfx ∷ Fnm ∷ Fdx ∷ Fdt ∷ Tis ∷ Tii ∷ Frq ∷ Prx ∷ Nrm ∷ Tvx ∷ Tvd ∷ Tvf ∷ []
 
 -- files of the two kinds are checked in one turn, so they are one kind
 abbrev pub is_same : FileKind → FileKind → Bool
@@ -42,12 +37,12 @@ entries_bytes start [] = []
 entries_bytes start (part ∷ parts) = spelling int64 (pos start) ++ spelling text part.name ++ entries_bytes (start + length part.bytes) parts
 
 -- the bytes of some parts, one after another, and how many they are
-abbrev pub contents : List NamedPart → List ℕ
-contents parts = flat_map (λ part. part.bytes) parts
+abbrev pub part_contents : List NamedPart → List ℕ
+part_contents parts = flat_map (λ part. part.bytes) parts
 
 abbrev pub contents_size : List NamedPart → ℕ
 contents_size parts = sum_by (λ part. length part.bytes) parts
 
 -- the one spelling of some parts: how many there are, an entry for each, and then the bytes of each
 abbrev pub cfs_bytes : List NamedPart → List ℕ
-cfs_bytes parts = spelling num (length parts) ++ entries_bytes (directory_size parts) parts ++ contents parts
+cfs_bytes parts = spelling num (length parts) ++ entries_bytes (directory_size parts) parts ++ part_contents parts

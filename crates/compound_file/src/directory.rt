@@ -1,7 +1,7 @@
 //! The directory of a compound file, as far as it was read.
 ghost use Rattle.std.specs.Prelude.{◌≡◌, ◌<◌, ◌+◌, [], ◌∷◌, ◌++◌, length, Some, None, OnOk, OnErr, slice_get, option_map};
-ghost use Rattle.compound_file.specs.Entries.{number_of, first_start, last_start, spans};
-ghost use Rattle.compound_file.specs.Directories.{entry_of};
+ghost use Rattle.compound_file.specs.Entries.{entry_number_of, first_start, last_start, spans};
+ghost use Rattle.compound_file.specs.Directories.{part_entry_of};
 
 use crate::entry::DirectoryEntry;
 use lu_prims::OutOfMemory;
@@ -20,14 +20,14 @@ pub struct Directory<'a> {
 
 impl<'a> Model for Directory<'a> {
     ghost use Rattle.std.specs.Prelude.{List, map};
-    ghost use Rattle.compound_file.specs.Entries.{Entry};
-    ghost use Rattle.compound_file.specs.Directories.{entry_of, HasNumbers};
+    ghost use Rattle.compound_file.specs.Entries.{PartEntry};
+    ghost use Rattle.compound_file.specs.Directories.{part_entry_of, HasEntryNumbers};
 
-    ghost Value = { List Entry };
+    ghost Value = { List PartEntry };
 
-    ghost view = { λ d. map entry_of d.entries.items };
+    ghost view = { λ d. map part_entry_of d.entries.items };
 
-    ghost invariant = { λ d. HasNumbers d.numbers (map entry_of d.entries.items) };
+    ghost invariant = { λ d. HasEntryNumbers d.numbers (map part_entry_of d.entries.items) };
 }
 
 impl<'a> Directory<'a> {
@@ -44,8 +44,8 @@ impl<'a> Directory<'a> {
     /// Adds an entry, whose number is the number of entries before. Takes time by the logarithm of their number.
     /// An `Err` leaves the directory as it was.
     pub fn push(&mut self, entry: DirectoryEntry<'a>) -> Result<(), OutOfMemory>
-        requires { number_of entry.name.now self.old ≡ None }
-        ensures ok { OnOk result (self.new ≡ self.old ++ entry_of entry.entry ∷ []) }
+        requires { entry_number_of entry.name.now self.old ≡ None }
+        ensures ok { OnOk result (self.new ≡ self.old ++ part_entry_of entry.entry ∷ []) }
         ensures err { OnErr result (self.new ≡ self.old) }
     {
         let number = self.entries.len();
@@ -69,7 +69,7 @@ impl<'a> Directory<'a> {
     /// The number of the entry with a name, from 0; `None` exactly where no entry has it.
     /// Takes time by the logarithm of the number of entries.
     pub fn find(&self, name: &str) -> Option<usize>
-        ensures { result ≡ number_of name.now self.now }
+        ensures { result ≡ entry_number_of name.now self.now }
     {
         self.numbers.get(name).copied()
     }

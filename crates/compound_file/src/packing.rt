@@ -4,29 +4,12 @@ ghost use Rattle.lu_grammar.specs.Bytes.{IsBytes};
 ghost use Rattle.lu_grammar.specs.Meaning.{Reads};
 ghost use Rattle.lu_types.specs.Names.{IsPart};
 ghost use Rattle.compound_file.specs.Cfs.{cfs_plan};
-ghost use Rattle.compound_file.specs.Packing.{is_same as is_one, file_of as file_in, packed_in, packed_parts, directory_size, entries_bytes, contents, contents_size, cfs_bytes};
+ghost use Rattle.compound_file.specs.Packing.{is_same as is_one, file_of as file_in, packed_in, packed_parts, directory_size, entries_bytes, part_contents, contents_size, cfs_bytes};
 ghost use Rattle.compound_file.specs.Packs.{Packs, SizeWithin, part_of};
 
 use lu_prims::{OutOfMemory, put_i64, put_text, put_vint};
-use lu_types::{FileKind, NamedFile, Text, part_name, segment_name};
+use lu_types::{FileKind, NamedFile, PART_KINDS, Text, part_name, segment_name};
 use std::alloc::Global;
-
-/// The kinds of files that are parts, in the order in which files are checked.
-const PART_KINDS: [FileKind; 13] = [
-    FileKind::Cfs,
-    FileKind::Cfx,
-    FileKind::Fnm,
-    FileKind::Fdx,
-    FileKind::Fdt,
-    FileKind::Tis,
-    FileKind::Tii,
-    FileKind::Frq,
-    FileKind::Prx,
-    FileKind::Nrm,
-    FileKind::Tvx,
-    FileKind::Tvd,
-    FileKind::Tvf,
-];
 
 /// The bytes of an offset.
 const OFFSET_BYTES: usize = 8;
@@ -178,7 +161,7 @@ fn put_entries(out: &mut Vec<u8>, parts: &[Packed<'_>], start: usize) -> Result<
 
 /// Appends the bytes of the parts, one after another.
 fn put_contents(out: &mut Vec<u8>, parts: &[Packed<'_>]) -> Result<(), OutOfMemory>
-    ensures { OnOk result (out.new.items ≡ out.old.items ++ contents (map part_of parts.now)) }
+    ensures { OnOk result (out.new.items ≡ out.old.items ++ part_contents (map part_of parts.now)) }
 {
     for part in parts {
         out.extend_from_slice(part.bytes)?;

@@ -6,7 +6,7 @@ ghost use Rattle.lu_grammar.specs.Records.{first_broken, read_shape, record_at};
 ghost use Rattle.lu_grammar.specs.Plans.{times, read_plan};
 ghost use Rattle.lu_types.specs.Judging.{GivesIn};
 ghost use Rattle.compound_file.specs.Cfs.{entry as entry_record, is_misplaced as is_misplaced_after, is_apart as is_apart_after, place_of, entry_shape, conditions_after, entry_conditions, entry_kind};
-ghost use Rattle.compound_file.specs.Directories.{entry_of, IsGoodEntry, AreGoodEntries};
+ghost use Rattle.compound_file.specs.Directories.{part_entry_of, IsGoodEntry, AreGoodEntries};
 
 use crate::directory::Directory;
 use crate::entry::DirectoryEntry;
@@ -88,7 +88,7 @@ fn next_entry<'a>(
     requires bytes { IsBytes cur.old.rest }
     ensures gives { Gives (λ e. entry_record (pos e.start) e.name.now)
         (record_at entry_shape (entry_conditions bounds.size bounds.count before.now cur.old.place) cur.old) cur.new result }
-    ensures good { IfOk result (λ e. IsGoodEntry bounds.size bounds.count before.now (entry_of e) cur.new.place) }
+    ensures good { IfOk result (λ e. IsGoodEntry bounds.size bounds.count before.now (part_entry_of e) cur.new.place) }
     ensures bytes { OnOk result (IsBytes cur.new.rest) }
 {
     let (offset, name) = match entry_parts(cur) {

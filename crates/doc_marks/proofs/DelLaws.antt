@@ -14,7 +14,7 @@ use Rattle.lu_grammar.proofs.Records.{at}
 use Rattle.lu_grammar.proofs.Plans.{ok_of}
 use Rattle.lu_grammar.proofs.Writers.{Writes, Writes-due, Writes-done}
 use Rattle.doc_marks.specs.Marking.{bits, flags, places, marked_at, marked, AreRising}
-use Rattle.doc_marks.specs.Deletions.{DelRecord, header, body, pair, sparse_mark, body_bytes, header_shape, header_conditions, body_shape, body_conditions, body_documents, dense_plan, is_past, pair_shape, is_wrong_gap, pair_conditions, Pairs, no_pairs, with_pair, pairs_plan, after_header, del_plan}
+use Rattle.doc_marks.specs.Deletions.{DelRecord, header, body, pair, sparse_mark, body_bytes, header_shape, header_conditions, body_shape, body_conditions, body_documents, dense_plan, is_past, pair_shape, is_wrong_gap, pair_conditions, PairsRead, no_pairs, with_pair, pairs_plan, after_header, del_plan}
 use Rattle.doc_marks.specs.Spelling.{marks_of, sizes_bytes, dense_bytes, pairs_bytes, sparse_bytes}
 use Rattle.doc_marks.proofs.MarkLemmas.{length-bits, places-append, length-marking, IsBytes-marking, marked-marking}
 use Rattle.doc_marks.proofs.MarksLemmas.{not_past-AreRising}
@@ -102,7 +102,7 @@ pub marked_at-none : (index b : ℕ) → b ≡ 0 → marked_at index b ≡ []
 unfolding bits places
 marked_at-none index b is = ap (marked_at index) is
 
-pairs-written : (size count more : ℕ) (s : Pairs) (place index : ℕ) (found : List ℕ) → IsBytes found → size < 2 ^ 31 → index + length found ≤ size / 8 + 1 → is_past size (places (8 * index) (flags found)) ≡ false
+pairs-written : (size count more : ℕ) (s : PairsRead) (place index : ℕ) (found : List ℕ) → IsBytes found → size < 2 ^ 31 → index + length found ≤ size / 8 + 1 → is_past size (places (8 * index) (flags found)) ≡ false
     → length s.documents + length (places (8 * index) (flags found)) ≡ count → count ≤ length s.documents + more → s.index ≤ index → ((length s.documents ≡ 0) ⊎ (s.index < index))
     → Writes (pairs_plan size count more s) place (pairs_bytes s.index index found) (s.documents ++ places (8 * index) (flags found))
 unfolding pairs_bytes flags places

@@ -11,7 +11,7 @@ use Rattle.lu_grammar.specs.Records.{first_broken, record_at}
 use Rattle.lu_grammar.specs.Plans.{Plan, done, due, read_plan}
 use Rattle.lu_grammar.proofs.Plans.{read_due, read_due_broken}
 use Rattle.doc_marks.specs.Marking.{bits, flags, places, marked, marked_at, number_of_bits}
-use Rattle.doc_marks.specs.Deletions.{DelRecord, header, body, pair, body_shape, body_conditions, body_documents, dense_plan, header_conditions, is_past, pair_shape, pair_conditions, Pairs, no_pairs, with_pair, pairs_plan, value_or, pairs_documents}
+use Rattle.doc_marks.specs.Deletions.{DelRecord, header, body, pair, body_shape, body_conditions, body_documents, dense_plan, header_conditions, is_past, pair_shape, pair_conditions, PairsRead, no_pairs, with_pair, pairs_plan, read_value_or, pairs_documents}
 use Rattle.doc_marks.proofs.MarkLemmas.{length-bits, places-append, number_of_bits-bits}
 
 -- ---- the bits of a byte
@@ -133,12 +133,12 @@ heading-good size count is_sparse s n e =
 
 module _ (size count : ℕ) where
   -- a pair is due while too few documents are marked
-  pub pairs-due : (more : ℕ) (s : Pairs) → length s.documents < count
+  pub pairs-due : (more : ℕ) (s : PairsRead) → length s.documents < count
       → pairs_plan size count (suc more) s ≡ due pair_shape (λ place r. pair_conditions size count s.index (length s.documents) r) (λ place r. pairs_plan size count more (with_pair s r))
   unfolding pairs_plan
   pairs-due more s lt = let few : ltb (length s.documents) count ≡ true = lt-ltb (length s.documents) count lt in rw few refl
 
-  pub pairs-fault : (more index before : ℕ) (s : Pairs) (c : Cursor) (rule : ℕ) → s.index ≡ index → length s.documents ≡ before → before < count → count ≤ before + more
+  pub pairs-fault : (more index before : ℕ) (s : PairsRead) (c : Cursor) (rule : ℕ) → s.index ≡ index → length s.documents ≡ before → before < count → count ≤ before + more
       → record_at pair_shape (pair_conditions size count index before) c ≡ Err rule → read_plan (pairs_plan size count more s) c ≡ Err (record { offset = c.place; rule = rule })
   pairs-fault zero index before s c rule index-is before-is lt le e = absurd (omega arith)
   pairs-fault (suc more) index before s c rule index-is before-is lt le e =
@@ -146,7 +146,7 @@ module _ (size count : ℕ) where
       ap (λ (p : Plan (List ℕ) DelRecord). read_plan p c) (pairs-due more s (omega (arith, before-is)))
       ∙ read_due_broken pair_shape (λ place r. pair_conditions size count s.index (length s.documents) r) (λ place r. pairs_plan size count more (with_pair s r)) c rule broken
 
-  pub pairs-step : (more index before : ℕ) (s : Pairs) (c d : Cursor) (gap marks : ℕ) → s.index ≡ index → length s.documents ≡ before → before < count → count ≤ before + more
+  pub pairs-step : (more index before : ℕ) (s : PairsRead) (c d : Cursor) (gap marks : ℕ) → s.index ≡ index → length s.documents ≡ before → before < count → count ≤ before + more
       → record_at pair_shape (pair_conditions size count index before) c ≡ Ok (pair gap marks, d)
       → (n : ℕ) × (more ≡ suc n) × (read_plan (pairs_plan size count more s) c ≡ read_plan (pairs_plan size count n (with_pair s (pair gap marks))) d)
   pairs-step zero index before s c d gap marks index-is before-is lt le e = absurd (omega arith)
@@ -158,14 +158,14 @@ module _ (size count : ℕ) where
             ∙ read_due pair_shape (λ place r. pair_conditions size count s.index (length s.documents) r) (λ place r. pairs_plan size count more (with_pair s r)) c (pair gap marks) d good,
       )
 
-  pub pairs-end : (more : ℕ) (s : Pairs) (c : Cursor) → count ≤ length s.documents → read_plan (pairs_plan size count more s) c ≡ Ok (s.documents, c)
+  pub pairs-end : (more : ℕ) (s : PairsRead) (c : Cursor) → count ≤ length s.documents → read_plan (pairs_plan size count more s) c ≡ Ok (s.documents, c)
   unfolding pairs_plan read_plan
   pairs-end zero s c le = refl
   pairs-end (suc more) s c le = let enough : ltb (length s.documents) count ≡ false = le-ltb (length s.documents) count le in rw enough refl
 
   -- what was read is what the pairs mark
   pub pairs_documents-is : (c d : Cursor) (docs : List ℕ) → read_plan (pairs_plan size count count no_pairs) c ≡ Ok (docs, d) → read_plan (pairs_plan size count count no_pairs) c ≡ Ok (pairs_documents size count c, d)
-  pairs_documents-is c d docs e = e ∙ ap (λ (v : List ℕ). Ok (v, d)) (sym (ap (value_or []) e))
+  pairs_documents-is c d docs e = e ∙ ap (λ (v : List ℕ). Ok (v, d)) (sym (ap (read_value_or []) e))
 
 -- ---- a dense body
 

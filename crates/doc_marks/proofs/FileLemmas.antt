@@ -17,7 +17,7 @@ use Rattle.lu_grammar.proofs.Plans.{ok_of, err_is_not_ok, read_due, read_due_bro
 use Rattle.lu_grammar.proofs.Files.{file-fault, file-left, file-read}
 use Rattle.doc_marks.specs.Marking.{marked, flags, AreRising}
 use Rattle.doc_marks.specs.Deletions.{DelRecord, header, header_shape, sizes_shape, sparse_mark, header_conditions, body_shape, body_bytes, body_conditions, body_documents, is_past, dense_plan, no_pairs, pairs_plan, pairs_documents, after_header, del_plan}
-use Rattle.doc_marks.specs.Lent.{behind_header, IsSound}
+use Rattle.doc_marks.specs.Lent.{behind_header, IsSoundForm}
 use Rattle.doc_marks.specs.declared.segment.Segment.{Segment}
 use Rattle.doc_marks.specs.declared.form.Form.TheVariants.{Dense, Sparse}
 use Rattle.lu_grammar.proofs.Codecs.{record_at-was, due_was}
@@ -84,7 +84,7 @@ dense_was size count c d docs e =
     not-false true h = refl
     not-false false h = absurd (true≢false h)
 
-pub dense-sound : (s : Segment) (found : Bor (List ℕ)) (c d : Cursor) → length found.now ≡ body_bytes s.size → read_plan (dense_plan s.size s.count) c ≡ ok_pair (marked found.now) d → IsSound (Dense found) s
+pub dense-sound : (s : Segment) (found : Bor (List ℕ)) (c d : Cursor) → length found.now ≡ body_bytes s.size → read_plan (dense_plan s.size s.count) c ≡ ok_pair (marked found.now) d → IsSoundForm (Dense found) s
 dense-sound s found c d long e =
     let was = dense_was s.size s.count c d (marked found.now) e in
     record {
@@ -94,7 +94,7 @@ dense-sound s found c d long e =
     }
 
 pub sparse-sound : (s : Segment) (del : Bor (List ℕ)) (d : Cursor) → IsBytes del.now → 12 ≤ length del.now
-    → read_plan (pairs_plan s.size s.count s.count no_pairs) (behind_header del.now) ≡ Ok (pairs_documents s.size s.count (behind_header del.now), d) → IsSound (Sparse del) s
+    → read_plan (pairs_plan s.size s.count s.count no_pairs) (behind_header del.now) ≡ Ok (pairs_documents s.size s.count (behind_header del.now), d) → IsSoundForm (Sparse del) s
 sparse-sound s del d fits long e =
     let docs = pairs_documents s.size s.count (behind_header del.now) in
     let all = pairs-later s.size s.count s.count no_pairs (behind_header del.now) docs d (IsBytes-drop 12 del.now fits) e in

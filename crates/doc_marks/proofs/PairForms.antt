@@ -10,7 +10,7 @@ use Rattle.lu_grammar.specs.Plans.{Plan, done, due}
 use Rattle.lu_grammar.specs.Meaning.{Spelled, bytes_of, AreGood, due_after}
 use Rattle.lu_grammar.proofs.Codecs.{IsBytes-nil, IsBytes-cons}
 use Rattle.doc_marks.specs.Marking.{flags, places, marked_at}
-use Rattle.doc_marks.specs.Deletions.{DelRecord, pair, body_bytes, is_past, is_wrong_gap, pair_shape, pair_conditions, Pairs, with_pair, pairs_plan}
+use Rattle.doc_marks.specs.Deletions.{DelRecord, pair, body_bytes, is_past, is_wrong_gap, pair_shape, pair_conditions, PairsRead, with_pair, pairs_plan}
 use Rattle.doc_marks.specs.Spelling.{pairs_bytes}
 use Rattle.doc_marks.proofs.DelLemmas.{marked_at-some, pairs-due}
 use Rattle.doc_marks.proofs.PairLemmas.{GoodPair, good-pair}
@@ -93,7 +93,7 @@ gap-within size index before gap from right next =
       | inr further ↦ omega arith
     ]
 
-one_more : (size count more : ℕ) (s : Pairs) (from : ℕ) (r : DelRecord) (front docs rest : List ℕ) (p : GoodPair size count s.index (length s.documents) r front) → StandsNext (length s.documents) s.index from
+one_more : (size count more : ℕ) (s : PairsRead) (from : ℕ) (r : DelRecord) (front docs rest : List ℕ) (p : GoodPair size count s.index (length s.documents) r front) → StandsNext (length s.documents) s.index from
     → ArePairsOf size count more (s.index + p.gap) (s.index + p.gap + 1) (s.documents ++ marked_at (s.index + p.gap) p.marks) docs rest → ArePairsOf size count (suc more) s.index from s.documents docs (front ++ rest)
 one_more size count more s from r front docs rest p next later =
     let index = s.index + p.gap in
@@ -135,28 +135,28 @@ none_due : (plan : Plan (List ℕ) DelRecord) (before docs : List ℕ) (place : 
 none_due plan before docs place [] is good end = (finished-same before docs (sym is ∙ end), refl)
 none_due plan before docs place (r ∷ rs) is good end = absurd (subst (λ (p : Plan (List ℕ) DelRecord). AreGood p place (r ∷ rs)) is good)
 
-pairs-done : (size count more : ℕ) (s : Pairs) → count ≤ length s.documents → pairs_plan size count more s ≡ finished s.documents
+pairs-done : (size count more : ℕ) (s : PairsRead) → count ≤ length s.documents → pairs_plan size count more s ≡ finished s.documents
 unfolding pairs_plan
 pairs-done size count zero s le = refl
 pairs-done size count (suc more) s le = let enough : ltb (length s.documents) count ≡ false = le-ltb (length s.documents) count le in rw enough refl
 
-pairs-zero : (size count : ℕ) (s : Pairs) → pairs_plan size count 0 s ≡ finished s.documents
+pairs-zero : (size count : ℕ) (s : PairsRead) → pairs_plan size count 0 s ≡ finished s.documents
 unfolding pairs_plan
 pairs-zero size count s = refl
 
-abbrev pair_due : ℕ → ℕ → ℕ → Pairs → Plan (List ℕ) DelRecord
+abbrev pair_due : ℕ → ℕ → ℕ → PairsRead → Plan (List ℕ) DelRecord
 pair_due size count more s = due pair_shape (λ place r. pair_conditions size count s.index (length s.documents) r) (λ place r. pairs_plan size count more (with_pair s r))
 
-due-finished : (size count more : ℕ) (s : Pairs) (docs : List ℕ) → pair_due size count more s ≡ finished docs → ⊥
+due-finished : (size count more : ℕ) (s : PairsRead) (docs : List ℕ) → pair_due size count more s ≡ finished docs → ⊥
 due-finished size count more s docs e = cc
 
 -- what is said of the pairs from a state on
-abbrev AreRead : (size count more : ℕ) → List ℕ → Type 0
-AreRead size count more docs =
-    (s : Pairs) (place from : ℕ) (records : List (Spelled DelRecord)) → AreGood (pairs_plan size count more s) place records → due_after (pairs_plan size count more s) place records ≡ finished docs
+abbrev IsReadForm : (size count more : ℕ) → List ℕ → Type 0
+IsReadForm size count more docs =
+    (s : PairsRead) (place from : ℕ) (records : List (Spelled DelRecord)) → AreGood (pairs_plan size count more s) place records → due_after (pairs_plan size count more s) place records ≡ finished docs
     → StandsNext (length s.documents) s.index from → from ≤ body_bytes size → ArePairsOf size count more s.index from s.documents docs (bytes_of records)
 
-one_due : (size count more : ℕ) (docs : List ℕ) (s : Pairs) (place from : ℕ) (records : List (Spelled DelRecord)) → AreRead size count more docs → AreGood (pair_due size count more s) place records
+one_due : (size count more : ℕ) (docs : List ℕ) (s : PairsRead) (place from : ℕ) (records : List (Spelled DelRecord)) → IsReadForm size count more docs → AreGood (pair_due size count more s) place records
     → due_after (pair_due size count more s) place records ≡ finished docs → StandsNext (length s.documents) s.index from → ArePairsOf size count (suc more) s.index from s.documents docs (bytes_of records)
 one_due size count more docs s place from [] later good end next = absurd (due-finished size count more s docs end)
 one_due size count more docs s place from (r ∷ rs) later good end next =
@@ -171,7 +171,7 @@ one_due size count more docs s place from (r ∷ rs) later good end next =
     (inr (omega (arith, some, length-append s.documents (marked_at (s.index + p.gap) p.marks)), refl)) (omega (arith, within.1)) in
     one_more size count more s from r.it r.front docs (bytes_of rs) p next rest
 
-pub pairs-were : (size count more : ℕ) (docs : List ℕ) → AreRead size count more docs
+pub pairs-were : (size count more : ℕ) (docs : List ℕ) → IsReadForm size count more docs
 pairs-were size count zero docs s place from records good end next within =
     let none = none_due (pairs_plan size count 0 s) s.documents docs place records (pairs-zero size count s) good end in
     subst (ArePairsOf size count 0 s.index from s.documents docs) (sym none.1) (no_more size count 0 s.index from s.documents docs none.0 within (λ le. omega arith))

@@ -10,7 +10,7 @@ use Rattle.lu_grammar.specs.Records.{first_broken, Spells, Breaks, record_at}
 use Rattle.lu_grammar.specs.Plans.{Plan, read_plan}
 use Rattle.lu_grammar.proofs.Records.{ok_pair, same_pair, record_at-judges, IsGoodRecord}
 use Rattle.doc_marks.specs.Marking.{bits, marked_at, AreRising}
-use Rattle.doc_marks.specs.Deletions.{DelRecord, pair, pair_shape, pair_conditions, is_past, is_wrong_gap, Pairs, with_pair, pairs_plan}
+use Rattle.doc_marks.specs.Deletions.{DelRecord, pair, pair_shape, pair_conditions, is_past, is_wrong_gap, PairsRead, with_pair, pairs_plan}
 use Rattle.lu_grammar.proofs.Codecs.{due_was}
 use Rattle.doc_marks.proofs.MarkLemmas.{length-bits, AreRising-append, AreRising-later, AreRising-places, AreRising-not_past}
 use Rattle.doc_marks.proofs.DelLemmas.{marked_at-some, pairs-due, pairs-end}
@@ -75,7 +75,7 @@ pair_was size count index before c r d fits e =
     record { front = good.0.front; good = good-pair size count index before r good.0.front good.0.spells good.1; fits = good.0.fits }
 
 -- the first document that the next pair may mark
-abbrev pub next_first : Pairs → ℕ
+abbrev pub next_first : PairsRead → ℕ
 next_first s = cond (eqb (length s.documents) 0) (8 * s.index) (8 * (s.index + 1))
 
 next_first-le : (size index before gap : ℕ) → is_wrong_gap size index before gap ≡ false → cond (eqb before 0) (8 * index) (8 * (index + 1)) ≤ 8 * (index + gap)
@@ -88,13 +88,13 @@ next_first-with index zero some = absurd (omega arith)
 next_first-with index (suc before) some = let not_none : eqb (suc before) 0 ≡ false = ne_eqb (suc before) 0 (omega arith) in rw not_none refl
 
 -- the documents that were read are those so far and later ones, which rise, and are as many as are counted
-pub record Later (size count more : ℕ) (s : Pairs) (docs : List ℕ) : Type 0 where
+pub record Later (size count more : ℕ) (s : PairsRead) (docs : List ℕ) : Type 0 where
   pub later : List ℕ
   pub all : docs ≡ s.documents ++ later
   pub rise : AreRising (next_first s) size later
   pub number : count ≤ length s.documents + more → length s.documents ≤ count → length docs ≡ count
 
-no_more : (size count more : ℕ) (s : Pairs) (docs : List ℕ) → s.documents ≡ docs → (count ≤ length s.documents + more → count ≤ length s.documents) → Later size count more s docs
+no_more : (size count more : ℕ) (s : PairsRead) (docs : List ℕ) → s.documents ≡ docs → (count ≤ length s.documents + more → count ≤ length s.documents) → Later size count more s docs
 no_more size count more s docs is enough = record {
   later = [];
   all = sym is ∙ sym (append-nil s.documents);
@@ -102,7 +102,7 @@ no_more size count more s docs is enough = record {
   number = λ le few. let n = enough le in omega (arith, ap length is);
 }
 
-pub pairs-later : (size count more : ℕ) (s : Pairs) (c : Cursor) (docs : List ℕ) (d : Cursor) → IsBytes c.rest → read_plan (pairs_plan size count more s) c ≡ ok_pair docs d → Later size count more s docs
+pub pairs-later : (size count more : ℕ) (s : PairsRead) (c : Cursor) (docs : List ℕ) (d : Cursor) → IsBytes c.rest → read_plan (pairs_plan size count more s) c ≡ ok_pair docs d → Later size count more s docs
 unfolding pairs_plan read_plan
 pairs-later size count zero s c docs d fits e = no_more size count zero s docs (same_pair s.documents docs c d e).0 (λ le. omega arith)
 pairs-later size count (suc more) s c docs d fits e = elim (cases_lt (length s.documents) count) [
@@ -110,7 +110,7 @@ pairs-later size count (suc more) s c docs d fits e = elim (cases_lt (length s.d
   | inl lt ↦ one_more lt (λ t b all read. pairs-later size count more t b docs d all read)
 ]
   where
-    one_more : length s.documents < count → ((t : Pairs) (b : Cursor) → IsBytes b.rest → read_plan (pairs_plan size count more t) b ≡ ok_pair docs d → Later size count more t docs) → Later size count (suc more) s docs
+    one_more : length s.documents < count → ((t : PairsRead) (b : Cursor) → IsBytes b.rest → read_plan (pairs_plan size count more t) b ≡ ok_pair docs d → Later size count more t docs) → Later size count (suc more) s docs
     one_more lt after =
         let index = s.index in
         let before = length s.documents in

@@ -10,10 +10,10 @@ use Rattle.lu_grammar.proofs.Parts.{IsBytes-drop}
 use Rattle.lu_grammar.proofs.Records.{same_pair}
 use Rattle.lu_grammar.proofs.Plans.{err_is_not_ok}
 use Rattle.doc_marks.specs.Marking.{bits, places, marked_at, is_in, AreRising}
-use Rattle.doc_marks.specs.Deletions.{pair, pair_shape, pair_conditions, Pairs, no_pairs, pairs_plan, pairs_documents}
+use Rattle.doc_marks.specs.Deletions.{pair, pair_shape, pair_conditions, PairsRead, no_pairs, pairs_plan, pairs_documents}
 use Rattle.std.specs.Borrow.{Bor}
-use Rattle.doc_marks.specs.Lent.{behind_header, IsSound}
-use Rattle.doc_marks.specs.Walking.{PairsAt, needs_more, Stands, IsWalk}
+use Rattle.doc_marks.specs.Lent.{behind_header, IsSoundForm}
+use Rattle.doc_marks.specs.Walking.{PairsAt, needs_more, IsWalkOver, IsWalk}
 use Rattle.doc_marks.specs.declared.segment.Segment.{Segment}
 use Rattle.doc_marks.specs.declared.form.Form.{Form}
 use Rattle.doc_marks.specs.declared.form.Form.TheVariants.{Sparse}
@@ -68,7 +68,7 @@ module _ (size count : ℕ) (docs : List ℕ) (index documents marks : ℕ) (her
     fits = w.fits;
   }
 
-  so_far : Pairs
+  so_far : PairsRead
   so_far = record { index = index; documents = w.before ++ marked_at index marks }
 
   -- no pair that is read again is at fault
@@ -148,10 +148,10 @@ PairsAt-start size count here to fits e = record {
 abbrev pub first_walk : Bor (List ℕ) → ℕ → Segment → PairWalk
 first_walk del place s = record { del = del; segment = s; cur = record { place = place; rest = drop place del.now }; passed = record { index = 0; documents = 0 }; marks = 0; from = 0 }
 
-pub IsWalk-unpaired : (form : Form) (s : Segment) (w : PairWalk) → IsSound form s → Stands form w → w.segment ≡ s → IsWalk form w
-IsWalk-unpaired form s w sound stands is = record { sound = subst (IsSound form) (sym is) sound; pairs = stands }
+pub IsWalk-unpaired : (form : Form) (s : Segment) (w : PairWalk) → IsSoundForm form s → IsWalkOver form w → w.segment ≡ s → IsWalk form w
+IsWalk-unpaired form s w sound stands is = record { sound = subst (IsSoundForm form) (sym is) sound; pairs = stands }
 
-pub IsWalk-sparse : (s : Segment) (del : Bor (List ℕ)) (w : PairWalk) → IsSound (Sparse del) s → w ≡ first_walk del 12 s → IsWalk (Sparse del) w
+pub IsWalk-sparse : (s : Segment) (del : Bor (List ℕ)) (w : PairWalk) → IsSoundForm (Sparse del) s → w ≡ first_walk del 12 s → IsWalk (Sparse del) w
 IsWalk-sparse s del w sound is =
     let to = sound.read.2.0 in
     let start = PairsAt-start s.size s.count (behind_header del.now) to (IsBytes-drop 12 del.now sound.read.1) sound.read.2.1 in

@@ -67,12 +67,12 @@ dense_plan size count = due (body_shape size) (λ place r. body_conditions size 
 -- ---- the sparse form
 
 -- the pairs so far: the index of the last byte, which is the sum of the gaps, and the documents that they mark
-pub record Pairs : Type 0 where
+pub record PairsRead : Type 0 where
   pub index : ℕ
   pub documents : List ℕ
 
 -- before the first pair
-abbrev pub no_pairs : Pairs
+abbrev pub no_pairs : PairsRead
 no_pairs = record { index = 0; documents = [] }
 
 -- how far the byte's index is past that of the byte before, and the byte
@@ -94,13 +94,13 @@ pair_conditions size count index before (pair gap marks) =
     ∷ record { rule = number.del_total; broken = nat_lt count (before + length (marked_at (index + gap) marks)) } ∷ []
 
 -- the pairs with this one
-abbrev pub with_pair : Pairs → DelRecord → Pairs
+abbrev pub with_pair : PairsRead → DelRecord → PairsRead
 with_pair s (header is_sparse n m) = s
 with_pair s (body found) = s
 with_pair s (pair gap marks) = record { index = s.index + gap; documents = s.documents ++ marked_at (s.index + gap) marks }
 
 -- pairs until they mark as many documents as are counted; a pair marks one at least, so there are at most so many more
-unfoldable pub pairs_plan : ℕ → ℕ → ℕ → Pairs → Plan (List ℕ) DelRecord
+unfoldable pub pairs_plan : ℕ → ℕ → ℕ → PairsRead → Plan (List ℕ) DelRecord
 pairs_plan size count zero s = done s.documents
 pairs_plan size count (suc more) s =
     if nat_lt (length s.documents) count then due pair_shape (λ place r. pair_conditions size count s.index (length s.documents) r) (λ place r. pairs_plan size count more (with_pair s r)) else done s.documents
@@ -121,10 +121,10 @@ del_plan size count = due header_shape (λ place r. header_conditions size count
 -- ---- lent
 
 -- what was read, or this
-abbrev pub value_or : {V : Type 0} → V → Result (V × Cursor) Broken → V
-value_or otherwise (Ok x) = x.0
-value_or otherwise (Err broken) = otherwise
+abbrev pub read_value_or : {V : Type 0} → V → Result (V × Cursor) Broken → V
+read_value_or otherwise (Ok x) = x.0
+read_value_or otherwise (Err broken) = otherwise
 
 -- the documents that the pairs from here on mark
 abbrev pub pairs_documents : ℕ → ℕ → Cursor → List ℕ
-pairs_documents size count from = value_or [] (read_plan (pairs_plan size count count no_pairs) from)
+pairs_documents size count from = read_value_or [] (read_plan (pairs_plan size count count no_pairs) from)

@@ -18,20 +18,20 @@ abbrev pub behind_header : List ℕ → Cursor
 behind_header del = record { place = 12; rest = drop 12 del }
 
 -- the documents that are marked
-abbrev pub documents_in : Form → Segment → List ℕ
-documents_in Nothing s = []
-documents_in (Dense body) s = marked body.now
-documents_in (Sparse del) s = pairs_documents s.size s.count (behind_header del.now)
+abbrev pub deleted_in : Form → Segment → List ℕ
+deleted_in Nothing s = []
+deleted_in (Dense body) s = marked body.now
+deleted_in (Sparse del) s = pairs_documents s.size s.count (behind_header del.now)
 
 -- the bytes are there, and were read
-abbrev pub AreRead : Form → Segment → Type 0
-AreRead Nothing s = Unit {0}
-AreRead (Dense body) s = length body.now ≡ body_bytes s.size
-AreRead (Sparse del) s =
+abbrev pub IsReadForm : Form → Segment → Type 0
+IsReadForm Nothing s = Unit {0}
+IsReadForm (Dense body) s = length body.now ≡ body_bytes s.size
+IsReadForm (Sparse del) s =
     (12 ≤ length del.now) × IsBytes del.now × ((to : Cursor) × (read_plan (pairs_plan s.size s.count s.count no_pairs) (behind_header del.now) ≡ Ok (pairs_documents s.size s.count (behind_header del.now), to)))
 
 -- deleted documents of the segment: rising, below its size, and as many as are counted
-pub record IsSound (form : Form) (s : Segment) : Type 0 where
-  pub read : AreRead form s
-  pub rise : AreRising 0 s.size (documents_in form s)
-  pub number : length (documents_in form s) ≡ s.count
+pub record IsSoundForm (form : Form) (s : Segment) : Type 0 where
+  pub read : IsReadForm form s
+  pub rise : AreRising 0 s.size (deleted_in form s)
+  pub number : length (deleted_in form s) ≡ s.count

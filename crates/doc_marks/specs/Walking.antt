@@ -4,13 +4,13 @@ use Rattle.lu_grammar.specs.Bytes.{IsBytes, Cursor}
 use Rattle.lu_grammar.specs.Plans.{read_plan}
 use Rattle.doc_marks.specs.Marking.{marked_at, is_in}
 use Rattle.doc_marks.specs.Deletions.{pairs_plan, pairs_documents}
-use Rattle.doc_marks.specs.Lent.{behind_header, IsSound}
+use Rattle.doc_marks.specs.Lent.{behind_header, IsSoundForm}
 use Rattle.doc_marks.specs.declared.form.Form.{Form}
 use Rattle.doc_marks.specs.declared.form.Form.TheVariants.{Nothing, Dense, Sparse}
 use Rattle.doc_marks.specs.declared.pair_walk.PairWalk.{PairWalk}
 
 -- the deleted documents that a walk asks, and the first document that may be asked for
-pub record Walked : Type 0 where
+pub record MarkWalk : Type 0 where
   pub documents : List ℕ
   pub from : ℕ
 
@@ -40,12 +40,12 @@ abbrev pub needs_more : (count index documents wanted : ℕ) → Bool
 needs_more count index documents wanted = nat_lt documents count && ((documents == 0) || nat_lt index wanted)
 
 -- a walk over pairs is one over the pairs of this file
-abbrev pub Stands : Form → PairWalk → Type 0
-Stands Nothing w = Unit {0}
-Stands (Dense body) w = Unit {0}
-Stands (Sparse del) w = (w.del ≡ del) × IsWalking w
+abbrev pub IsWalkOver : Form → PairWalk → Type 0
+IsWalkOver Nothing w = Unit {0}
+IsWalkOver (Dense body) w = Unit {0}
+IsWalkOver (Sparse del) w = (w.del ≡ del) × IsWalking w
 
 -- the marks are those of a file without a fault, and a walk over pairs stands among its own
 pub record IsWalk (form : Form) (w : PairWalk) : Type 0 where
-  pub sound : IsSound form w.segment
-  pub pairs : Stands form w
+  pub sound : IsSoundForm form w.segment
+  pub pairs : IsWalkOver form w

@@ -5,7 +5,7 @@ ghost use Rattle.lu_types.specs.declared.kind.FileKind.TheVariants.{Del};
 ghost use Rattle.lu_types.specs.Judging.{ChecksPlain, GivesInPlain};
 ghost use Rattle.doc_marks.specs.Marking.{is_in, flags_of, documents_of, AreRising};
 ghost use Rattle.doc_marks.specs.Deletions.{header as header_of, after_header, del_plan};
-ghost use Rattle.doc_marks.specs.Lent.{behind_header, documents_in, IsSound};
+ghost use Rattle.doc_marks.specs.Lent.{behind_header, deleted_in, IsSoundForm};
 
 use crate::dense::dense_body;
 use crate::form::Form;
@@ -29,13 +29,13 @@ pub struct Live<'a> {
 }
 
 impl<'a> Model for Live<'a> {
-    ghost use Rattle.doc_marks.specs.Lent.{Deletions, documents_in, IsSound};
+    ghost use Rattle.doc_marks.specs.Lent.{Deletions, deleted_in, IsSoundForm};
 
     ghost Value = { Deletions };
 
-    ghost view = { λ l. record { size = l.segment.size; documents = documents_in l.form l.segment } };
+    ghost view = { λ l. record { size = l.segment.size; documents = deleted_in l.form l.segment } };
 
-    ghost invariant = { λ l. IsSound l.form l.segment };
+    ghost invariant = { λ l. IsSoundForm l.form l.segment };
 }
 
 impl<'a> Live<'a> {
@@ -136,9 +136,9 @@ fn check_body<'a>(
     segment: Segment,
 ) -> Result<Form<'a>, Spot>
     requires { is_sparse ≡ true → (cur.old ≡ behind_header del.now) × (12 ≤ length del.now) }
-    ensures gives { GivesInPlain Del (λ form. documents_in form segment)
+    ensures gives { GivesInPlain Del (λ form. deleted_in form segment)
         (read_plan (after_header segment.size segment.count (header_of is_sparse (pos segment.size) (pos segment.count))) cur.old) cur.new result }
-    ensures sound { IfOk result (λ form. IsSound form segment) }
+    ensures sound { IfOk result (λ form. IsSoundForm form segment) }
 {
     if is_sparse {
         if let Err(fault) = pass_pairs(cur, segment) {

@@ -18,12 +18,12 @@ pub struct LiveWalk<'a> {
 }
 
 impl<'a> Model for LiveWalk<'a> {
-    ghost use Rattle.doc_marks.specs.Lent.{documents_in};
-    ghost use Rattle.doc_marks.specs.Walking.{Walked, IsWalk};
+    ghost use Rattle.doc_marks.specs.Lent.{deleted_in};
+    ghost use Rattle.doc_marks.specs.Walking.{MarkWalk, IsWalk};
 
-    ghost Value = { Walked };
+    ghost Value = { MarkWalk };
 
-    ghost view = { λ w. record { documents = documents_in w.form w.pairs.segment; from = w.pairs.from } };
+    ghost view = { λ w. record { documents = deleted_in w.form w.pairs.segment; from = w.pairs.from } };
 
     ghost invariant = { λ w. IsWalk w.form w.pairs };
 }
@@ -46,12 +46,12 @@ fn is_marked(body: &[u8], doc: u32) -> bool
 }
 
 impl<'a> LiveWalk<'a> {
-    ghost use Rattle.doc_marks.specs.Lent.{documents_in, IsSound};
+    ghost use Rattle.doc_marks.specs.Lent.{deleted_in, IsSoundForm};
 
     /// Before the first document.
     pub fn along(form: Form<'a>, segment: Segment) -> LiveWalk<'a>
-        requires { IsSound form segment }
-        ensures { result ≡ record { documents = documents_in form.entry segment; from = 0 } }
+        requires { IsSoundForm form segment }
+        ensures { result ≡ record { documents = deleted_in form.entry segment; from = 0 } }
     {
         let pairs = match form {
             Form::Nothing => PairWalk::at_start(NO_BYTES, 0, segment),

@@ -9,8 +9,8 @@ use Rattle.freq_skips.specs.declared.rules.RuledTerm.{RuledTerm}
 use Rattle.freq_skips.specs.declared.datum.Point.{Point}
 use Rattle.freq_skips.specs.declared.following.Following.{Following}
 use Rattle.freq_skips.specs.Entries.{Posting}
-use Rattle.freq_skips.specs.Levels.{no_point, level_of, child_above, data_count, Follows, AreData, Passes}
-use Rattle.freq_skips.specs.Walking.{FollowsPoints, FollowsAbove, IsSmallAbove, StandAbove}
+use Rattle.freq_skips.specs.Levels.{no_point, level_of, child_above, data_count, Follows, AreData, IsNextDatum}
+use Rattle.freq_skips.specs.Walking.{FollowsPoints, FollowsAbove, AreSmallSumsAbove, StandAbove}
 use Rattle.freq_skips.proofs.LevelLemmas.{Follows-none}
 use Rattle.freq_skips.proofs.Powers.{quotient-next, quotient-same, quotient-below}
 
@@ -42,7 +42,7 @@ above-has t postings level n points rest passed f is two e lt h =
 abbrev TakesAbove : RuledTerm → List Posting → ℕ → Following → Following → Type 0
 TakesAbove t postings level f g = (stated : Option ℕ) (above : List (List Point)) (begin : Cursor) (points : List Point) (end : Cursor) → AreData t postings (level_of level stated above) begin points end
     → Follows t postings (level_of level stated above) begin f.count f.last f.cur → f.count < data_count t level
-    → Passes t postings (level_of level stated above) begin points f.count g.last g.cur × (g.count ≡ f.count + 1)
+    → IsNextDatum t postings (level_of level stated above) begin points f.count g.last g.cur × (g.count ≡ f.count + 1)
 
 pub above-passes : (t : RuledTerm) (postings : List Posting) (level n : ℕ) (points : List (List Point)) (passed : ℕ) (o : Option Following) (f g : Following) → o ≡ Some f → level ≡ suc n → 2 ≤ t.rules.skip_interval
     → (passed + 1) % t.rules.skip_interval ≡ 0 → passed < data_count t n → TakesAbove t postings level f g → FollowsAbove t postings level points passed o
@@ -88,9 +88,9 @@ above-starts t postings level points frq o r is h = subst (λ (x : Option Follow
       number = sym (zero-div t.rules.skip_interval);
     }
 
-pub above-small : (o : Option ℕ) (frq : List ℕ) (r : Option Following) → r ≡ option_map (λ place. record { cur = place_in frq place; count = 0; last = no_point }) o → IsSmallAbove 0 r
-above-small o frq r is = subst (λ (x : Option Following). IsSmallAbove 0 x) (sym is) (go o)
+pub above-small : (o : Option ℕ) (frq : List ℕ) (r : Option Following) → r ≡ option_map (λ place. record { cur = place_in frq place; count = 0; last = no_point }) o → AreSmallSumsAbove 0 r
+above-small o frq r is = subst (λ (x : Option Following). AreSmallSumsAbove 0 x) (sym is) (go o)
   where
-    go : (o : Option ℕ) → IsSmallAbove 0 (option_map (λ place. record { cur = place_in frq place; count = 0; last = no_point }) o)
+    go : (o : Option ℕ) → AreSmallSumsAbove 0 (option_map (λ place. record { cur = place_in frq place; count = 0; last = no_point }) o)
     go None = tt
     go (Some place) = (record { doc = omega arith; freq = omega arith; prox = omega arith }, omega arith)

@@ -19,7 +19,7 @@ use Rattle.freq_skips.specs.Written.{optional_bytes}
 use Rattle.freq_skips.specs.Entries.{Posting, no_posting, postings_from}
 use Rattle.freq_skips.specs.Levels.{no_point, level_of, level_count, stride, data_count, wanted, child_above, differs, datum_conditions, number_or, Follows, AreData}
 use Rattle.freq_skips.specs.Walks.{start_in, points_in}
-use Rattle.freq_skips.specs.Finding.{CanSearch, LevelStands, IsLike, last_of, IsPassed, StandsOn}
+use Rattle.freq_skips.specs.Finding.{CanSearch, LevelStands, IsLike, last_of, HasPassedData, StandsOn}
 use Rattle.freq_skips.proofs.AboveLemmas.{data_count-above}
 use Rattle.freq_skips.proofs.DatumParts.{DatumSpelled}
 use Rattle.freq_skips.proofs.LevelLemmas.{Follows-none}
@@ -155,7 +155,7 @@ pub record IsLed (t : RuledTerm) (frq : List ℕ) (level begin k : ℕ) (s : Lev
   pub is : suc (suc k * t.rules.skip_interval - 1) ≡ suc k * t.rules.skip_interval
   pub led : Led t frq level begin (suc k * t.rules.skip_interval - 1) s (slice_index_or (points_in t frq (suc level)) k no_point).child
 
-pub is-led : (t : RuledTerm) (frq : List ℕ) (level begin k : ℕ) (p : Point) (s : LevelStands t frq level begin) → CanSearch t frq → IsPassed t frq (suc level) (suc k) p → IsLed t frq level begin k s
+pub is-led : (t : RuledTerm) (frq : List ℕ) (level begin k : ℕ) (p : Point) (s : LevelStands t frq level begin) → CanSearch t frq → HasPassedData t frq (suc level) (suc k) p → IsLed t frq level begin k s
 is-led t frq level begin k p s search passed = go passed.level_within s.above_is
   where
     go : (suc k ≡ 0) ⊎ (suc level < level_count t) → (suc level ≡ level_count t) ⊎ ((rest : List (List Point)) × (s.above ≡ points_in t frq (suc level) ∷ rest)) → IsLed t frq level begin k s
@@ -178,7 +178,7 @@ is-led t frq level begin k p s search passed = go passed.level_within s.above_is
           led = subst (λ (n : ℕ). Led t frq level begin m s (slice_index_or (points_in t frq (suc level)) n no_point).child) one led;
         }
 
-pub entered-led : (t : RuledTerm) (frq : List ℕ) (level begin k n : ℕ) (p : Point) (d : Cursor) (s : LevelStands t frq level begin) → CanSearch t frq → IsPassed t frq (suc level) (suc k) p → (h : IsLed t frq level begin k s)
+pub entered-led : (t : RuledTerm) (frq : List ℕ) (level begin k n : ℕ) (p : Point) (d : Cursor) (s : LevelStands t frq level begin) → CanSearch t frq → HasPassedData t frq (suc level) (suc k) p → (h : IsLed t frq level begin k s)
     → n ≡ (slice_index_or (points_in t frq level) (suc k * t.rules.skip_interval - 1) no_point).child → d ≡ h.led.next
     → StandsOn t frq level (record { cur = d; count = suc k * t.rules.skip_interval; last = record { doc = p.doc; freq = p.freq; prox = p.prox; payload = p.payload; child = n; place = p.place } })
 entered-led t frq level begin k n p d s search passed h child at =

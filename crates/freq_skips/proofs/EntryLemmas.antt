@@ -11,51 +11,51 @@ use Rattle.lu_grammar.proofs.Loops.{each-none, each-rest, times-more, times-faul
 use Rattle.freq_skips.specs.declared.rules.RuledTerm.{RuledTerm}
 use Rattle.freq_skips.specs.declared.entry.Entry.{Entry}
 use Rattle.freq_skips.specs.Records.{Record, entry_shape}
-use Rattle.freq_skips.specs.Entries.{Posting, no_posting, Passed, no_entry, posting_of, entry_conditions, entry_kind, entries, read_postings, postings_from, AreEntries, AreGoodFrom, Stands, IsNext, entry_of, entries_from}
+use Rattle.freq_skips.specs.Entries.{Posting, no_posting, EntriesSoFar, no_entry, posting_of, entry_conditions, entry_kind, entries, read_postings, postings_from, AreEntries, AreGoodFrom, IsBehindEntries, IsNext, entry_of, entries_from}
 
 -- what is asked of the entry that stands next
 abbrev pub entry_at : RuledTerm → ℕ → ℕ → Cursor → Result (Record × Cursor) ℕ
 entry_at t index doc here = record_at (entry_shape t) (entry_conditions t (index == 0) doc here.place) here
 
-pub Stands-none : (t : RuledTerm) (start : Cursor) → Stands t start 0 0 start
-Stands-none t start = record { passed = no_entry; reads = each-none _ no_entry start; last = refl; count = refl }
+pub IsBehindEntries-none : (t : RuledTerm) (start : Cursor) → IsBehindEntries t start 0 0 start
+IsBehindEntries-none t start = record { passed = no_entry; reads = each-none _ no_entry start; last = refl; count = refl }
 
 -- the same, by the state
-kind_at : (t : RuledTerm) (start : Cursor) (index doc : ℕ) (here : Cursor) (h : Stands t start index doc here)
+kind_at : (t : RuledTerm) (start : Cursor) (index doc : ℕ) (here : Cursor) (h : IsBehindEntries t start index doc here)
     → record_at (entry_shape t) (entry_conditions t (length h.passed.postings == 0) h.passed.doc here.place) here ≡ entry_at t index doc here
 kind_at t start index doc here h =
     ap (λ (n : ℕ). record_at (entry_shape t) (entry_conditions t (n == 0) h.passed.doc here.place) here) h.count
     ∙ ap (λ (d : ℕ). record_at (entry_shape t) (entry_conditions t (index == 0) d here.place) here) h.last
 
-pub Stands-more : (t : RuledTerm) (start : Cursor) (index doc : ℕ) (here : Cursor) (r : Record) (next : Cursor) → Stands t start index doc here → entry_at t index doc here ≡ Ok (r, next)
-    → Stands t start (index + 1) (posting_of t doc here.place r).doc next
-Stands-more t start index doc here r next h e = record {
+pub IsBehindEntries-more : (t : RuledTerm) (start : Cursor) (index doc : ℕ) (here : Cursor) (r : Record) (next : Cursor) → IsBehindEntries t start index doc here → entry_at t index doc here ≡ Ok (r, next)
+    → IsBehindEntries t start (index + 1) (posting_of t doc here.place r).doc next
+IsBehindEntries-more t start index doc here r next h e = record {
   passed = (entry_kind t).after h.passed here.place r;
   reads = times-more (entry_kind t) index no_entry start h.passed here r next h.reads (kind_at t start index doc here h ∙ e);
   last = ap (λ (d : ℕ). (posting_of t d here.place r).doc) h.last;
   count = omega (arith, length-append h.passed.postings (posting_of t h.passed.doc here.place r ∷ []), h.count);
 }
 
-pub Stands-fault : (t : RuledTerm) (start : Cursor) (index doc : ℕ) (here : Cursor) (rule : ℕ) → Stands t start index doc here → index < t.info.doc_freq → entry_at t index doc here ≡ Err rule
+pub IsBehindEntries-fault : (t : RuledTerm) (start : Cursor) (index doc : ℕ) (here : Cursor) (rule : ℕ) → IsBehindEntries t start index doc here → index < t.info.doc_freq → entry_at t index doc here ≡ Err rule
     → read_plan (entries t) start ≡ Err (record { offset = here.place; rule = rule })
-Stands-fault t start index doc here rule h lt e = times-fault (entry_kind t) index t.info.doc_freq no_entry start h.passed here rule lt h.reads (kind_at t start index doc here h ∙ e)
+IsBehindEntries-fault t start index doc here rule h lt e = times-fault (entry_kind t) index t.info.doc_freq no_entry start h.passed here rule lt h.reads (kind_at t start index doc here h ∙ e)
 
 -- where all entries are good the next one is, whenever the first so many are read again
-pub Stands-again : (t : RuledTerm) (start end : Cursor) (index doc : ℕ) (here : Cursor) → AreEntries t start end → Stands t start index doc here → index < t.info.doc_freq
+pub IsBehindEntries-again : (t : RuledTerm) (start end : Cursor) (index doc : ℕ) (here : Cursor) → AreEntries t start end → IsBehindEntries t start index doc here → index < t.info.doc_freq
     → (r : Record) × (next : Cursor) × (entry_at t index doc here ≡ Ok (r, next))
-Stands-again t start end index doc here all h lt =
+IsBehindEntries-again t start end index doc here all h lt =
     let again = times-again (entry_kind t) index t.info.doc_freq no_entry start h.passed here (all.passed, end) lt all.reads h.reads in
     (again.0, again.1, sym (kind_at t start index doc here h) ∙ again.2)
 
 -- these postings, and then others
-abbrev BeginsWith : List Posting → Passed → Type 0
+abbrev BeginsWith : List Posting → EntriesSoFar → Type 0
 BeginsWith front s = (back : List Posting) × (s.postings ≡ front ++ back)
 
-keeps_front : (t : RuledTerm) (front : List Posting) (s : Passed) (c : Cursor) (r : Record) (d : Cursor) → BeginsWith front s → record_at ((entry_kind t).shape s) ((entry_kind t).conditions s c.place) c ≡ Ok (r, d)
+keeps_front : (t : RuledTerm) (front : List Posting) (s : EntriesSoFar) (c : Cursor) (r : Record) (d : Cursor) → BeginsWith front s → record_at ((entry_kind t).shape s) ((entry_kind t).conditions s c.place) c ≡ Ok (r, d)
     → BeginsWith front ((entry_kind t).after s c.place r)
 keeps_front t front s c r d h e = (h.0 ++ posting_of t s.doc c.place r ∷ [], ap (λ (l : List Posting). l ++ posting_of t s.doc c.place r ∷ []) h.1 ∙ append_assoc front h.0 (posting_of t s.doc c.place r ∷ []))
 
-postings_begin : (t : RuledTerm) (start end : Cursor) (index doc : ℕ) (here : Cursor) (all : AreEntries t start end) (h : Stands t start index doc here) → index ≤ t.info.doc_freq → BeginsWith h.passed.postings all.passed
+postings_begin : (t : RuledTerm) (start end : Cursor) (index doc : ℕ) (here : Cursor) (all : AreEntries t start end) (h : IsBehindEntries t start index doc here) → index ≤ t.info.doc_freq → BeginsWith h.passed.postings all.passed
 postings_begin t start end index doc here all h le =
     times-keeps (entry_kind t) (BeginsWith h.passed.postings) (keeps_front t h.passed.postings) (t.info.doc_freq - index) h.passed here all.passed end ([], sym (append-nil h.passed.postings))
     (sym (each-rest _ index t.info.doc_freq no_entry start h.passed here le h.reads) ∙ all.reads)
@@ -65,11 +65,11 @@ pub postings_from-is : (t : RuledTerm) (start end : Cursor) (all : AreEntries t 
 postings_from-is t start end all = ap read_postings all.reads
 
 -- an entry that is read again is the posting with its number
-pub posting-is : (t : RuledTerm) (start end : Cursor) (index doc : ℕ) (here : Cursor) (r : Record) (next : Cursor) → AreEntries t start end → Stands t start index doc here → index < t.info.doc_freq → entry_at t index doc here ≡ Ok (r, next)
+pub posting-is : (t : RuledTerm) (start end : Cursor) (index doc : ℕ) (here : Cursor) (r : Record) (next : Cursor) → AreEntries t start end → IsBehindEntries t start index doc here → index < t.info.doc_freq → entry_at t index doc here ≡ Ok (r, next)
     → slice_index_or (postings_from t start) index no_posting ≡ posting_of t doc here.place r
-unfolding Stands-more
+unfolding IsBehindEntries-more
 posting-is t start end index doc here r next all h lt e =
-    let more = Stands-more t start index doc here r next h e in
+    let more = IsBehindEntries-more t start index doc here r next h e in
     let begins = postings_begin t start end (index + 1) (posting_of t doc here.place r).doc next all more (omega arith) in
     let p = posting_of t h.passed.doc here.place r in
     let is : postings_from t start ≡ h.passed.postings ++ p ∷ begins.0 = postings_from-is t start end all ∙ begins.1 ∙ append_assoc h.passed.postings (p ∷ []) begins.0 in
@@ -80,9 +80,9 @@ posting-is t start end index doc here r next all h lt e =
 
 -- what a step shows
 pub IsNext-read : (t : RuledTerm) (start : Cursor) (index doc : ℕ) (here : Cursor) (r : Record) (p : Posting) (next : Cursor) → entry_at t index doc here ≡ Ok (r, next) → posting_of t doc here.place r ≡ p → index < t.info.doc_freq
-    → Stands t start index doc here → IsNext t start index p next
+    → IsBehindEntries t start index doc here → IsNext t start index p next
 IsNext-read t start index doc here r p next e is lt h = record {
-  stands = subst (λ (q : Posting). Stands t start (index + 1) q.doc next) is (Stands-more t start index doc here r next h e);
+  stands = subst (λ (q : Posting). IsBehindEntries t start (index + 1) q.doc next) is (IsBehindEntries-more t start index doc here r next h e);
   posting = λ end all. posting-is t start end index doc here r next all h lt e ∙ is;
 }
 
@@ -91,30 +91,30 @@ pub never_broken : (t : RuledTerm) (start end : Cursor) (offset rule : ℕ) → 
 never_broken t start end offset rule all e = err_is_not_ok (sym e ∙ all.reads)
 
 -- all entries are passed
-pub AreEntries-passed : (t : RuledTerm) (start : Cursor) (index doc : ℕ) (here : Cursor) → Stands t start index doc here → index ≡ t.info.doc_freq → AreEntries t start here
+pub AreEntries-passed : (t : RuledTerm) (start : Cursor) (index doc : ℕ) (here : Cursor) → IsBehindEntries t start index doc here → index ≡ t.info.doc_freq → AreEntries t start here
 AreEntries-passed t start index doc here h all = record { passed = h.passed; reads = ap (λ (n : ℕ). read_plan (times (entry_kind t) n no_entry) start) (sym all) ∙ h.reads }
 
 -- the same place, by numbers that are equal
-pub Stands-as : (t : RuledTerm) (start : Cursor) (index doc : ℕ) (here : Cursor) (i d : ℕ) → i ≡ index → d ≡ doc → Stands t start index doc here → Stands t start i d here
-Stands-as t start index doc here i d e f h = subst (λ (n : ℕ). Stands t start n d here) (sym e) (subst (λ (n : ℕ). Stands t start index n here) (sym f) h)
+pub IsBehindEntries-as : (t : RuledTerm) (start : Cursor) (index doc : ℕ) (here : Cursor) (i d : ℕ) → i ≡ index → d ≡ doc → IsBehindEntries t start index doc here → IsBehindEntries t start i d here
+IsBehindEntries-as t start index doc here i d e f h = subst (λ (n : ℕ). IsBehindEntries t start n d here) (sym e) (subst (λ (n : ℕ). IsBehindEntries t start index n here) (sym f) h)
 
 -- ---- all entries of a term
 
 -- where all entries are good the first so many are read
-pub Stands-upto : (t : RuledTerm) (start end : Cursor) (i : ℕ) → AreEntries t start end → i ≤ t.info.doc_freq → (doc : ℕ) × (here : Cursor) × Stands t start i doc here
-Stands-upto t start end zero all le = (0, start, Stands-none t start)
-Stands-upto t start end (suc i) all le =
-    go (Stands-upto t start end i all (omega arith))
+pub IsBehindEntries-upto : (t : RuledTerm) (start end : Cursor) (i : ℕ) → AreEntries t start end → i ≤ t.info.doc_freq → (doc : ℕ) × (here : Cursor) × IsBehindEntries t start i doc here
+IsBehindEntries-upto t start end zero all le = (0, start, IsBehindEntries-none t start)
+IsBehindEntries-upto t start end (suc i) all le =
+    go (IsBehindEntries-upto t start end i all (omega arith))
   where
-    go : ((doc : ℕ) × (here : Cursor) × Stands t start i doc here) → (doc : ℕ) × (here : Cursor) × Stands t start (suc i) doc here
+    go : ((doc : ℕ) × (here : Cursor) × IsBehindEntries t start i doc here) → (doc : ℕ) × (here : Cursor) × IsBehindEntries t start (suc i) doc here
     go (doc, here, h) =
-        let again = Stands-again t start end i doc here all h (omega arith) in
+        let again = IsBehindEntries-again t start end i doc here all h (omega arith) in
         let last = (posting_of t doc here.place again.0).doc in
-        (last, again.1, subst (λ (n : ℕ). Stands t start n last again.1) (add-one i) (Stands-more t start i doc here again.0 again.1 h again.2))
+        (last, again.1, subst (λ (n : ℕ). IsBehindEntries t start n last again.1) (add-one i) (IsBehindEntries-more t start i doc here again.0 again.1 h again.2))
 
 pub postings_from-length : (t : RuledTerm) (start end : Cursor) → AreEntries t start end → length (postings_from t start) ≡ t.info.doc_freq
 postings_from-length t start end all =
-    let s = Stands-upto t start end t.info.doc_freq all (omega arith) in ap (λ (r : Result (Passed × Cursor) Broken). length (read_postings r)) s.2.reads ∙ s.2.count
+    let s = IsBehindEntries-upto t start end t.info.doc_freq all (omega arith) in ap (λ (r : Result (EntriesSoFar × Cursor) Broken). length (read_postings r)) s.2.reads ∙ s.2.count
 
 -- the entries that are left are the one that stands next and those after it
 pub entries_from-next : (t : RuledTerm) (start : Cursor) (index : ℕ) (p : Posting) (next : Cursor) → AreGoodFrom t start → IsNext t start index p next → index < t.info.doc_freq

@@ -17,7 +17,7 @@ use Rattle.freq_skips.specs.Levels.{Level, no_point, level_of, level_count, leve
 use Rattle.freq_skips.specs.Terms.{TermData}
 use Rattle.freq_skips.specs.Walks.{start_in, value_from, points_in}
 use Rattle.freq_skips.specs.Points.{is_highest, data_below, data_led, data_searched, data_read, find_steps, highest_count, most_steps}
-use Rattle.freq_skips.specs.Finding.{CanSearch, LevelsLeft, IsPassed, StopsAt}
+use Rattle.freq_skips.specs.Finding.{CanSearch, LevelsLeft, HasPassedData, StopsAt}
 use Rattle.freq_skips.proofs.Powers.{power-pos}
 use Rattle.freq_skips.proofs.AboveLemmas.{data_count-above}
 use Rattle.freq_skips.proofs.TermLemmas.{TermParts-ReadsTo}

@@ -13,7 +13,7 @@ use Rattle.freq_skips.specs.Terms.{TermData}
 use Rattle.freq_skips.specs.Walks.{start_in, value_from, points_in, point_at, HasDatum}
 use Rattle.freq_skips.specs.ProxPlaces.{HasProxPlaces}
 use Rattle.freq_skips.specs.Points.{KnownTerm, entry_behind, point_after, IsPoint, IsLastBelow, data_below}
-use Rattle.freq_skips.specs.Finding.{CanSearch, IsPassed}
+use Rattle.freq_skips.specs.Finding.{CanSearch, HasPassedData}
 use Rattle.freq_skips.proofs.Powers.{power-pos}
 use Rattle.freq_skips.proofs.TermLemmas.{TermParts-ReadsTo}
 use Rattle.freq_skips.proofs.WalkLemmas.{value_from-is}
@@ -67,7 +67,7 @@ same-point : (a b c d e f g h : ℕ) → a ≡ e → b ≡ f → c ≡ g → d �
 same-point a b c d e f g h p q r s =
     ap (λ (x : ℕ). point_of_parts x b c d) p ∙ ap (λ (x : ℕ). point_of_parts e x c d) q ∙ ap (λ (x : ℕ). point_of_parts e f x d) r ∙ ap (λ (x : ℕ). point_of_parts e f g x) s
 
-pub reached-is : (t : RuledTerm) (frq : List ℕ) (count : ℕ) (last : Point) → CanSearch t frq → IsPassed t frq 0 count last → reached t count last ≡ point_after t (value_from t (start_in t frq)) count
+pub reached-is : (t : RuledTerm) (frq : List ℕ) (count : ℕ) (last : Point) → CanSearch t frq → HasPassedData t frq 0 count last → reached t count last ≡ point_after t (value_from t (start_in t frq)) count
 reached-is t frq zero last can h = refl
 reached-is t frq (suc m) last can h = elim h.level_within [
   | inl none ↦ absurd (omega arith)
@@ -112,7 +112,7 @@ counted t frq target index can lt has low = go (datum-of-entry t index can.good.
 abbrev known : RuledTerm → List ℕ → KnownTerm
 known t frq = record { term = t; value = value_from t (start_in t frq) }
 
-pub found-last : (t : RuledTerm) (frq : List ℕ) (target count : ℕ) (last : Point) → CanSearch t frq → IsPassed t frq 0 count last → count ≡ data_below (value_from t (start_in t frq)) target 0 → IsLastBelow (known t frq) target (reached t count last)
+pub found-last : (t : RuledTerm) (frq : List ℕ) (target count : ℕ) (last : Point) → CanSearch t frq → HasPassedData t frq 0 count last → count ≡ data_below (value_from t (start_in t frq)) target 0 → IsLastBelow (known t frq) target (reached t count last)
 found-last t frq target count last can h is = record {
   point = record { number = count; exists = exists h.level_within; point = reached-is t frq count last can h };
   below = low count h is;
@@ -123,7 +123,7 @@ found-last t frq target count last can h is = record {
     exists (inl none) = inl none
     exists (inr lt) = inr (lt, h.within)
 
-    low : (n : ℕ) → IsPassed t frq 0 n last → n ≡ data_below (value_from t (start_in t frq)) target 0 → 0 < (reached t n last).passed → (reached t n last).doc < target
+    low : (n : ℕ) → HasPassedData t frq 0 n last → n ≡ data_below (value_from t (start_in t frq)) target 0 → 0 < (reached t n last).passed → (reached t n last).doc < target
     low zero p e pos = absurd (omega arith)
     low (suc m) p e pos = let passes = below-passes (value_from t (start_in t frq)) target 0 m (omega (arith, e)) in let same = p.like.doc in subst (λ (n : ℕ). n < target) (sym same) passes
 
@@ -138,7 +138,7 @@ found-last t frq target count last can h is = record {
     great index lt (m, below, e) = above m count index (omega (arith, is, below)) e
 
 -- its place of positions is the one that belongs to its entry
-pub found-prox : (t : RuledTerm) (frq : List ℕ) (count : ℕ) (last : Point) (prox : ℕ → ℕ) → CanSearch t frq → IsPassed t frq 0 count last → HasProxPlaces t (value_from t (start_in t frq)) prox → 0 < (reached t count last).passed
+pub found-prox : (t : RuledTerm) (frq : List ℕ) (count : ℕ) (last : Point) (prox : ℕ → ℕ) → CanSearch t frq → HasPassedData t frq 0 count last → HasProxPlaces t (value_from t (start_in t frq)) prox → 0 < (reached t count last).passed
     → (reached t count last).prox ≡ t.info.prox + prox (reached t count last).passed
 found-prox t frq zero last prox can h places pos = absurd (omega arith)
 found-prox t frq (suc m) last prox can h places pos = elim h.level_within [

@@ -13,7 +13,7 @@ use Rattle.lu_grammar.proofs.Loops.{read_plan-and_then}
 use Rattle.freq_skips.specs.declared.rules.RuledTerm.{RuledTerm}
 use Rattle.freq_skips.specs.declared.datum.Point.{Point}
 use Rattle.freq_skips.specs.Records.{Record}
-use Rattle.freq_skips.specs.Entries.{Posting, Passed, entries, postings_from, AreEntries}
+use Rattle.freq_skips.specs.Entries.{Posting, EntriesSoFar, entries, postings_from, AreEntries}
 use Rattle.freq_skips.specs.Levels.{level_count, levels}
 use Rattle.freq_skips.specs.Terms.{TermData, IsTermFault, term_plan}
 use Rattle.freq_skips.specs.Walking.{AreGoodLevels}
@@ -24,7 +24,7 @@ use Rattle.freq_skips.proofs.TermLemmas.{levels_after}
 term-goes_on : (t : RuledTerm) (start mid : Cursor) → AreEntries t start mid → read_plan (term_plan t) start ≡ read_plan (levels_after t (postings_from t start)) mid
 term-goes_on t start mid all =
     read_plan-and_then (entries t) (λ s. levels_after t s.postings) start
-    ∙ ap (λ (r : Result (Passed × Cursor) Broken). r >>= λ x. read_plan (levels_after t x.0.postings) x.1) all.reads
+    ∙ ap (λ (r : Result (EntriesSoFar × Cursor) Broken). r >>= λ x. read_plan (levels_after t x.0.postings) x.1) all.reads
     ∙ ap (λ (l : List Posting). read_plan (levels_after t l) mid) (sym (postings_from-is t start mid all))
 
 abbrev data_of : List Posting → List (List Point) → TermData
@@ -68,7 +68,7 @@ pub term-entries_broken : (t : RuledTerm) (frq : List ℕ) (at offset rule : ℕ
 term-entries_broken t frq at offset rule fits e =
     term-fault t (place_in frq at) (record { offset = offset; rule = rule }) (IsBytes-drop at frq fits)
     (read_plan-and_then (entries t) (λ s. levels_after t s.postings) (place_in frq at)
-    ∙ ap (λ (r : Result (Passed × Cursor) Broken). r >>= λ x. read_plan (levels_after t x.0.postings) x.1) e)
+    ∙ ap (λ (r : Result (EntriesSoFar × Cursor) Broken). r >>= λ x. read_plan (levels_after t x.0.postings) x.1) e)
 
 -- what the check answers of the levels it answers of the term
 pub term-judged : (t : RuledTerm) (frq : List ℕ) (at mid : ℕ) (r : Result ℕ Spot) → IsBytes frq → AreEntries t (place_in frq at) (place_in frq mid)

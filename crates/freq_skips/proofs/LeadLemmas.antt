@@ -9,7 +9,7 @@ use Rattle.lu_grammar.specs.Parts.{vlong, spelling}
 use Rattle.freq_skips.specs.declared.rules.RuledTerm.{RuledTerm}
 use Rattle.freq_skips.specs.declared.writer.Mark.{Mark}
 use Rattle.freq_skips.specs.Levels.{stride, data_count}
-use Rattle.freq_skips.specs.Written.{Handed, optional_bytes, entries_bytes, mark_of, written_postings, AreInOrder, SkipLevel, skip_level, mark_after, child_after, child_pointer, data_bytes, data_number, level_above, with_length, skip_bytes, front_bytes, written_skip, place_with}
+use Rattle.freq_skips.specs.Written.{Handed, optional_bytes, entries_bytes, mark_of, written_postings, AreInOrder, SkipLevel, skip_level, mark_after, child_after, child_pointer, data_bytes, data_number, level_above, with_level_length, skip_bytes, bytes_to_child, written_skip, place_with}
 use Rattle.freq_skips.specs.Writing.{IsRisingProx}
 use Rattle.freq_skips.proofs.Powers.{stride-two}
 use Rattle.freq_skips.proofs.MarkLemmas.{postings-at, marks-up, mark-small}
@@ -88,7 +88,7 @@ data-grow l a (suc b) le = elim (cases_eq a (suc b)) [
   | inl e ↦ subst (λ (k : ℕ). length (data_bytes l k) ≤ length (data_bytes l (suc b))) (sym e) (omega arith)
   | inr ne ↦
       let rest = data-grow l a b (omega arith) in
-      let more = ap length (data_bytes-more l b) ∙ length-append (data_bytes l b) (front_bytes (written_skip l b) ++ optional_bytes vlong (written_skip l b).child) in
+      let more = ap length (data_bytes-more l b) ∙ length-append (data_bytes l b) (bytes_to_child (written_skip l b) ++ optional_bytes vlong (written_skip l b).child) in
       omega (arith, rest, more)
 ]
 
@@ -96,8 +96,8 @@ data-grow l a (suc b) le = elim (cases_eq a (suc b)) [
 place-in : (l : SkipLevel) (m count : ℕ) → m < count → place_with l (child_after l) m ≤ length (data_bytes l count)
 place-in l m count lt =
     let rest = data-grow l (suc m) count (omega arith) in
-    let size = ap length (data_bytes-more l m) ∙ length-append (data_bytes l m) (front_bytes (written_skip l m) ++ optional_bytes vlong (written_skip l m).child) in
-    let more = length-append (front_bytes (written_skip l m)) (optional_bytes vlong (written_skip l m).child) in
+    let size = ap length (data_bytes-more l m) ∙ length-append (data_bytes l m) (bytes_to_child (written_skip l m) ++ optional_bytes vlong (written_skip l m).child) in
+    let more = length-append (bytes_to_child (written_skip l m)) (optional_bytes vlong (written_skip l m).child) in
     omega (arith, rest, size, more)
 
 AreTold-lowest : (t : RuledTerm) (handed : List Handed) → AreTold (level_for t handed 0)
@@ -116,9 +116,9 @@ AreTold-above t handed n o small m lt =
     let fits : place_with l (child_after l) (suc m * s - 1) < 2 ^ 63 = omega arith in
     rw test fits
 
-pub with_length-more : (n : ℕ) (bytes : List ℕ) → length bytes ≤ length (with_length n bytes)
-with_length-more zero bytes = omega arith
-with_length-more (suc n) bytes = omega (arith, length-append (spelling vlong (length bytes)) bytes)
+pub with_level_length-more : (n : ℕ) (bytes : List ℕ) → length bytes ≤ length (with_level_length n bytes)
+with_level_length-more zero bytes = omega arith
+with_level_length-more (suc n) bytes = omega (arith, length-append (spelling vlong (length bytes)) bytes)
 
 -- all levels from this one on
 levels-lead : (t : RuledTerm) (handed : List Handed) (k n : ℕ) → IsHandedOver t handed → AreTold (level_for t handed n) → length (skip_bytes k (level_for t handed n)) < 2 ^ 63 → AllLead t (written_postings t.rules.omit_tf t.info.freq 0 handed) k (level_for t handed n)
@@ -126,8 +126,8 @@ levels-lead t handed zero n o told small = tt
 levels-lead t handed (suc k) n o told small =
     let l = level_for t handed n in
     let bytes = data_bytes l (data_number l) in
-    let size = ap length (skip_bytes-next l k (suc k) refl) ∙ length-append (skip_bytes k (level_above l)) (with_length n bytes) in
-    let more = with_length-more n bytes in
+    let size = ap length (skip_bytes-next l k (suc k) refl) ∙ length-append (skip_bytes k (level_above l)) (with_level_length n bytes) in
+    let more = with_level_length-more n bytes in
     let own : length bytes < 2 ^ 63 = omega arith in
     (Leads-level t handed n o told own, levels-lead t handed k (suc n) o (AreTold-above t handed n o own) (omega arith))
 

@@ -16,7 +16,7 @@ use Rattle.freq_skips.specs.declared.datum.Point.{Point}
 use Rattle.freq_skips.specs.declared.datum.Wanted.{Wanted}
 use Rattle.freq_skips.specs.Records.{Record, datum_shape}
 use Rattle.freq_skips.specs.Entries.{Posting}
-use Rattle.freq_skips.specs.Levels.{Along, no_datum, no_point, Level, level_start, wanted, datum_conditions, point_of, datum_kind, data_count, level_data, Follows, AreData, AreGoodData, Passes}
+use Rattle.freq_skips.specs.Levels.{Along, no_datum, no_point, Level, level_start, wanted, datum_conditions, point_of, datum_kind, data_count, level_data, Follows, AreData, AreGoodData, IsNextDatum}
 
 -- what is asked of the datum that stands next
 abbrev pub datum_at : RuledTerm → Level → Wanted → ℕ → Point → Cursor → Result (Record × Cursor) ℕ
@@ -106,12 +106,12 @@ record_at-was {R} shape conditions c r d e = go (read_shape shape c) e
     go (Ok x) h = kept x (first_broken (conditions x.0)) h
     go (Err bad) h = absurd (err_is_not_ok h)
 
-pub Passes-read : (t : RuledTerm) (postings : List Posting) (l : Level) (start : Cursor) (points : List Point) (end : Cursor) (count : ℕ) (last : Point) (here : Cursor) (r : Record) (p : Point) (next : Cursor)
+pub IsNextDatum-read : (t : RuledTerm) (postings : List Posting) (l : Level) (start : Cursor) (points : List Point) (end : Cursor) (count : ℕ) (last : Point) (here : Cursor) (r : Record) (p : Point) (next : Cursor)
     → read_shape (datum_shape t l.number) here ≡ Ok (r, next) → point_of t last here.place r ≡ p → p.place ≡ here.place → AreData t postings l start points end → Follows t postings l start count last here → count < data_count t l.number
-    → Passes t postings l start points count p next
-Passes-read t postings l start points end count last here r p next read is at all h lt = go (Follows-again t postings l start points end count last here all h lt)
+    → IsNextDatum t postings l start points count p next
+IsNextDatum-read t postings l start points end count last here r p next read is at all h lt = go (Follows-again t postings l start points end count last here all h lt)
   where
-    go : ((s : Record) × (to : Cursor) × (datum_at t l (wanted t postings l (suc count)) start.place last here ≡ Ok (s, to))) → Passes t postings l start points count p next
+    go : ((s : Record) × (to : Cursor) × (datum_at t l (wanted t postings l (suc count)) start.place last here ≡ Ok (s, to))) → IsNextDatum t postings l start points count p next
     go (s, to, e) =
         let was = record_at-was (datum_shape t l.number) _ here s to e in
         let same = same_pair r s next to (sym read ∙ was) in

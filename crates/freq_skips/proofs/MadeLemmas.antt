@@ -7,7 +7,7 @@ use Rattle.std.proofs.Math.Seq.{get_or-append_seam}
 use Rattle.std.proofs.Math.Nat.{div-div-eq-div-mul, div-mul-le_self, mul-le-mul_right, mul_assoc, mul_comm, mul-mod_left, div-eq_of_lt-le, pow-suc, pow-zero}
 use Rattle.freq_skips.specs.declared.datum.Skip.{Skip}
 use Rattle.freq_skips.specs.declared.writer.Mark.{Mark}
-use Rattle.freq_skips.specs.Written.{Handed, no_mark, mark_of, skip_between, front_bytes, datum_bytes, SkipLevel, skip_level, mark_after, child_after, child_pointer, written_skip, data_bytes, data_with, data_number, level_above, with_length, skip_bytes, place_with}
+use Rattle.freq_skips.specs.Written.{Handed, no_mark, mark_of, skip_between, bytes_to_child, datum_bytes, SkipLevel, skip_level, mark_after, child_after, child_pointer, written_skip, data_bytes, data_with, data_number, level_above, with_level_length, skip_bytes, place_with}
 use Rattle.freq_skips.specs.InnerLevels.{LevelMarks, HasMarks, marked_after, pointed_after, marked_skip, marked_bytes, places_after, marked_count, marked_above, marked_levels, lowest_marks}
 use Rattle.freq_skips.proofs.Powers.{quotient-below}
 use Rattle.freq_skips.proofs.WriterLemmas.{places_after-length, marked_bytes-none, marked_bytes-more, marked_levels-none, marked_levels-next}
@@ -17,7 +17,7 @@ use Rattle.freq_skips.proofs.LeadLemmas.{above-number}
 
 -- the place just after the ProxSkip of a datum that a child pointer leads to
 abbrev place_here : LevelMarks → ℕ → ℕ
-place_here r m = length (marked_bytes r m) + length (front_bytes (marked_skip r m))
+place_here r m = length (marked_bytes r m) + length (bytes_to_child (marked_skip r m))
 
 pub places_after-at : (r : LevelMarks) (count m : ℕ) → 0 < r.interval → m < count → (m + 1) % r.interval ≡ 0 → slice_index (places_after r count) (m / r.interval) ≡ place_here r m
 unfolding places_after
@@ -30,7 +30,7 @@ places_after-at r (suc c) m pos lt e = elim (cases_lt m c) [
       elim (cases_eq ((c + 1) % r.interval) 0) [
         | inl here ↦
             let test : eqb (suc c % r.interval) 0 ≡ true = eq-eqb _ _ (ap (λ (n : ℕ). n % r.interval) (sym (add-one c)) ∙ here) in
-            rw test (get_or-append (places_after r c) ((length (marked_bytes r c) + length (front_bytes (marked_skip r c))) ∷ []) 0 (m / r.interval) within ∙ before)
+            rw test (get_or-append (places_after r c) ((length (marked_bytes r c) + length (bytes_to_child (marked_skip r c))) ∷ []) 0 (m / r.interval) within ∙ before)
         | inr ne ↦
             let test : eqb (suc c % r.interval) 0 ≡ false = ne_eqb _ _ (λ z. ne (ap (λ (n : ℕ). n % r.interval) (add-one c) ∙ z)) in
             rw test before
@@ -40,8 +40,8 @@ places_after-at r (suc c) m pos lt e = elim (cases_lt m c) [
       let here : (c + 1) % r.interval ≡ 0 = ap (λ (n : ℕ). (n + 1) % r.interval) (sym is) ∙ e in
       let test : eqb (suc c % r.interval) 0 ≡ true = eq-eqb _ _ (ap (λ (n : ℕ). n % r.interval) (sym (add-one c)) ∙ here) in
       let index : m / r.interval ≡ length (places_after r c) = ap (λ (n : ℕ). n / r.interval) is ∙ sym (places_after-length r c pos) in
-      rw test (ap (λ (n : ℕ). get_or (places_after r c ++ (length (marked_bytes r c) + length (front_bytes (marked_skip r c))) ∷ []) n 0) index
-      ∙ get_or-append_seam (places_after r c) (length (marked_bytes r c) + length (front_bytes (marked_skip r c))) [] 0 ∙ ap (place_here r) (sym is))
+      rw test (ap (λ (n : ℕ). get_or (places_after r c ++ (length (marked_bytes r c) + length (bytes_to_child (marked_skip r c))) ∷ []) n 0) index
+      ∙ get_or-append_seam (places_after r c) (length (marked_bytes r c) + length (bytes_to_child (marked_skip r c))) [] 0 ∙ ap (place_here r) (sym is))
 ]
 
 -- what a writer makes of a level is that level of its entries
@@ -109,8 +109,8 @@ made-child l r m two h lt =
     let never : eqb (suc r.number) 0 ≡ false = ne_eqb _ _ (λ z. absurd (omega arith)) in
     let place : slice_index (places_after r (marked_count r)) m ≡ place_with l (child_after l) k =
     ap (λ (n : ℕ). slice_index (places_after r (marked_count r)) n) (sym quotient) ∙ here
-    ∙ ap (λ (b : List ℕ). length b + length (front_bytes (marked_skip r k))) (made-bytes l r k h (omega arith))
-    ∙ ap (λ (d : Skip). length (data_bytes l k) + length (front_bytes d)) (made-skip l r k h within) in
+    ∙ ap (λ (b : List ℕ). length b + length (bytes_to_child (marked_skip r k))) (made-bytes l r k h (omega arith))
+    ∙ ap (λ (d : Skip). length (data_bytes l k) + length (bytes_to_child d)) (made-skip l r k h within) in
     rw never (ap (λ (n : ℕ). Some n) place)
   where
     last-quotient : (m s : ℕ) → 0 < s → (suc m * s - 1) / s ≡ m
@@ -133,10 +133,10 @@ made-levels : (k : ℕ) (l : SkipLevel) (r : LevelMarks) → 2 ≤ l.interval �
 made-levels zero l r two h = marked_levels-none r 0 refl ∙ sym (skip_bytes-none l 0 refl)
 made-levels (suc k) l r two h =
     marked_levels-next r k (suc k) refl
-    ∙ ap (λ (b : List ℕ). b ++ with_length r.number (marked_bytes r (marked_count r))) (made-levels k (level_above l) (marked_above r) two (made-above l r two h))
-    ∙ ap (λ (n : ℕ). skip_bytes k (level_above l) ++ with_length n (marked_bytes r (marked_count r))) h.number
-    ∙ ap (λ (n : ℕ). skip_bytes k (level_above l) ++ with_length l.number (marked_bytes r n)) (made-count l r h)
-    ∙ ap (λ (b : List ℕ). skip_bytes k (level_above l) ++ with_length l.number b) (made-bytes l r (data_number l) h (omega arith))
+    ∙ ap (λ (b : List ℕ). b ++ with_level_length r.number (marked_bytes r (marked_count r))) (made-levels k (level_above l) (marked_above r) two (made-above l r two h))
+    ∙ ap (λ (n : ℕ). skip_bytes k (level_above l) ++ with_level_length n (marked_bytes r (marked_count r))) h.number
+    ∙ ap (λ (n : ℕ). skip_bytes k (level_above l) ++ with_level_length l.number (marked_bytes r n)) (made-count l r h)
+    ∙ ap (λ (b : List ℕ). skip_bytes k (level_above l) ++ with_level_length l.number b) (made-bytes l r (data_number l) h (omega arith))
     ∙ sym (skip_bytes-next l k (suc k) refl)
 
 pub levels-made : (k : ℕ) (omit payloads : Bool) (interval : ℕ) (entries : List Handed) (marks : List Mark) → 2 ≤ interval → HasMarks omit interval entries marks → marked_levels k (lowest_marks payloads marks interval) ≡ skip_bytes k (skip_level omit payloads interval entries 0)

@@ -9,10 +9,10 @@ use Rattle.freq_skips.specs.declared.datum.Point.{Point}
 use Rattle.freq_skips.specs.declared.following.Following.{Following}
 use Rattle.freq_skips.specs.Records.{Record, datum_shape, skip_of}
 use Rattle.freq_skips.specs.Entries.{postings_from}
-use Rattle.freq_skips.specs.Levels.{no_point, level_of, level_count, stride, data_count, skipped, point_of, IsSmall}
+use Rattle.freq_skips.specs.Levels.{no_point, level_of, level_count, stride, data_count, skipped, point_of, AreSmallSums}
 use Rattle.freq_skips.specs.Walks.{start_in, points_in}
-use Rattle.freq_skips.specs.Finding.{CanSearch, IsLike, last_of, IsPassed, StandsOn}
-use Rattle.freq_skips.proofs.LevelLemmas.{Passes-read, never_unread}
+use Rattle.freq_skips.specs.Finding.{CanSearch, IsLike, last_of, HasPassedData, StandsOn}
+use Rattle.freq_skips.proofs.LevelLemmas.{IsNextDatum-read, never_unread}
 use Rattle.freq_skips.proofs.PostingLemmas.{before-small, posting-place}
 use Rattle.freq_skips.proofs.PointLemmas.{entries-good, leads-there}
 
@@ -35,7 +35,7 @@ StandsOn-next t frq level f r p next h lt read is =
     let l = level_of level h.stands.stated h.stands.above in
     let points = points_in t frq level in
     let q = point_of t h.last f.cur.place r in
-    let passes = Passes-read t ps l (place_in frq h.begin) points h.stands.end f.count h.last f.cur r q next read refl refl h.stands.all h.follows lt in
+    let passes = IsNextDatum-read t ps l (place_in frq h.begin) points h.stands.end f.count h.last f.cur r q next read refl refl h.stands.all h.follows lt in
     let like : IsLike p q = subst (λ (x : Point). IsLike x q) is (like-more t f.last h.last f.cur.place r h.like) in
     let point : IsLike p (slice_index_or points f.count no_point) = like-trans p q _ like (sym passes.point) in (
       record {
@@ -60,13 +60,13 @@ pub record SmallSums (t : RuledTerm) (frq : List ℕ) (last : Point) : Type 0 wh
   pub freq : t.info.freq + last.freq ≤ length frq
   pub prox : t.info.prox + last.prox < 2 ^ 32
 
-pub IsPassed-small : (t : RuledTerm) (frq : List ℕ) (level count : ℕ) (last : Point) → CanSearch t frq → IsPassed t frq level count last → SmallSums t frq last
-IsPassed-small t frq level zero last search h =
+pub HasPassedData-small : (t : RuledTerm) (frq : List ℕ) (level count : ℕ) (last : Point) → CanSearch t frq → HasPassedData t frq level count last → SmallSums t frq last
+HasPassedData-small t frq level zero last search h =
     let like = h.like in
     let within = search.good.within in
     let small = search.prox_small in
     record { doc = let e = like.doc in omega arith; freq = let e = like.freq in omega arith; prox = let e = like.prox in omega arith }
-IsPassed-small t frq level (suc m) last search h = go h.level_within
+HasPassedData-small t frq level (suc m) last search h = go h.level_within
   where
     go : (suc m ≡ 0) ⊎ (level < level_count t) → SmallSums t frq last
     go (inl none) = absurd (omega arith)
@@ -87,9 +87,9 @@ IsPassed-small t frq level (suc m) last search h = go h.level_within
           prox = omega (arith, like.prox, sum, prox);
         }
 
-pub SmallSums-IsSmall : (t : RuledTerm) (frq : List ℕ) (level count : ℕ) (last : Point) → CanSearch t frq → IsPassed t frq level count last → IsSmall count last
-SmallSums-IsSmall t frq level zero last search h = let like = h.like in record { doc = let e = like.doc in omega arith; freq = let e = like.freq in omega arith; prox = let e = like.prox in omega arith }
-SmallSums-IsSmall t frq level (suc m) last search h =
-    let sums = IsPassed-small t frq level (suc m) last search h in
+pub SmallSums-AreSmallSums : (t : RuledTerm) (frq : List ℕ) (level count : ℕ) (last : Point) → CanSearch t frq → HasPassedData t frq level count last → AreSmallSums count last
+SmallSums-AreSmallSums t frq level zero last search h = let like = h.like in record { doc = let e = like.doc in omega arith; freq = let e = like.freq in omega arith; prox = let e = like.prox in omega arith }
+SmallSums-AreSmallSums t frq level (suc m) last search h =
+    let sums = HasPassedData-small t frq level (suc m) last search h in
     let small = search.small in
     record { doc = omega (arith, sums.doc); freq = omega (arith, sums.freq, small); prox = omega (arith, sums.prox) }

@@ -9,14 +9,14 @@ use Rattle.lu_grammar.proofs.Parts.{IsBytes-drop}
 use Rattle.lu_grammar.proofs.Codecs.{same_pair, record_at-kept, all_unbroken, place_in-after}
 use Rattle.freq_skips.specs.declared.rules.RuledTerm.{RuledTerm}
 use Rattle.freq_skips.specs.Records.{Record, stated_of, delta_of, entry_shape}
-use Rattle.freq_skips.specs.Entries.{Posting, no_posting, no_entry, gap, frequency, is_low, posting_of, entry_conditions, entry_kind, postings_from, AreEntries, Stands}
-use Rattle.freq_skips.proofs.EntryLemmas.{Stands-none, Stands-more, Stands-again, Stands-upto, posting-is}
+use Rattle.freq_skips.specs.Entries.{Posting, no_posting, no_entry, gap, frequency, is_low, posting_of, entry_conditions, entry_kind, postings_from, AreEntries, IsBehindEntries}
+use Rattle.freq_skips.proofs.EntryLemmas.{IsBehindEntries-none, IsBehindEntries-more, IsBehindEntries-again, IsBehindEntries-upto, posting-is}
 use Rattle.freq_skips.proofs.WantedLemmas.{posting-at}
 use Rattle.freq_skips.proofs.AgainLemmas.{read_plan-on}
 
 -- so many entries end at one place, and with one document
-pub Stands-same : (t : RuledTerm) (start : Cursor) (index d e : ℕ) (here there : Cursor) → Stands t start index d here → Stands t start index e there → (d ≡ e) × (here ≡ there)
-Stands-same t start index d e here there a b =
+pub IsBehindEntries-same : (t : RuledTerm) (start : Cursor) (index d e : ℕ) (here there : Cursor) → IsBehindEntries t start index d here → IsBehindEntries t start index e there → (d ≡ e) × (here ≡ there)
+IsBehindEntries-same t start index d e here there a b =
     let same = same_pair a.passed b.passed here there (sym a.reads ∙ b.reads) in
     (sym a.last ∙ ap (λ (p : _). p.doc) same.0 ∙ b.last, same.1)
 
@@ -49,22 +49,22 @@ abbrev nth : RuledTerm → Cursor → ℕ → Posting
 nth t start index = slice_index_or (postings_from t start) index no_posting
 
 -- the document before is that of the entry before
-before-next : (t : RuledTerm) (start end : Cursor) (j doc : ℕ) (here : Cursor) → AreEntries t start end → suc j < t.info.doc_freq → Stands t start (suc j) doc here → doc ≡ (nth t start j).doc
-before-next t start end j doc here all lt h = go (Stands-upto t start end j all (omega arith))
+before-next : (t : RuledTerm) (start end : Cursor) (j doc : ℕ) (here : Cursor) → AreEntries t start end → suc j < t.info.doc_freq → IsBehindEntries t start (suc j) doc here → doc ≡ (nth t start j).doc
+before-next t start end j doc here all lt h = go (IsBehindEntries-upto t start end j all (omega arith))
   where
-    go : ((d : ℕ) × (there : Cursor) × Stands t start j d there) → doc ≡ (nth t start j).doc
+    go : ((d : ℕ) × (there : Cursor) × IsBehindEntries t start j d there) → doc ≡ (nth t start j).doc
     go (d, there, s) =
-        let again = Stands-again t start end j d there all s (omega arith) in
+        let again = IsBehindEntries-again t start end j d there all s (omega arith) in
         let is = posting-is t start end j d there again.0 again.1 all s (omega arith) again.2 in
-        let more = subst (λ (n : ℕ). Stands t start n (posting_of t d there.place again.0).doc again.1) (add-one j) (Stands-more t start j d there again.0 again.1 s again.2) in
-        (Stands-same t start (suc j) doc _ here again.1 h more).0 ∙ ap (λ (p : Posting). p.doc) (sym is)
+        let more = subst (λ (n : ℕ). IsBehindEntries t start n (posting_of t d there.place again.0).doc again.1) (add-one j) (IsBehindEntries-more t start j d there again.0 again.1 s again.2) in
+        (IsBehindEntries-same t start (suc j) doc _ here again.1 h more).0 ∙ ap (λ (p : Posting). p.doc) (sym is)
 
 pub posting-good : (t : RuledTerm) (start end : Cursor) (index : ℕ) → AreEntries t start end → index < t.info.doc_freq → GoodPosting t (postings_from t start) index
-posting-good t start end index all lt = go (Stands-upto t start end index all (omega arith))
+posting-good t start end index all lt = go (IsBehindEntries-upto t start end index all (omega arith))
   where
-    go : ((d : ℕ) × (here : Cursor) × Stands t start index d here) → GoodPosting t (postings_from t start) index
+    go : ((d : ℕ) × (here : Cursor) × IsBehindEntries t start index d here) → GoodPosting t (postings_from t start) index
     go (d, here, h) =
-        let again = Stands-again t start end index d here all h lt in
+        let again = IsBehindEntries-again t start end index d here all h lt in
         let r = again.0 in
         let is = posting-is t start end index d here r again.1 all h lt again.2 in
         let kept = all_unbroken (entry_conditions t (index == 0) d here.place r) (record_at-kept (entry_shape t) (entry_conditions t (index == 0) d here.place) here r again.1 again.2) in
@@ -76,8 +76,8 @@ posting-good t start end index all lt = go (Stands-upto t start end index all (o
           some = subst (λ (n : ℕ). 1 ≤ n) (sym freq) (not-low (stated_of r) kept.1.1.1.0);
           after = omega (arith, doc, before);
           rises = λ pos. let more = no-repeat (gap t (delta_of r)) (index == 0) (ne_eqb index 0 (λ e. absurd (omega arith))) kept.1.0 in omega (arith, doc, before, more);
-          first = λ e. before ∙ (Stands-same t start 0 d 0 here start (subst (λ (n : ℕ). Stands t start n d here) e h) (Stands-none t start)).0;
-          next = λ j e. before ∙ before-next t start end j d here all (omega arith) (subst (λ (n : ℕ). Stands t start n d here) e h);
+          first = λ e. before ∙ (IsBehindEntries-same t start 0 d 0 here start (subst (λ (n : ℕ). IsBehindEntries t start n d here) e h) (IsBehindEntries-none t start)).0;
+          next = λ j e. before ∙ before-next t start end j d here all (omega arith) (subst (λ (n : ℕ). IsBehindEntries t start n d here) e h);
         }
 
 -- the document before does not fall from entry to entry
@@ -115,9 +115,9 @@ before-small t start end (suc j) limit all lt le pos =
 
 -- an entry starts within the bytes, and not before the first
 pub posting-place : (t : RuledTerm) (frq : List ℕ) (at : ℕ) (end : Cursor) (index : ℕ) → IsBytes frq → at ≤ length frq → AreEntries t (place_in frq at) end → index < t.info.doc_freq → (at ≤ (nth t (place_in frq at) index).place) × ((nth t (place_in frq at) index).place ≤ length frq)
-posting-place t frq at end index fits le all lt = go (Stands-upto t (place_in frq at) end index all (omega arith))
+posting-place t frq at end index fits le all lt = go (IsBehindEntries-upto t (place_in frq at) end index all (omega arith))
   where
-    go : ((d : ℕ) × (here : Cursor) × Stands t (place_in frq at) index d here) → (at ≤ (nth t (place_in frq at) index).place) × ((nth t (place_in frq at) index).place ≤ length frq)
+    go : ((d : ℕ) × (here : Cursor) × IsBehindEntries t (place_in frq at) index d here) → (at ≤ (nth t (place_in frq at) index).place) × ((nth t (place_in frq at) index).place ≤ length frq)
     go (d, here, h) =
         let is = (posting-at t (place_in frq at) end index d here all h lt).1 in
         let after = place_in-after (times (entry_kind t) index no_entry) frq at h.passed here fits le h.reads in

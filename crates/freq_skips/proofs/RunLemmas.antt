@@ -7,7 +7,7 @@ use Rattle.lu_types.specs.declared.term.TermInfo.{TermInfo}
 use Rattle.lu_types.specs.declared.term.TermRules.{TermRules}
 use Rattle.freq_skips.specs.Points.{HasKnownPlaces}
 use Rattle.freq_skips.specs.Written.{Handed, no_handed, entries_bytes, last_doc, AreInOrder}
-use Rattle.freq_skips.specs.Writing.{FrqWriting, IsRisingProx, IsFinishable, bytes_so_far, added, prox_of, finished, skips, skip_delta, term_written}
+use Rattle.freq_skips.specs.Writing.{FrqWriting, IsRisingProx, IsFinishable, bytes_so_far, entry_added, prox_of, finished, skips, skip_delta, term_written}
 use Rattle.freq_skips.proofs.HandedLemmas.{rising-more, prox-below, order-more, last_doc-more}
 use Rattle.freq_skips.proofs.SoundLemmas.{places-written}
 
@@ -48,7 +48,7 @@ Runs-order w interval most omit payloads bytes limit count next prox doc h le = 
 ]
 
 pub Runs-more : (w : FrqWriting) (interval most : ℕ) (omit payloads : Bool) (bytes : List ℕ) (limit count next prox : ℕ) (h : Handed) (after later : ℕ) → Runs w interval most omit payloads bytes limit count next prox → next ≤ h.doc → h.doc < limit → h.doc < 2 ^ 31
-    → 1 ≤ h.freq → h.freq < 2 ^ 31 → prox ≤ h.prox → h.prox < 2 ^ 31 → h.doc < after → h.prox ≤ later → Runs (added w h) interval most omit payloads bytes limit (count + 1) after later
+    → 1 ≤ h.freq → h.freq < 2 ^ 31 → prox ≤ h.prox → h.prox < 2 ^ 31 → h.doc < after → h.prox ≤ later → Runs (entry_added w h) interval most omit payloads bytes limit (count + 1) after later
 Runs-more w interval most omit payloads bytes limit count next prox h after later r le below small some few up fits next_doc next_prox = record {
   interval_is = r.interval_is;
   most_is = r.most_is;

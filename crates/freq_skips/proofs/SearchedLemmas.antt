@@ -10,10 +10,11 @@ use Rattle.freq_skips.specs.Entries.{no_posting, postings_from}
 use Rattle.freq_skips.specs.Levels.{no_point, level_count, stride, data_count}
 use Rattle.freq_skips.specs.Terms.{TermData}
 use Rattle.freq_skips.specs.Walks.{start_in, value_from, points_in}
-use Rattle.freq_skips.specs.Points.{is_highest, data_below, data_led, data_searched, data_read, find_steps, highest_count, most_steps, ticked}
-use Rattle.freq_skips.specs.Finding.{CanSearch, IsPassed, StopsAt}
+use Rattle.lu_prims.specs.Steps.{ticked}
+use Rattle.freq_skips.specs.Points.{is_highest, data_below, data_led, data_searched, data_read, find_steps, highest_count, most_steps}
+use Rattle.freq_skips.specs.Finding.{CanSearch, HasPassedData, StopsAt}
 use Rattle.freq_skips.proofs.AboveLemmas.{data_count-above}
-use Rattle.freq_skips.proofs.StepLemmas.{ticked-ticked}
+use Rattle.lu_prims.proofs.StepLemmas.{ticked-ticked}
 use Rattle.freq_skips.proofs.PointLemmas.{leads-there}
 use Rattle.freq_skips.proofs.EnterLemmas.{led-entry, led-within}
 use Rattle.freq_skips.proofs.FindLemmas.{points-length, doc-rises, below-passes, below-stops, test-low, test-high, LevelSearched, led-data, searched-data, most-cases, most-within}

@@ -10,7 +10,7 @@ use Rattle.freq_skips.specs.Terms.{TermData, IsGoodTerm, term_plan}
 use Rattle.freq_skips.specs.Walks.{start_in, value_from, point_at}
 use Rattle.freq_skips.specs.ProxPlaces.{HasProxPlaces}
 use Rattle.freq_skips.specs.Points.{HasKnownPlaces}
-use Rattle.freq_skips.specs.Sound.{IsSoundTerm}
+use Rattle.freq_skips.specs.Sound.{IsSoundTermData}
 use Rattle.freq_skips.specs.Written.{no_handed}
 use Rattle.freq_skips.specs.Writing.{FrqWriting, IsFinishable, IsAsHanded, prox_of, finished, term_written}
 use Rattle.freq_skips.proofs.EntryLemmas.{postings_from-length}
@@ -20,7 +20,7 @@ use Rattle.freq_skips.proofs.PostingLemmas.{posting-good, docs-rise}
 use Rattle.freq_skips.proofs.PointLemmas.{leads-there}
 use Rattle.freq_skips.proofs.FinishedTerms.{ReadsTo-finished}
 
-sound-from : (t : RuledTerm) (frq : List ℕ) (good : IsGoodTerm t.info t.rules frq) → IsBytes frq → IsSoundTerm t (record { postings = postings_from t (start_in t frq); levels = (value_from t (start_in t frq)).levels })
+sound-from : (t : RuledTerm) (frq : List ℕ) (good : IsGoodTerm t.info t.rules frq) → IsBytes frq → IsSoundTermData t (record { postings = postings_from t (start_in t frq); levels = (value_from t (start_in t frq)).levels })
 sound-from t frq good fits =
     let parts = TermParts-ReadsTo t (start_in t frq) good.value good.end good.reads in
     let start = start_in t frq in
@@ -35,14 +35,14 @@ sound-from t frq good fits =
       leads = λ level m lt below. let there = leads-there t frq level m fits good lt below in (there.doc, there.freq);
     }
 
-pub IsSoundTerm-good : (t : RuledTerm) (frq : List ℕ) (value : TermData) (end : Cursor) → IsBytes frq → 2 ≤ t.rules.skip_interval → t.info.freq ≤ length frq → ReadsTo (term_plan t) (place_in frq t.info.freq) value end → IsSoundTerm t value
-IsSoundTerm-good t frq value end fits two le reads =
+pub IsSoundTermData-good : (t : RuledTerm) (frq : List ℕ) (value : TermData) (end : Cursor) → IsBytes frq → 2 ≤ t.rules.skip_interval → t.info.freq ≤ length frq → ReadsTo (term_plan t) (place_in frq t.info.freq) value end → IsSoundTermData t value
+IsSoundTermData-good t frq value end fits two le reads =
     let good : IsGoodTerm t.info t.rules frq = record { interval = two; within = le; value = value; end = end; reads = reads } in
     let parts = TermParts-ReadsTo t (start_in t frq) value end reads in
     let is = value_from-is t (start_in t frq) value end reads in
     let whole : record { postings = postings_from t (start_in t frq); levels = (value_from t (start_in t frq)).levels } ≡ value =
     ap (λ (ps : List Posting). made ps (value_from t (start_in t frq))) (sym parts.postings) ∙ ap (λ (v : TermData). made value.postings v) is in
-    subst (λ (v : TermData). IsSoundTerm t v) whole (sound-from t frq good fits)
+    subst (λ (v : TermData). IsSoundTermData t v) whole (sound-from t frq good fits)
   where
     made : List Posting → TermData → TermData
     made ps v = record { postings = ps; levels = v.levels }

@@ -9,7 +9,7 @@ use Rattle.lu_grammar.proofs.Loops.{read_plan-and_then, then_ok}
 use Rattle.freq_skips.specs.declared.datum.Point.{Point}
 use Rattle.freq_skips.specs.declared.rules.RuledTerm.{RuledTerm}
 use Rattle.freq_skips.specs.Records.{Record}
-use Rattle.freq_skips.specs.Entries.{Posting, Passed, entries, postings_from, AreEntries}
+use Rattle.freq_skips.specs.Entries.{Posting, EntriesSoFar, entries, postings_from, AreEntries}
 use Rattle.freq_skips.specs.Levels.{level_count, levels}
 use Rattle.freq_skips.specs.Terms.{TermData, term_plan}
 use Rattle.freq_skips.proofs.EntryLemmas.{postings_from-is}
@@ -53,7 +53,7 @@ levels_after-read t postings mid v end h = go (and_then-read (levels t postings 
 pub TermParts-read : (t : RuledTerm) (start : Cursor) (v : TermData) (end : Cursor) → read_plan (term_plan t) start ≡ Ok (v, end) → TermParts t start v end
 TermParts-read t start v end h = go (and_then-read (entries t) (λ s. levels_after t s.postings) start v end h)
   where
-    go : ((s : Passed) × (mid : Cursor) × (read_plan (entries t) start ≡ Ok (s, mid)) × (read_plan (levels_after t s.postings) mid ≡ ok_of (v, end))) → TermParts t start v end
+    go : ((s : EntriesSoFar) × (mid : Cursor) × (read_plan (entries t) start ≡ Ok (s, mid)) × (read_plan (levels_after t s.postings) mid ≡ ok_of (v, end))) → TermParts t start v end
     go (s, mid, e, h) =
         let all : AreEntries t start mid = record { passed = s; reads = e } in
         let is = postings_from-is t start mid all in

@@ -24,12 +24,12 @@ use Rattle.freq_skips.proofs.Powers.{power-pos, greatest_power-low}
 use Rattle.lu_grammar.proofs.Codecs.{place_in-after, record_at-kept, all_unbroken, same-of}
 use Rattle.freq_skips.proofs.LevelLemmas.{Follows-none, Follows-again}
 use Rattle.freq_skips.proofs.TermLemmas.{and_then-read, TermParts, TermParts-ReadsTo}
-use Rattle.freq_skips.proofs.EntryLemmas.{Stands-none, Stands-again}
+use Rattle.freq_skips.proofs.EntryLemmas.{IsBehindEntries-none, IsBehindEntries-again}
 
 -- the entries of a good term start at its place
 pub entries-start : (t : RuledTerm) (start end : Cursor) → AreEntries t start end → 0 < t.info.doc_freq → start.place ≡ t.info.freq
 entries-start t start end all some =
-    let again = Stands-again t start end 0 0 start all (Stands-none t start) some in
+    let again = IsBehindEntries-again t start end 0 0 start all (IsBehindEntries-none t start) some in
     let kept = record_at-kept (entry_shape t) (entry_conditions t true 0 start.place) start again.0 again.1 again.2 in
     same-of start.place t.info.freq (all_unbroken (entry_conditions t true 0 start.place again.0) kept).0
 

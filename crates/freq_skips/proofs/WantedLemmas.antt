@@ -8,16 +8,16 @@ use Rattle.freq_skips.specs.declared.rules.RuledTerm.{RuledTerm}
 use Rattle.freq_skips.specs.declared.datum.Point.{Point}
 use Rattle.freq_skips.specs.declared.datum.Wanted.{Wanted}
 use Rattle.freq_skips.specs.declared.following.Following.{Following}
-use Rattle.freq_skips.specs.Entries.{Posting, no_posting, postings_from, AreEntries, Stands}
+use Rattle.freq_skips.specs.Entries.{Posting, no_posting, postings_from, AreEntries, IsBehindEntries}
 use Rattle.freq_skips.specs.Levels.{level_of, stride, child_above, length_at, wanted}
 use Rattle.freq_skips.specs.Walking.{FollowsAbove}
-use Rattle.freq_skips.proofs.EntryLemmas.{Stands-again, posting-is}
+use Rattle.freq_skips.proofs.EntryLemmas.{IsBehindEntries-again, posting-is}
 
 -- where so many entries are passed, the next posting comes after their last document, and starts where they end
-pub posting-at : (t : RuledTerm) (start end : Cursor) (index doc : ℕ) (here : Cursor) → AreEntries t start end → Stands t start index doc here → index < t.info.doc_freq
+pub posting-at : (t : RuledTerm) (start end : Cursor) (index doc : ℕ) (here : Cursor) → AreEntries t start end → IsBehindEntries t start index doc here → index < t.info.doc_freq
     → ((slice_index_or (postings_from t start) index no_posting).before ≡ doc) × ((slice_index_or (postings_from t start) index no_posting).place ≡ here.place)
 posting-at t start end index doc here all h lt =
-    let again = Stands-again t start end index doc here all h lt in
+    let again = IsBehindEntries-again t start end index doc here all h lt in
     let is = posting-is t start end index doc here again.0 again.1 all h lt again.2 in
     (ap (λ (p : Posting). p.before) is, ap (λ (p : Posting). p.place) is)
 

@@ -10,7 +10,7 @@ use Rattle.std.proofs.lemmas.List.{length-append}
 use Rattle.lu_grammar.specs.Parts.{vlong}
 use Rattle.freq_skips.specs.declared.datum.Skip.{Skip}
 use Rattle.freq_skips.specs.declared.writer.Mark.{Mark}
-use Rattle.freq_skips.specs.Written.{no_mark, optional_bytes, skip_between, front_bytes, datum_bytes, with_length}
+use Rattle.freq_skips.specs.Written.{no_mark, optional_bytes, skip_between, bytes_to_child, datum_bytes, with_level_length}
 use Rattle.freq_skips.specs.InnerLevels.{LevelMarks, marked_after, pointed_after, marked_skip, marked_bytes, places_after, AreSmallPlaces, marked_above, marked_count, marked_levels}
 
 pub marked_bytes-none : (r : LevelMarks) → marked_bytes r 0 ≡ []
@@ -21,18 +21,18 @@ pub places_after-none : (r : LevelMarks) → places_after r 0 ≡ []
 unfolding places_after
 places_after-none r = refl
 
-pub marked_bytes-next : (r : LevelMarks) (m : ℕ) (before after : List ℕ) (d : Skip) → before ≡ marked_bytes r m → d ≡ marked_skip r m → after ≡ before ++ front_bytes d ++ optional_bytes vlong d.child → after ≡ marked_bytes r (m + 1)
+pub marked_bytes-next : (r : LevelMarks) (m : ℕ) (before after : List ℕ) (d : Skip) → before ≡ marked_bytes r m → d ≡ marked_skip r m → after ≡ before ++ bytes_to_child d ++ optional_bytes vlong d.child → after ≡ marked_bytes r (m + 1)
 unfolding marked_bytes
 marked_bytes-next r m before after d is same e =
-    e ∙ append_assoc before (front_bytes d) (optional_bytes vlong d.child) ∙ ap (λ (s : Skip). before ++ datum_bytes s) same ∙ ap (λ (b : List ℕ). b ++ datum_bytes (marked_skip r m)) is ∙ ap (marked_bytes r) (sym (add-one m))
+    e ∙ append_assoc before (bytes_to_child d) (optional_bytes vlong d.child) ∙ ap (λ (s : Skip). before ++ datum_bytes s) same ∙ ap (λ (b : List ℕ). b ++ datum_bytes (marked_skip r m)) is ∙ ap (marked_bytes r) (sym (add-one m))
 
 pub places_after-next : (r : LevelMarks) (m : ℕ) (bytes before after : List ℕ) (d : Skip) (place : ℕ) → bytes ≡ marked_bytes r m → before ≡ places_after r m → d ≡ marked_skip r m → (m + 1) % r.interval ≡ 0
-    → place ≡ length (bytes ++ front_bytes d) → after ≡ before ++ place ∷ [] → after ≡ places_after r (m + 1)
+    → place ≡ length (bytes ++ bytes_to_child d) → after ≡ before ++ place ∷ [] → after ≡ places_after r (m + 1)
 unfolding places_after
 places_after-next r m bytes before after d place is pointed same e at f =
     let test : eqb (suc m % r.interval) 0 ≡ true = eq-eqb _ _ (ap (λ (n : ℕ). n % r.interval) (sym (add-one m)) ∙ e) in
-    let here : place ≡ length (marked_bytes r m) + length (front_bytes (marked_skip r m)) =
-    at ∙ length-append bytes (front_bytes d) ∙ ap (λ (b : List ℕ). length b + length (front_bytes d)) is ∙ ap (λ (s : Skip). length (marked_bytes r m) + length (front_bytes s)) same in
+    let here : place ≡ length (marked_bytes r m) + length (bytes_to_child (marked_skip r m)) =
+    at ∙ length-append bytes (bytes_to_child d) ∙ ap (λ (b : List ℕ). length b + length (bytes_to_child d)) is ∙ ap (λ (s : Skip). length (marked_bytes r m) + length (bytes_to_child s)) same in
     let step : after ≡ places_after r (suc m) = rw test (f ∙ ap (λ (b : List ℕ). b ++ place ∷ []) pointed ∙ ap (λ (n : ℕ). places_after r m ++ n ∷ []) here) in
     step ∙ ap (places_after r) (sym (add-one m))
 
@@ -66,7 +66,7 @@ places_after-length r zero pos = sym (zero-div r.interval)
 places_after-length r (suc m) pos = elim (cases_eq ((m + 1) % r.interval) 0) [
   | inl e ↦
       let test : eqb (suc m % r.interval) 0 ≡ true = eq-eqb _ _ (ap (λ (n : ℕ). n % r.interval) (sym (add-one m)) ∙ e) in
-      let place = length (marked_bytes r m) + length (front_bytes (marked_skip r m)) in
+      let place = length (marked_bytes r m) + length (bytes_to_child (marked_skip r m)) in
       rw test (omega (arith, length-append (places_after r m) (place ∷ []), places_after-length r m pos, quotient-next m r.interval pos e))
   | inr ne ↦
       let test : eqb (suc m % r.interval) 0 ≡ false = ne_eqb _ _ (λ e. ne (ap (λ (n : ℕ). n % r.interval) (add-one m) ∙ e)) in
@@ -79,7 +79,7 @@ unfolding marked_levels
 marked_levels-none r zero e = refl
 marked_levels-none r (suc k) e = cc
 
-pub marked_levels-next : (r : LevelMarks) (k n : ℕ) → n ≡ suc k → marked_levels n r ≡ marked_levels k (marked_above r) ++ with_length r.number (marked_bytes r (marked_count r))
+pub marked_levels-next : (r : LevelMarks) (k n : ℕ) → n ≡ suc k → marked_levels n r ≡ marked_levels k (marked_above r) ++ with_level_length r.number (marked_bytes r (marked_count r))
 unfolding marked_levels
 marked_levels-next r k n e = ap (λ (m : ℕ). marked_levels m r) e
 

@@ -10,7 +10,7 @@ use Rattle.lu_grammar.specs.Plans.{done, one, each, times}
 use Rattle.lu_grammar.proofs.Writers.{Writes, Writes-due, Writes-done, Writes-and_then}
 use Rattle.freq_skips.specs.declared.rules.RuledTerm.{RuledTerm}
 use Rattle.freq_skips.specs.Records.{Record, entry, alone, entry_shape, states_frequency}
-use Rattle.freq_skips.specs.Entries.{Posting, Passed, with_posting, posting_of, entry_conditions, entry_kind, gap, frequency, is_low}
+use Rattle.freq_skips.specs.Entries.{Posting, EntriesSoFar, with_posting, posting_of, entry_conditions, entry_kind, gap, frequency, is_low}
 use Rattle.freq_skips.specs.Written.{Handed, optional_bytes, canonical_parts, entry_parts_bytes, entry_bytes, entries_bytes, last_doc, written_postings, AreInOrder}
 
 -- the value stands exactly where the test holds, and is one of the part
@@ -111,7 +111,7 @@ entry-kept t first last place h x c at order below =
     later false o = ne_eqb (gap t x.0) 0 (λ z. absurd (omega (arith, c.leads)))
 
 -- the state after entries
-abbrev pub passed_with : ℕ → List Posting → Passed
+abbrev pub passed_with : ℕ → List Posting → EntriesSoFar
 passed_with doc postings = record { doc = doc; postings = postings }
 
 abbrev handed_posting : RuledTerm → ℕ → ℕ → Handed → Posting
@@ -121,7 +121,7 @@ abbrev made_posting : ℕ → ℕ → ℕ → ℕ → Posting
 made_posting doc freq before place = record { doc = doc; freq = freq; before = before; place = place }
 
 -- one entry is written
-one-written : (t : RuledTerm) (s : Passed) (place : ℕ) (h : Handed) → (((length s.postings == 0) ≡ true) → place ≡ t.info.freq) → s.doc + (if length s.postings == 0 then 0 else 1) ≤ h.doc → h.doc < t.rules.documents → h.doc < 2 ^ 31
+one-written : (t : RuledTerm) (s : EntriesSoFar) (place : ℕ) (h : Handed) → (((length s.postings == 0) ≡ true) → place ≡ t.info.freq) → s.doc + (if length s.postings == 0 then 0 else 1) ≤ h.doc → h.doc < t.rules.documents → h.doc < 2 ^ 31
     → 1 ≤ h.freq → h.freq < 2 ^ 31 → Writes (one (entry_kind t) s) place (entry_bytes t.rules.omit_tf s.doc h) (with_posting s (handed_posting t s.doc place h))
 one-written t s place h at order below small some few =
     let x = canonical_parts t.rules.omit_tf (h.doc - s.doc) h.freq in
@@ -140,7 +140,7 @@ one-written t s place h at order below small some few =
     up_to true o = omega arith
     up_to false o = omega arith
 
-pub Writes-entries : (t : RuledTerm) (hs : List Handed) (s : Passed) (place : ℕ) → AreInOrder t.rules.documents (length s.postings == 0) s.doc hs → (((length s.postings == 0) ≡ true) → place ≡ t.info.freq)
+pub Writes-entries : (t : RuledTerm) (hs : List Handed) (s : EntriesSoFar) (place : ℕ) → AreInOrder t.rules.documents (length s.postings == 0) s.doc hs → (((length s.postings == 0) ≡ true) → place ≡ t.info.freq)
     → Writes (times (entry_kind t) (length hs) s) place (entries_bytes t.rules.omit_tf s.doc hs) (passed_with (last_doc s.doc hs) (s.postings ++ written_postings t.rules.omit_tf place s.doc hs))
 unfolding each
 Writes-entries t [] s place order at = subst (λ (ps : List Posting). Writes {R = Record} (done s) place [] (passed_with s.doc ps)) (sym (append-nil s.postings)) (Writes-done place s)

@@ -14,7 +14,7 @@ use Rattle.freq_skips.specs.declared.writer.Mark.{Mark}
 use Rattle.freq_skips.specs.Records.{datum, alone, states_payload, datum_shape, length_to_child, datum_length, optional_length}
 use Rattle.freq_skips.specs.Entries.{Posting}
 use Rattle.freq_skips.specs.Levels.{Along, no_datum, no_point, Level, level_of, level_start, wanted, child_above, length_at, is_first_datum, differs, skipped, number_or, datum_conditions, point_of, with_point, datum_kind, posting_at}
-use Rattle.freq_skips.specs.Written.{optional_bytes, front_bytes, datum_bytes, SkipLevel, mark_after, child_after, written_skip, data_bytes, data_with, data_number}
+use Rattle.freq_skips.specs.Written.{optional_bytes, bytes_to_child, datum_bytes, SkipLevel, mark_after, child_after, written_skip, data_bytes, data_with, data_number}
 use Rattle.freq_skips.proofs.LevelLemmas.{level_start-push}
 use Rattle.freq_skips.proofs.WrittenEntries.{Stated, Spells-optional, not-same, and-false, even, half-even}
 
@@ -28,8 +28,8 @@ unfolding data_with
 data_bytes-more r m = refl
 
 -- how many bytes a datum takes
-pub front_bytes-length : (d : Skip) → length (front_bytes d) ≡ length_to_child d
-front_bytes-length d =
+pub bytes_to_child-length : (d : Skip) → length (bytes_to_child d) ≡ length_to_child d
+bytes_to_child-length d =
     omega (
       arith,
       length-append (spelling vint d.doc ++ optional_bytes num d.payload ++ spelling num d.freq) (spelling num d.prox),
@@ -43,7 +43,7 @@ front_bytes-length d =
     optional-length p (Some v) = refl
 
 pub datum_bytes-length : (d : Skip) → length (datum_bytes d) ≡ datum_length d
-datum_bytes-length d = omega (arith, length-append (front_bytes d) (optional_bytes vlong d.child), front_bytes-length d, optional-length d.child)
+datum_bytes-length d = omega (arith, length-append (bytes_to_child d) (optional_bytes vlong d.child), bytes_to_child-length d, optional-length d.child)
   where
     optional-length : (o : Option ℕ) → length (optional_bytes vlong o) ≡ optional_length vlong o
     optional-length None = refl
@@ -98,7 +98,7 @@ pub record Rises (t : RuledTerm) (ps : List Posting) (r : SkipLevel) (above : Li
   pub freq : (m : ℕ) → m < data_number r → (mark_after r (suc m)).freq ≡ (posting_at t r.number ps (suc m)).place - t.info.freq
   pub omit : (m : ℕ) → m < data_number r → t.rules.omit_tf ≡ true → (mark_after r (suc m)).prox ≡ 0
   pub small : (m : ℕ) → m < data_number r → ((mark_after r (suc m)).doc < 2 ^ 31) × ((mark_after r (suc m)).freq < 2 ^ 31) × ((mark_after r (suc m)).prox < 2 ^ 31)
-  pub child : (m : ℕ) → m < data_number r → differs (child_above t above (suc m)) (length (data_bytes r m) + length (front_bytes (written_skip r m))) ≡ false
+  pub child : (m : ℕ) → m < data_number r → differs (child_above t above (suc m)) (length (data_bytes r m) + length (bytes_to_child (written_skip r m))) ≡ false
   pub size : (m : ℕ) → m < data_number r → differs (length_at t (level_of r.number stated above) (suc m)) (length (data_bytes r (suc m))) ≡ false
   pub first : is_first_datum (level_of r.number stated above) 1 ≡ true → base ≡ t.info.freq + t.info.skip
   pub child_small : (m : ℕ) → m < data_number r → Stated vlong (nat_lt 0 r.number) (child_after r m)
@@ -174,7 +174,7 @@ datum-kept t ps r above stated base m h lt =
     (not-same _ w.doc (omega (arith, last.0, skip, up.0, h.doc m lt)))
     (not-same _ w.freq (omega (arith, last.1, up.1, h.freq m lt)))
     (and-false t.rules.omit_tf (not (d.prox == 0)) (λ e. not-same d.prox 0 (omega (arith, h.omit m lt e))))
-    (ap (λ (n : ℕ). differs w.child n) (omega (arith, front_bytes-length d)) ∙ h.child m lt)
+    (ap (λ (n : ℕ). differs w.child n) (omega (arith, bytes_to_child-length d)) ∙ h.child m lt)
     (ap (λ (n : ℕ). differs w.size n) (omega (arith, datum_bytes-length d, data_bytes-size r m)) ∙ h.size m lt)
 
 -- the numbers of a datum that is written can be told

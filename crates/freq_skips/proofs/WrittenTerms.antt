@@ -16,7 +16,7 @@ use Rattle.freq_skips.specs.declared.datum.Point.{Point}
 use Rattle.freq_skips.specs.Records.{level_length, length_of, length_shape}
 use Rattle.freq_skips.specs.Entries.{Posting}
 use Rattle.freq_skips.specs.Levels.{Along, no_datum, no_point, level_of, number_or, posting_at, child_above, length_at, differs, length_conditions, datum_kind, data_count, level_data, level_plan, levels}
-use Rattle.freq_skips.specs.Written.{SkipLevel, mark_after, front_bytes, child_after, child_pointer, written_skip, data_bytes, data_number, level_above, with_length, skip_bytes, place_with}
+use Rattle.freq_skips.specs.Written.{SkipLevel, mark_after, bytes_to_child, child_after, child_pointer, written_skip, data_bytes, data_number, level_above, with_level_length, skip_bytes, place_with}
 use Rattle.freq_skips.proofs.Powers.{quotient-next, quotient-below, multiple-index}
 use Rattle.freq_skips.proofs.LevelsLemmas.{levels-next}
 use Rattle.freq_skips.proofs.WrittenEntries.{Stated, not-same, and-false}
@@ -28,7 +28,7 @@ unfolding skip_bytes
 skip_bytes-none r zero e = refl
 skip_bytes-none r (suc k) e = cc
 
-pub skip_bytes-next : (r : SkipLevel) (k n : ℕ) → n ≡ suc k → skip_bytes n r ≡ skip_bytes k (level_above r) ++ with_length r.number (data_bytes r (data_number r))
+pub skip_bytes-next : (r : SkipLevel) (k n : ℕ) → n ≡ suc k → skip_bytes n r ≡ skip_bytes k (level_above r) ++ with_level_length r.number (data_bytes r (data_number r))
 unfolding skip_bytes
 skip_bytes-next r k n e = ap (λ (m : ℕ). skip_bytes m r) e
 
@@ -42,23 +42,23 @@ base_for zero place bytes = place
 base_for (suc n) place bytes = place + length (spelling vlong (length bytes))
 
 -- a level is written
-Writes-with_length : (t : RuledTerm) (ps : List Posting) (n : ℕ) (above : List (List Point)) (place : ℕ) (bytes : List ℕ) (s : Along) → length bytes < 2 ^ 63 → (((length above == 0) ≡ true) → place ≡ t.info.freq + t.info.skip)
-    → Writes (level_data t ps (level_of n (stated_for n bytes) above)) (base_for n place bytes) bytes s → Writes (level_plan t ps n above) place (with_length n bytes) s
-Writes-with_length t ps zero above place bytes s small at w = w
-Writes-with_length t ps (suc n) above place bytes s small at w =
+Writes-with_level_length : (t : RuledTerm) (ps : List Posting) (n : ℕ) (above : List (List Point)) (place : ℕ) (bytes : List ℕ) (s : Along) → length bytes < 2 ^ 63 → (((length above == 0) ≡ true) → place ≡ t.info.freq + t.info.skip)
+    → Writes (level_data t ps (level_of n (stated_for n bytes) above)) (base_for n place bytes) bytes s → Writes (level_plan t ps n above) place (with_level_length n bytes) s
+Writes-with_level_length t ps zero above place bytes s small at w = w
+Writes-with_level_length t ps (suc n) above place bytes s small at w =
     Writes-due length_shape (length_conditions t (level_of (suc n) None above)) (λ p r. level_data t ps (level_of (suc n) (Some (length_of r)) above)) place (level_length (length bytes)) (spelling vlong (length bytes)) bytes s
     (length bytes, [], small, sym (append-nil (spelling vlong (length bytes))), (refl, refl))
     (let test : (length above == 0 && not (place == t.info.freq + t.info.skip)) ≡ false = and-false (length above == 0) (not (place == t.info.freq + t.info.skip)) (λ e. not-same place _ (at e)) in rw test refl) w
 
 pub Writes-level : (t : RuledTerm) (ps : List Posting) (r : SkipLevel) (above : List (List Point)) (place : ℕ) → data_number r ≡ data_count t r.number → length (data_bytes r (data_number r)) < 2 ^ 63 → (((length above == 0) ≡ true) → place ≡ t.info.freq + t.info.skip)
     → Rises t ps r above (stated_for r.number (data_bytes r (data_number r))) (base_for r.number place (data_bytes r (data_number r)))
-    → Writes (level_plan t ps r.number above) place (with_length r.number (data_bytes r (data_number r))) (written_along r (base_for r.number place (data_bytes r (data_number r))) (data_number r))
+    → Writes (level_plan t ps r.number above) place (with_level_length r.number (data_bytes r (data_number r))) (written_along r (base_for r.number place (data_bytes r (data_number r))) (data_number r))
 Writes-level t ps r above place few small at h =
     let bytes = data_bytes r (data_number r) in
     let base = base_for r.number place bytes in
     let l = level_of r.number (stated_for r.number bytes) above in
     let s = written_along r base (data_number r) in
-    Writes-with_length t ps r.number above place bytes s small at
+    Writes-with_level_length t ps r.number above place bytes s small at
     (subst (λ (n : ℕ). Writes (times (datum_kind t ps l) n no_datum) base bytes s) few (Writes-data t ps r above (stated_for r.number bytes) base (data_number r) h (omega arith)))
 
 -- ---- child pointers
@@ -98,14 +98,14 @@ found_points zero r place = []
 found_points (suc k) r place = written_points r (base_for r.number (place + length (skip_bytes k (level_above r))) (data_bytes r (data_number r))) (data_number r) ∷ found_points k (level_above r) place
 
 -- the child pointers of the level above
-child-is : (r : SkipLevel) (m : ℕ) → 2 ≤ r.interval → (m + 1) % r.interval ≡ 0 → number_or 0 (child_after (level_above r) (m / r.interval)) ≡ length (data_bytes r m) + length (front_bytes (written_skip r m))
+child-is : (r : SkipLevel) (m : ℕ) → 2 ≤ r.interval → (m + 1) % r.interval ≡ 0 → number_or 0 (child_after (level_above r) (m / r.interval)) ≡ length (data_bytes r m) + length (bytes_to_child (written_skip r m))
 unfolding child_pointer
 child-is r m two e =
     let index : suc (m / r.interval) * r.interval - 1 ≡ m = multiple-index m r.interval (m / r.interval) (omega arith) e refl ∙ (omega arith) in
     ap (λ (k : ℕ). place_with r (child_after r) k) index
 
 child-found : (t : RuledTerm) (ps : List Posting) (k : ℕ) (r : SkipLevel) (place m : ℕ) → 2 ≤ t.rules.skip_interval → Leads t ps r → data_number (level_above r) ≡ data_number r / t.rules.skip_interval → m < data_number r
-    → differs (child_above t (found_points k (level_above r) place) (suc m)) (length (data_bytes r m) + length (front_bytes (written_skip r m))) ≡ false
+    → differs (child_above t (found_points k (level_above r) place) (suc m)) (length (data_bytes r m) + length (bytes_to_child (written_skip r m))) ≡ false
 child-found t ps zero r place m two h many lt = refl
 child-found t ps (suc k) r place m two h many lt =
     let s = t.rules.skip_interval in
@@ -120,7 +120,7 @@ child-found t ps (suc k) r place m two h many lt =
           let own : (m + 1) % r.interval ≡ 0 = ap (λ (n : ℕ). (m + 1) % n) h.interval ∙ e in
           let within : m / s < data_number up = subst (λ (n : ℕ). m / s < n) (sym many) (quotient-below m s (data_number r) (omega arith) e lt) in
           let here = child-is r m (subst (λ (n : ℕ). 2 ≤ n) (sym h.interval) two) own in
-          let is : (slice_index_or points (suc m / s - 1) no_point).child ≡ length (data_bytes r m) + length (front_bytes (written_skip r m)) =
+          let is : (slice_index_or points (suc m / s - 1) no_point).child ≡ length (data_bytes r m) + length (bytes_to_child (written_skip r m)) =
           ap (λ (n : ℕ). (slice_index_or points n no_point).child) index ∙ ap (λ (p : Point). p.child) (written_points-at up base (data_number up) (m / s) within)
           ∙ ap (λ (n : ℕ). number_or 0 (child_after up (m / n))) (sym h.interval) ∙ here in
           rw test (not-same _ _ is)
@@ -187,7 +187,7 @@ levels-written t ps zero r place rest two start all =
 levels-written t ps (suc k) r place rest two start all =
     let up = skip_bytes k (level_above r) in
     let bytes = data_bytes r (data_number r) in
-    let own = with_length r.number bytes in
+    let own = with_level_length r.number bytes in
     let above = found_points k (level_above r) place in
     let here = place + length up in
     let base = base_for r.number here bytes in

@@ -20,12 +20,12 @@ abbrev pub no_posting : Posting
 no_posting = record { doc = 0; freq = 0; before = 0; place = 0 }
 
 -- what the entries so far stand for: the document of the last (0 where there is none), and the postings
-pub record Passed : Type 0 where
+pub record EntriesSoFar : Type 0 where
   pub doc : ℕ
   pub postings : List Posting
 
 -- before the first entry
-abbrev pub no_entry : Passed
+abbrev pub no_entry : EntriesSoFar
 no_entry = record { doc = 0; postings = [] }
 
 -- how far the document is above the one before
@@ -56,11 +56,11 @@ entry_conditions t first last place r =
     ∷ []
 
 -- the entries so far with one more
-abbrev pub with_posting : Passed → Posting → Passed
+abbrev pub with_posting : EntriesSoFar → Posting → EntriesSoFar
 with_posting s p = record { doc = p.doc; postings = s.postings ++ p ∷ [] }
 
 -- the entries of a term, which differ by what those before stand for
-abbrev pub entry_kind : RuledTerm → Kind Passed Record
+abbrev pub entry_kind : RuledTerm → Kind EntriesSoFar Record
 entry_kind t = record {
   shape = λ s. entry_shape t;
   conditions = λ s place r. entry_conditions t (length s.postings == 0) s.doc place r;
@@ -68,11 +68,11 @@ entry_kind t = record {
 }
 
 -- so many entries, one for each document of the term
-abbrev pub entries : RuledTerm → Plan Passed Record
+abbrev pub entries : RuledTerm → Plan EntriesSoFar Record
 entries t = times (entry_kind t) t.info.doc_freq no_entry
 
 -- what reading the entries answered, where they are good
-abbrev pub read_postings : Result (Passed × Cursor) Broken → List Posting
+abbrev pub read_postings : Result (EntriesSoFar × Cursor) Broken → List Posting
 read_postings (Ok x) = x.0.postings
 read_postings (Err b) = []
 
@@ -82,7 +82,7 @@ postings_from t start = read_postings (read_plan (entries t) start)
 
 -- the entries of the term that start here are good, and end there
 pub record AreEntries (t : RuledTerm) (start end : Cursor) : Type 0 where
-  pub passed : Passed
+  pub passed : EntriesSoFar
   pub reads : read_plan (entries t) start ≡ Ok (passed, end)
 
 -- the entries of the term that start here are good
@@ -90,15 +90,15 @@ abbrev pub AreGoodFrom : RuledTerm → Cursor → Type 0
 AreGoodFrom t start = (end : Cursor) × AreEntries t start end
 
 -- from this start on so many entries are good; the last has this document, and the cursor is behind them
-pub record Stands (t : RuledTerm) (start : Cursor) (index doc : ℕ) (here : Cursor) : Type 0 where
-  pub passed : Passed
+pub record IsBehindEntries (t : RuledTerm) (start : Cursor) (index doc : ℕ) (here : Cursor) : Type 0 where
+  pub passed : EntriesSoFar
   pub reads : read_plan (times (entry_kind t) index no_entry) start ≡ Ok (passed, here)
   pub last : passed.doc ≡ doc
   pub count : length passed.postings ≡ index
 
 -- the entry that stands next is the posting with this number
 pub record IsNext (t : RuledTerm) (start : Cursor) (index : ℕ) (p : Posting) (next : Cursor) : Type 0 where
-  pub stands : Stands t start (index + 1) p.doc next
+  pub stands : IsBehindEntries t start (index + 1) p.doc next
   pub posting : (end : Cursor) → AreEntries t start end → slice_index_or (postings_from t start) index no_posting ≡ p
 
 -- the document of a posting, and how often the term stands in it

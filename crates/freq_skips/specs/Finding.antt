@@ -52,7 +52,7 @@ last_of points zero = no_point
 last_of points (suc m) = slice_index_or points m no_point
 
 -- so many data of a level are passed, and the last leads there; above the highest level none is
-pub record IsPassed (t : RuledTerm) (frq : List ℕ) (level count : ℕ) (last : Point) : Type 0 where
+pub record HasPassedData (t : RuledTerm) (frq : List ℕ) (level count : ℕ) (last : Point) : Type 0 where
   pub within : count ≤ data_count t level
   pub level_within : (count ≡ 0) ⊎ (level < level_count t)
   pub like : IsLike last (last_of (points_in t frq level) count)
@@ -65,7 +65,7 @@ pub record StandsOn (t : RuledTerm) (frq : List ℕ) (level : ℕ) (f : Followin
   pub last : Point
   pub follows : Follows t (postings_from t (start_in t frq)) (level_of level stands.stated stands.above) (place_in frq begin) f.count last f.cur
   pub like : IsLike f.last last
-  pub passed : IsPassed t frq level f.count f.last
+  pub passed : HasPassedData t frq level f.count f.last
 
 -- the data from these on, up to those, lead to documents below the target; and those are all that are searched, or the next does not
 pub record StopsAt (points : List Point) (target old new most : ℕ) : Type 0 where

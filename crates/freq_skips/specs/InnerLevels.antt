@@ -3,7 +3,7 @@ use Rattle.std.specs.Prelude.{◌≡◌, ◌<◌, ◌^◌, ℕ, zero, suc, ◌+�
 use Rattle.freq_skips.specs.declared.datum.Skip.{Skip}
 use Rattle.freq_skips.specs.declared.writer.Mark.{Mark}
 use Rattle.freq_skips.specs.declared.writer.LevelInput.{LevelInput}
-use Rattle.freq_skips.specs.Written.{Handed, no_mark, mark_of, skip_between, front_bytes, datum_bytes, with_length}
+use Rattle.freq_skips.specs.Written.{Handed, no_mark, mark_of, skip_between, bytes_to_child, datum_bytes, with_level_length}
 
 -- a level as it is written: the marks of the lowest level, of which it has one in so many, and the child pointers of its data
 pub record LevelMarks : Type 0 where
@@ -34,7 +34,7 @@ marked_bytes r (suc m) = marked_bytes r m ++ datum_bytes (marked_skip r m)
 -- the places in the level, just after the ProxSkip, of every so manieth of them: the child pointers of the level above
 unfoldable pub places_after : LevelMarks → ℕ → List ℕ
 places_after r zero = []
-places_after r (suc m) = if suc m % r.interval == 0 then places_after r m ++ (length (marked_bytes r m) + length (front_bytes (marked_skip r m))) ∷ [] else places_after r m
+places_after r (suc m) = if suc m % r.interval == 0 then places_after r m ++ (length (marked_bytes r m) + length (bytes_to_child (marked_skip r m))) ∷ [] else places_after r m
 
 -- how many data a level has
 abbrev pub marked_count : LevelMarks → ℕ
@@ -47,7 +47,7 @@ marked_above r = record { payloads = r.payloads; marks = r.marks; interval = r.i
 -- so many levels from this one on, the highest first
 unfoldable pub marked_levels : ℕ → LevelMarks → List ℕ
 marked_levels zero r = []
-marked_levels (suc k) r = marked_levels k (marked_above r) ++ with_length r.number (marked_bytes r (marked_count r))
+marked_levels (suc k) r = marked_levels k (marked_above r) ++ with_level_length r.number (marked_bytes r (marked_count r))
 
 -- the lowest level
 abbrev pub lowest_marks : Bool → List Mark → ℕ → LevelMarks
@@ -71,5 +71,5 @@ pub record HasMarks (omit : Bool) (interval : ℕ) (entries : List Handed) (mark
   pub are : (j : ℕ) → j < length marks → slice_index_or marks j no_mark ≡ mark_of omit entries (suc j * interval - 1)
 
 -- the marks that a level is made of, as the code has them
-abbrev pub marks_of : LevelInput → LevelMarks
-marks_of l = level_marks l.payloads l.marks.now l.interval l.number l.step l.children.now
+abbrev pub marks_of_input : LevelInput → LevelMarks
+marks_of_input l = level_marks l.payloads l.marks.now l.interval l.number l.step l.children.now

@@ -154,7 +154,7 @@ levels t postings zero above = done above
 levels t postings (suc n) above = and_then (level_plan t postings n above) (λ s. levels t postings n (s.points ∷ above))
 
 -- the sums of so many data are below so many times 2^32
-pub record IsSmall (count : ℕ) (p : Point) : Type 0 where
+pub record AreSmallSums (count : ℕ) (p : Point) : Type 0 where
   pub doc : p.doc ≤ count * 2 ^ 32
   pub freq : p.freq ≤ count * 2 ^ 32
   pub prox : p.prox ≤ count * 2 ^ 32
@@ -174,7 +174,7 @@ pub record AreData (t : RuledTerm) (postings : List Posting) (l : Level) (start 
   pub points_are : along.points ≡ points
 
 -- what reading a datum again shows, where all of its level are good
-pub record Passes (t : RuledTerm) (postings : List Posting) (l : Level) (start : Cursor) (points : List Point) (count : ℕ) (p : Point) (next : Cursor) : Type 0 where
+pub record IsNextDatum (t : RuledTerm) (postings : List Posting) (l : Level) (start : Cursor) (points : List Point) (count : ℕ) (p : Point) (next : Cursor) : Type 0 where
   pub follows : Follows t postings l start (count + 1) p next
   pub doc : p.doc ≡ (wanted t postings l (suc count)).doc
   pub freq : p.freq ≡ (wanted t postings l (suc count)).freq

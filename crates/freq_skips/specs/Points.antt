@@ -86,8 +86,3 @@ highest_count t = if level_count t == 0 then 0 else data_count t (level_count t 
 -- the most steps that a search takes: the data of the highest level, and as many as the interval for each level
 abbrev pub most_steps : RuledTerm → ℕ
 most_steps t = highest_count t + t.rules.skip_interval * level_count t
-
--- a count after so many steps more; the greatest count that can be shown stays
-abbrev pub ticked : ℕ → ℕ → ℕ
-ticked zero count = count
-ticked (suc n) count = ticked n (min (count + 1) 18446744073709551615)

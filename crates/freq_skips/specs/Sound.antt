@@ -8,7 +8,7 @@ use Rattle.freq_skips.specs.Walks.{point_at}
 
 -- the entries are as many as the dictionary says; their documents rise, and are below the number of documents; the term stands in each at least once; each entry tells the document before it, 0 for the
 -- first; and each datum leads to the document before the entry that it belongs to, and to the place where that entry starts
-pub record IsSoundTerm (t : RuledTerm) (v : TermData) : Type 0 where
+pub record IsSoundTermData (t : RuledTerm) (v : TermData) : Type 0 where
   pub count : length v.postings ≡ t.info.doc_freq
   pub rise : (i j : ℕ) → i < j → j < t.info.doc_freq → (slice_index_or v.postings i no_posting).doc < (slice_index_or v.postings j no_posting).doc
   pub below : (i : ℕ) → i < t.info.doc_freq → (slice_index_or v.postings i no_posting).doc < t.rules.documents

@@ -6,7 +6,7 @@ use Rattle.freq_skips.specs.declared.rules.RuledTerm.{RuledTerm}
 use Rattle.freq_skips.specs.declared.datum.Point.{Point}
 use Rattle.freq_skips.specs.declared.following.Following.{Following}
 use Rattle.freq_skips.specs.Entries.{Posting}
-use Rattle.freq_skips.specs.Levels.{Along, level_of, level_plan, level_count, levels, Follows, AreData, IsSmall}
+use Rattle.freq_skips.specs.Levels.{Along, level_of, level_plan, level_count, levels, Follows, AreData, AreSmallSums}
 
 -- a walk along a level whose data are good has passed one for every so many data of the level below
 pub record FollowsPoints (t : RuledTerm) (postings : List Posting) (level : ℕ) (points : List Point) (rest : List (List Point)) (passed : ℕ) (f : Following) : Type 0 where
@@ -25,9 +25,9 @@ FollowsAbove t postings level (points ∷ rest) passed None = ⊥
 FollowsAbove t postings level (points ∷ rest) passed (Some f) = FollowsPoints t postings level points rest passed f
 
 -- its sums are small
-abbrev pub IsSmallAbove : ℕ → Option Following → Type 0
-IsSmallAbove passed None = Unit {0}
-IsSmallAbove passed (Some f) = IsSmall f.count f.last × (f.count ≤ passed)
+abbrev pub AreSmallSumsAbove : ℕ → Option Following → Type 0
+AreSmallSumsAbove passed None = Unit {0}
+AreSmallSumsAbove passed (Some f) = AreSmallSums f.count f.last × (f.count ≤ passed)
 
 -- the data of the level above start here and are good, where there is one
 pub record StandPoints (t : RuledTerm) (postings : List Posting) (level : ℕ) (points : List Point) (rest : List (List Point)) (frq : List ℕ) (place : ℕ) : Type 0 where

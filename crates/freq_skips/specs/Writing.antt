@@ -22,12 +22,12 @@ abbrev pub bytes_so_far : FrqWriting → List ℕ
 bytes_so_far w = w.bytes ++ entries_bytes w.omit 0 w.entries
 
 -- a term is begun
-abbrev pub begun : FrqWriting → Bool → Bool → FrqWriting
-begun w omit payloads = record { interval = w.interval; most = w.most; bytes = w.bytes; omit = omit; payloads = payloads; entries = [] }
+abbrev pub entries_begun : FrqWriting → Bool → Bool → FrqWriting
+entries_begun w omit payloads = record { interval = w.interval; most = w.most; bytes = w.bytes; omit = omit; payloads = payloads; entries = [] }
 
 -- an entry is added
-abbrev pub added : FrqWriting → Handed → FrqWriting
-added w h = record { interval = w.interval; most = w.most; bytes = w.bytes; omit = w.omit; payloads = w.payloads; entries = w.entries ++ h ∷ [] }
+abbrev pub entry_added : FrqWriting → Handed → FrqWriting
+entry_added w h = record { interval = w.interval; most = w.most; bytes = w.bytes; omit = w.omit; payloads = w.payloads; entries = w.entries ++ h ∷ [] }
 
 -- how many skip levels the term has
 abbrev pub levels_due : FrqWriting → ℕ

@@ -60,12 +60,12 @@ skip_between payloads from to child = record {
 }
 
 -- its bytes up to the child pointer, and all of them
-abbrev pub front_bytes : Skip → List ℕ
-front_bytes d = spelling vint d.doc ++ optional_bytes num d.payload ++ spelling num d.freq ++ spelling num d.prox
+abbrev pub bytes_to_child : Skip → List ℕ
+bytes_to_child d = spelling vint d.doc ++ optional_bytes num d.payload ++ spelling num d.freq ++ spelling num d.prox
 
 -- all bytes of a datum
 abbrev pub datum_bytes : Skip → List ℕ
-datum_bytes d = front_bytes d ++ optional_bytes vlong d.child
+datum_bytes d = bytes_to_child d ++ optional_bytes vlong d.child
 
 -- a skip level as it is written: what its field leaves out and may have, the interval, the entries of the term, and its number, from 0
 pub record SkipLevel : Type 0 where
@@ -95,7 +95,7 @@ data_with l child (suc m) = data_with l child m ++ datum_bytes (skip_with l chil
 
 -- the place in the level just after the ProxSkip of the datum that follows so many
 abbrev pub place_with : SkipLevel → (ℕ → Option ℕ) → ℕ → ℕ
-place_with l child m = length (data_with l child m) + length (front_bytes (skip_with l child m))
+place_with l child m = length (data_with l child m) + length (bytes_to_child (skip_with l child m))
 
 -- the child pointers of a level: the lowest has none, and another leads just after the ProxSkip of every so manieth datum of the level below
 unfoldable pub child_pointer : Bool → Bool → ℕ → List Handed → ℕ → ℕ → Option ℕ
@@ -119,9 +119,9 @@ abbrev pub data_number : SkipLevel → ℕ
 data_number l = length l.entries / l.interval ^ suc l.number
 
 -- a level above the lowest is its length and then its data
-abbrev pub with_length : ℕ → List ℕ → List ℕ
-with_length zero bytes = bytes
-with_length (suc n) bytes = spelling vlong (length bytes) ++ bytes
+abbrev pub with_level_length : ℕ → List ℕ → List ℕ
+with_level_length zero bytes = bytes
+with_level_length (suc n) bytes = spelling vlong (length bytes) ++ bytes
 
 -- the level above
 abbrev pub level_above : SkipLevel → SkipLevel
@@ -130,7 +130,7 @@ level_above l = skip_level l.omit l.payloads l.interval l.entries (suc l.number)
 -- so many levels from this one on, the highest first
 unfoldable pub skip_bytes : ℕ → SkipLevel → List ℕ
 skip_bytes zero l = []
-skip_bytes (suc k) l = skip_bytes k (level_above l) ++ with_length l.number (data_bytes l (data_number l))
+skip_bytes (suc k) l = skip_bytes k (level_above l) ++ with_level_length l.number (data_bytes l (data_number l))
 
 -- the postings of entries that start at a place, after a document
 abbrev pub written_postings : Bool → ℕ → ℕ → List Handed → List Posting

@@ -6,7 +6,7 @@ ghost use Rattle.lu_types.specs.declared.kind.FileKind.TheVariants.{Frq};
 ghost use Rattle.freq_skips.specs.Terms.{TermData, IsGoodTerm, IsTermFault, term_of, term_plan};
 
 use crate::levels::check_levels;
-use crate::passing::check_entries;
+use crate::passing::{CheckedEntries, check_entries};
 use crate::rules::RuledTerm;
 use lu_prims::Cur;
 use lu_types::{Spot, TermInfo, TermRules};
@@ -29,6 +29,13 @@ pub fn check_term(frq: &[u8], at: usize, info: &TermInfo, rules: &TermRules) -> 
     };
     match check_entries(Cur::at(frq, at), &term) {
         Err(spot) => Err(spot),
-        Ok(passing) => check_levels(frq, passing.cur.place(), at, &term),
+        Ok(passing) => {
+            let entries = CheckedEntries {
+                frq,
+                term,
+                start: at,
+            };
+            check_levels(&entries, passing.cur.place())
+        }
     }
 }

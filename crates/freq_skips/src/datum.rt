@@ -50,6 +50,23 @@ pub struct Wanted {
     pub size: Option<u64>,
 }
 
+/// A level of a term: its number, from 0, and the place where its data start.
+#[derive(Clone, Copy, Debug, PartialEq, Eq)]
+pub struct LevelStart {
+    pub number: u32,
+    pub place: usize,
+}
+
+/// The places of a datum: where the data of its level start, where it stands itself, where its child pointer does, and where it
+/// ends.
+#[derive(Clone, Copy, Debug, PartialEq, Eq)]
+struct DatumPlaces {
+    level: usize,
+    start: usize,
+    child: usize,
+    end: usize,
+}
+
 /// A VLong that stands where the test holds.
 fn optional_vlong(cur: &mut Cur<'_>, test: bool) -> Result<Option<u64>, Bad>
     ensures gives { GivesPart test vlong cur.old cur.new result }
@@ -132,26 +149,22 @@ fn skips_positions(term: &RuledTerm, prox: u32) -> bool
     term.rules.omit_tf && prox != 0
 }
 
-/// The first rule that a datum breaks, of which this is wanted, in a level that starts there, after a point; it stands at a
-/// place, and its child pointer and its end at others.
+/// The first rule that a datum with these places breaks, of which this is wanted, after a point.
 fn datum_broken(
     term: &RuledTerm,
     wanted: &Wanted,
-    start: usize,
     last: &Point,
-    place: usize,
     skip: &Skip,
-    child: usize,
-    end: usize,
+    places: &DatumPlaces,
 ) -> Option<u16>
-    requires child_after { child ≡ place + length_to_child skip.now }
-    requires end_after { end ≡ place + datum_length skip.now }
-    requires start_before { start ≤ place }
+    requires child_after { places.now.child ≡ places.now.start + length_to_child skip.now }
+    requires end_after { places.now.end ≡ places.now.start + datum_length skip.now }
+    requires level_before { places.now.level ≤ places.now.start }
     requires doc_small { last.now.doc < 2 ^ 63 }
     requires freq_small { last.now.freq < 2 ^ 63 }
-    ensures { result ≡ first_broken (datum_conditions term.now wanted.now start last.now place (datum skip.now)) }
+    ensures { result ≡ first_broken (datum_conditions term.now wanted.now places.now.level last.now places.now.start (datum skip.now)) }
 {
-    if skips_start_elsewhere(term, wanted.first, place) {
+    if skips_start_elsewhere(term, wanted.first, places.start) {
         return Some(SKIP_START);
     }
     if last.doc + u64::from(skipped(term, skip.doc)) != u64::from(wanted.doc) {
@@ -163,10 +176,10 @@ fn datum_broken(
     if skips_positions(term, skip.prox) {
         return Some(SKIP_OMIT);
     }
-    if differs(wanted.child, child - start) {
+    if differs(wanted.child, places.child - places.level) {
         return Some(SKIP_CHILD);
     }
-    if differs(wanted.size, end - start) {
+    if differs(wanted.size, places.end - places.level) {
         return Some(SKIP_LENGTH);
     }
     None
@@ -212,34 +225,38 @@ fn point_after(term: &RuledTerm, last: &Point, place: usize, skip: &Skip) -> Poi
     }
 }
 
-/// The datum that stands here, of which this is wanted, in a level that starts there, after a point; or the first rule that
-/// it breaks.
+/// The datum that stands here, of which this is wanted, in a level, after a point; or the first rule that it breaks.
 pub fn next_datum(
     cur: &mut Cur<'_>,
     term: &RuledTerm,
-    level: u32,
+    level: &LevelStart,
     wanted: &Wanted,
-    start: usize,
     last: &Point,
 ) -> Result<Point, u16>
     requires bytes { IsBytes cur.old.rest }
-    requires start_before { start ≤ cur.old.place }
+    requires level_before { level.now.place ≤ cur.old.place }
     requires doc_small { last.now.doc < 2 ^ 63 }
     requires freq_small { last.now.freq < 2 ^ 63 }
     requires prox_small { last.now.prox < 2 ^ 63 }
     ensures read { MatchResult result
-        (λ point. (r : Record) × (record_at (datum_shape term.now level) (datum_conditions term.now wanted.now start last.now cur.old.place) cur.old ≡ Ok (r, cur.new))
+        (λ point. (r : Record) × (record_at (datum_shape term.now level.now.number) (datum_conditions term.now wanted.now level.now.place last.now cur.old.place) cur.old ≡ Ok (r, cur.new))
         × (point_of term.now last.now cur.old.place r ≡ point))
-        (λ rule. record_at (datum_shape term.now level) (datum_conditions term.now wanted.now start last.now cur.old.place) cur.old ≡ Err rule) }
+        (λ rule. record_at (datum_shape term.now level.now.number) (datum_conditions term.now wanted.now level.now.place last.now cur.old.place) cur.old ≡ Err rule) }
     ensures bytes { IfOk result (λ point. IsBytes cur.new.rest × (cur.old.place ≤ cur.new.place)) }
     ensures point { IfOk result (λ point. (point.place ≡ cur.old.place) × (point.doc ≤ last.now.doc + 2 ^ 32) × (point.freq ≤ last.now.freq + 2 ^ 32) × (point.prox ≤ last.now.prox + 2 ^ 32)) }
 {
     let place = cur.place();
-    let (skip, child) = match datum_parts(cur, term, level) {
+    let (skip, child) = match datum_parts(cur, term, level.number) {
         Err(bad) => return Err(rule_of(bad)),
         Ok(parts) => parts,
     };
-    match datum_broken(term, wanted, start, last, place, &skip, child, cur.place()) {
+    let places = DatumPlaces {
+        level: level.place,
+        start: place,
+        child,
+        end: cur.place(),
+    };
+    match datum_broken(term, wanted, last, &skip, &places) {
         Some(rule) => Err(rule),
         None => Ok(point_after(term, last, place, &skip)),
     }

@@ -3,24 +3,18 @@ ghost use Rattle.std.specs.Prelude.{◌≡◌, ◌+◌, ◌-◌, ◌*◌, ◌/�
 ghost use Rattle.lu_grammar.specs.Bytes.{Cursor};
 ghost use Rattle.lu_grammar.specs.Parts.{vlong};
 ghost use Rattle.lu_grammar.specs.Reading.{read_part};
-ghost use Rattle.freq_skips.specs.Levels.{level_count, data_count, IsSmall};
+ghost use Rattle.freq_skips.specs.Levels.{level_count, data_count, AreSmallSums};
 ghost use Rattle.freq_skips.specs.Walks.{start_in, value_from, points_in};
-ghost use Rattle.freq_skips.specs.Points.{is_highest, data_below, find_steps, ticked};
-ghost use Rattle.freq_skips.specs.Finding.{CanSearch, LevelsLeft, LevelStands, IsPassed, StandsOn, StopsAt};
+ghost use Rattle.lu_prims.specs.Steps.{ticked};
+ghost use Rattle.freq_skips.specs.Points.{is_highest, data_below, find_steps};
+ghost use Rattle.freq_skips.specs.Finding.{CanSearch, LevelsLeft, LevelStands, HasPassedData, StandsOn, StopsAt};
 
 use crate::datum::{Point, good_datum};
 use crate::following::{Following, NO_POINT};
 use crate::level::quotient;
-use crate::levels::level_length;
+use crate::levels::{LevelBounds, level_length};
 use crate::rules::RuledTerm;
 use lu_prims::{Cur, Steps};
-
-/// Where the data of a level start, and where the level below starts, if there is one.
-#[derive(Clone, Copy, Debug, PartialEq, Eq)]
-pub struct LevelBounds {
-    pub data: usize,
-    pub end: usize,
-}
 
 /// The place behind so many bytes, where their number is told.
 fn place_behind(start: usize, length: Option<u64>) -> usize
@@ -84,7 +78,7 @@ pub fn entered<'a>(
     requires search { CanSearch term.now frq.now }
     requires level { level < level_count term.now }
     requires stands { LevelStands term.now frq.now level start }
-    requires above { IsPassed term.now frq.now (suc level) above.now.count above.now.last }
+    requires above { HasPassedData term.now frq.now (suc level) above.now.count above.now.last }
     ensures stands { StandsOn term.now frq.entry.now level result }
     ensures count { result.count ≡ above.now.count * term.now.rules.skip_interval }
 {
@@ -123,9 +117,9 @@ pub fn pass_below<L>(
     steps: &mut Steps<L>,
 )
     requires few { sought.now.most < 2 ^ 31 }
-    requires small { IsSmall walk.old.count walk.old.last }
+    requires small { AreSmallSums walk.old.count walk.old.last }
     ensures passes { (frq : List ℕ) → StandsOn term.now frq sought.now.level walk.old → walk.old.count ≤ sought.now.most → sought.now.most ≤ data_count term.now sought.now.level
-        → IsPassed term.now frq sought.now.level walk.new.count walk.new.last × StopsAt (points_in term.now frq sought.now.level) sought.now.target walk.old.count walk.new.count sought.now.most }
+        → HasPassedData term.now frq sought.now.level walk.new.count walk.new.last × StopsAt (points_in term.now frq sought.now.level) sought.now.target walk.old.count walk.new.count sought.now.most }
     ensures steps { steps.new ≡ ticked (min (suc walk.new.count) sought.now.most - walk.old.count) steps.old }
 {
     while walk.count < sought.most {
@@ -177,7 +171,7 @@ pub fn descended<'a, L>(
     requires search { CanSearch term.now frq.now }
     requires count { levels.now.count ≡ level_count term.now }
     requires power { levels.now.power ≡ term.now.rules.skip_interval ^ levels.now.count }
-    ensures passed { IsPassed term.now frq.entry.now 0 result.count result.last }
+    ensures passed { HasPassedData term.now frq.entry.now 0 result.count result.last }
     ensures below { result.count ≡ data_below (value_from term.now (start_in term.now frq.entry.now)) target 0 }
     ensures steps { steps.new ≡ ticked (find_steps term.now (value_from term.now (start_in term.now frq.entry.now)) target (level_count term.now)) steps.old }
 {

@@ -1,5 +1,6 @@
-//! Drawn terms are written, checked and read, and two rows of bytes.
-ghost use Rattle.std.specs.Prelude.{◌<◌, ◌≤◌, ◌^◌};
+//! Drawn terms are written, checked, read and sought at every target, and two rows of bytes.
+ghost use Rattle.std.specs.Prelude.{◌≡◌, ◌<◌, ◌≤◌, ◌^◌, [], length, IfOk};
+ghost use Rattle.freq_skips.specs.Points.{HasKnownPlaces};
 
 use super::*;
 use lu_prims::Steps;
@@ -62,25 +63,13 @@ struct Drawn {
     entries: Vec<Given>,
 }
 
-/// The interval that a drawn number below 4 stands for.
-fn interval_of(number: u32) -> u32
-    ensures { 2 ≤ result }
-{
-    match number {
-        0 => 2,
-        1 => 3,
-        2 => 4,
-        _ => 16,
-    }
-}
-
 /// How far a document is above the one before: mostly from 1 to 20, and one in sixteen is larger.
 fn drawn_gap(draws: &mut Draws) -> u32
     ensures some { 0 < result }
     ensures small { result < 2 ^ 20 }
 {
     if draws.below(16) == 0 {
-        1 + draws.below(20_000)
+        1 + draws.below(200)
     } else {
         1 + draws.below(20)
     }
@@ -106,14 +95,14 @@ fn drawn_entries(
     Ok(entries)
 }
 
-/// The term with a number.
+/// The term with a number: intervals from 2 to 16, up to 6 levels.
 fn drawn_term(rt: &impl Abort, alloc: Global, number: u64) -> Result<Drawn, Fail> {
     let mut draws = Draws { state: number };
-    let interval = interval_of(draws.below(4));
-    let levels = 1 + draws.below(10);
+    let interval = 2 + draws.below(15);
+    let levels = 1 + draws.below(6);
     let omit_tf = draws.yes();
     let payloads = draws.yes();
-    let count = 1 + draws.below(60);
+    let count = 1 + draws.below(80);
     let entries = drawn_entries(rt, alloc, &mut draws, count)?;
     Ok(Drawn {
         interval,
@@ -124,18 +113,27 @@ fn drawn_term(rt: &impl Abort, alloc: Global, number: u64) -> Result<Drawn, Fail
     })
 }
 
-/// A file whose last term was written: its bytes, where that term starts, and how far from there its skip data start.
+/// A file whose last term was written: its bytes, and what the dictionary says of that term.
 #[derive(Drop)]
 struct WrittenFile {
     bytes: Vec<u8>,
-    place: u32,
-    delta: u32,
+    info: TermInfo,
 }
 
-/// The file of a term of one entry and, after it, the drawn term.
-#[tactic(auto, using(crate::proofs::RunLemmas::added_last, crate::proofs::RunLemmas::added_some))]
-fn written(rt: &impl Abort, alloc: Global, drawn: &Drawn) -> Result<WrittenFile, Fail> {
-    assert!(rt; drawn.interval >= 2);
+/// A file of a term of one entry, and where the drawn term behind it starts.
+fn begun_file(
+    rt: &impl Abort,
+    alloc: Global,
+    drawn: &Drawn,
+) -> Result<(FreqWriter, u32), Fail>
+    requires { 2 ≤ drawn.now.interval }
+    ensures interval { IfOk result (λ x. x.0.interval ≡ drawn.now.interval) }
+    ensures levels { IfOk result (λ x. x.0.most ≡ drawn.now.levels) }
+    ensures omit { IfOk result (λ x. x.0.omit ≡ drawn.now.omit_tf) }
+    ensures payloads { IfOk result (λ x. x.0.payloads ≡ drawn.now.payloads) }
+    ensures none { IfOk result (λ x. x.0.entries ≡ []) }
+    ensures place { IfOk result (λ x. x.1 ≡ length x.0.bytes) }
+{
     let mut writer = FreqWriter::new(alloc, drawn.interval, drawn.levels)?;
     writer.start(false, false);
     writer.add(300, 1, 0)?;
@@ -143,42 +141,51 @@ fn written(rt: &impl Abort, alloc: Global, drawn: &Drawn) -> Result<WrittenFile,
     let none = writer.finish_term()?;
     assert!(rt; none == 0 && writer.len() == 2);
     let place = writer.start(drawn.omit_tf, drawn.payloads);
-    let Some((first, rest)) = drawn.entries.split_first() else {
-        panic!(rt; "a term has entries");
-    };
-    assert!(rt; first.doc < DOCUMENTS && first.freq >= 1 && first.freq < 100);
-    writer.add(first.doc, first.freq, first.prox)?;
-    let mut last = first.doc;
-    for given in rest {
-        assert!(rt; last < given.doc && given.doc < DOCUMENTS);
-        assert!(rt; given.freq >= 1 && given.freq < 100);
+    Ok((writer, place))
+}
+
+/// The file of a term of one entry and, after it, the drawn term.
+fn written(rt: &impl Abort, alloc: Global, drawn: &Drawn) -> Result<WrittenFile, Fail>
+    requires { 2 ≤ drawn.now.interval }
+    ensures places { IfOk result (λ file. HasKnownPlaces file.info
+        (record { documents = 2 ^ 24; skip_interval = drawn.now.interval; max_levels = drawn.now.levels; omit_tf = drawn.now.omit_tf; payloads = drawn.now.payloads }) file.bytes.items) }
+{
+    let (mut writer, freq) = begun_file(rt, alloc, drawn)?;
+    let mut next = 0;
+    let mut prox = 0;
+    for given in &drawn.entries {
+        assert!(rt; next <= given.doc);
+        assert!(rt; given.doc < DOCUMENTS);
+        assert!(rt; given.freq >= 1);
+        assert!(rt; given.freq < 100);
+        assert!(rt; prox <= given.prox);
+        assert!(rt; given.prox < DOCUMENTS);
         writer.add(given.doc, given.freq, given.prox)?;
-        last = given.doc;
+        next = given.doc + 1;
+        prox = given.prox;
     }
+    assert!(rt; writer.count() > 0);
     assert!(rt; writer.len() < 1 << 31);
-    let delta = writer.finish_term()?;
+    let doc_freq = writer.count();
+    let skip = writer.finish_term()?;
+    assert!(rt; writer.len() < 1 << 31);
+    let info = TermInfo {
+        field: 0,
+        doc_freq,
+        freq,
+        prox: 0,
+        skip,
+    };
     Ok(WrittenFile {
         bytes: writer.finish(),
-        place,
-        delta,
+        info,
     })
 }
 
-/// What the dictionary says of the term.
-fn info_of(rt: &impl Abort, drawn: &Drawn, file: &WrittenFile) -> TermInfo {
-    let count = drawn.entries.len();
-    assert!(rt; count > 0 && count < 100);
-    TermInfo {
-        field: 0,
-        doc_freq: count as u32,
-        freq: file.place,
-        prox: 0,
-        skip: file.delta,
-    }
-}
-
 /// What the records of the term are read by.
-fn rules_of(drawn: &Drawn) -> TermRules {
+fn rules_of(drawn: &Drawn) -> TermRules
+    ensures { result ≡ record { documents = 2 ^ 24; skip_interval = drawn.now.interval; max_levels = drawn.now.levels; omit_tf = drawn.now.omit_tf; payloads = drawn.now.payloads } }
+{
     TermRules {
         documents: DOCUMENTS,
         skip_interval: drawn.interval,
@@ -341,7 +348,7 @@ fn same_walk(
     for index in 0..drawn.entries.len() {
         assert!(rt; index < 100 && found < 10_000);
         let given = drawn.entries[index];
-        let wanted = Walked {
+        let wanted = WalkedEntry {
             index: index as u32,
             doc: given.doc,
             freq: frequency(drawn, &given),
@@ -355,23 +362,84 @@ fn same_walk(
     found
 }
 
+/// The point before the entry with an index, by the definition; the start of the term for 0.
+fn wanted_point(rt: &impl Abort, drawn: &Drawn, start: u32, passed: usize) -> SkipPoint {
+    if passed == 0 {
+        return SkipPoint {
+            passed: 0,
+            doc: 0,
+            freq: start,
+            prox: 0,
+        };
+    }
+    assert!(rt; passed < drawn.entries.len() && passed < 100 && start < 100);
+    let bytes = bytes_of_first(rt, drawn, passed);
+    assert!(rt; bytes < 1 << 20);
+    SkipPoint {
+        passed: passed as u32,
+        doc: drawn.entries[passed - 1].doc,
+        freq: start + bytes,
+        prox: if drawn.omit_tf {
+            0
+        } else {
+            drawn.entries[passed].prox
+        },
+    }
+}
+
+/// Which entry the last point below a target leads to, by the definition: the last that has a datum on the lowest level and
+/// stands behind a document below the target.
+fn last_below(rt: &impl Abort, drawn: &Drawn, target: u32) -> usize {
+    let mut passed = 0;
+    if levels_of(drawn) == 0 {
+        return passed;
+    }
+    for index in 1..drawn.entries.len() {
+        assert!(rt; index < 100 && drawn.interval > 0);
+        let has_datum = (index as u32 + 1) % drawn.interval == 0;
+        if has_datum && drawn.entries[index - 1].doc < target {
+            passed = index;
+        }
+    }
+    passed
+}
+
+/// At every target up to behind the last document the point is found that the definition tells.
+fn same_points(rt: &impl Abort, file: &WrittenFile, rules: &TermRules, drawn: &Drawn)
+    requires { HasKnownPlaces file.now.info rules.now file.now.bytes.items }
+{
+    let frq = file.bytes.as_slice();
+    assert!(rt; rules.skip_interval >= 2 && frq.len() < 1 << 31);
+    assert!(rt; file.info.doc_freq > 0 && file.info.freq as usize <= frq.len());
+    if check_term(frq, file.info.freq as usize, &file.info, rules).is_err() {
+        panic!(rt; "the term is good");
+    }
+    let mut skips = Skips::at(frq, &file.info, rules);
+    let last = drawn.entries.last().map_or(0, |given| given.doc);
+    for target in 0..last.saturating_add(2) {
+        let wanted = wanted_point(rt, drawn, file.info.freq, last_below(rt, drawn, target));
+        let mut steps: Steps<Read> = Steps::new();
+        assert!(rt; skips.find(target, &mut steps) == wanted, "target {target}");
+    }
+}
+
 /// With one byte of the term set to another value the check still answers, with a fault within the file where it refuses.
 fn answers(
     rt: &impl Abort,
     alloc: Global,
-    frq: &[u8],
-    info: &TermInfo,
+    file: &WrittenFile,
     rules: &TermRules,
     draws: &mut Draws,
 ) -> Result<(), Fail> {
-    let start = info.freq as usize;
+    let frq = file.bytes.as_slice();
+    let start = file.info.freq as usize;
     assert!(rt; rules.skip_interval >= 2 && start < frq.len() && frq.len() < 10_000);
     let place = start + draws.below((frq.len() - start) as u32) as usize;
     let mut changed = frq.to_vec(alloc)?;
     assert!(rt; place < changed.len() && changed.len() == frq.len());
     changed[place] = ((u32::from(changed[place]) + 1 + draws.below(255)) % 256) as u8;
     assert!(rt; changed[place] != frq[place]);
-    match check_term(&changed, start, info, rules) {
+    match check_term(&changed, start, &file.info, rules) {
         Err(spot) => assert!(rt; spot.offset >= start as u64 && spot.offset <= frq.len() as u64),
         Ok(end) => assert!(rt; end > start && end <= frq.len()),
     }
@@ -414,17 +482,18 @@ fn row(rt: &impl Abort, alloc: Global, omit_tf: bool, bytes: &[u8]) -> Result<()
     Ok(())
 }
 
-/// The term with a number is written, checked and read; answers how many skip data it has.
+/// The term with a number is written, checked, read and sought; answers how many skip data it has.
 fn try_term(rt: &impl Abort, alloc: Global, number: u64) -> Result<u32, Fail> {
     let drawn = drawn_term(rt, alloc, number)?;
+    assert!(rt; drawn.interval >= 2);
     let file = written(rt, alloc, &drawn)?;
-    let info = info_of(rt, &drawn, &file);
     let rules = rules_of(&drawn);
-    ends_there(rt, &file.bytes, &info, &rules);
-    same_entries(rt, &file.bytes, &info, &rules, &drawn);
-    let found = same_walk(rt, &file.bytes, &info, &rules, &drawn);
+    ends_there(rt, &file.bytes, &file.info, &rules);
+    same_entries(rt, &file.bytes, &file.info, &rules, &drawn);
+    let found = same_walk(rt, &file.bytes, &file.info, &rules, &drawn);
+    same_points(rt, &file, &rules, &drawn);
     let mut draws = Draws { state: number };
-    answers(rt, alloc, &file.bytes, &info, &rules, &mut draws)?;
+    answers(rt, alloc, &file, &rules, &mut draws)?;
     Ok(found)
 }
 

@@ -26,7 +26,7 @@ pub struct Entries<'a> {
 impl<'a> Model for Entries<'a> {
     ghost use Rattle.std.specs.Prelude.{◌≡◌, ◌≤◌, length};
     ghost use Rattle.lu_grammar.specs.Bytes.{IsBytes};
-    ghost use Rattle.freq_skips.specs.Entries.{AreGoodFrom, Stands, postings_from};
+    ghost use Rattle.freq_skips.specs.Entries.{AreGoodFrom, IsBehindEntries, postings_from};
     ghost use Rattle.freq_skips.specs.Walks.{WalkState, start_in, value_from};
 
     ghost Value = { WalkState };
@@ -39,7 +39,7 @@ impl<'a> Model for Entries<'a> {
       begin_within : e.term.info.freq ≤ length e.frq.now;
       all : AreGoodFrom e.term (start_in e.term e.frq.now);
       postings : (value_from e.term (start_in e.term e.frq.now)).postings ≡ postings_from e.term (start_in e.term e.frq.now);
-      stands : Stands e.term (start_in e.term e.frq.now) e.passing.index e.passing.doc e.passing.cur;
+      stands : IsBehindEntries e.term (start_in e.term e.frq.now) e.passing.index e.passing.doc e.passing.cur;
       within : e.passing.index ≤ e.term.info.doc_freq;
     } };
 }

@@ -42,9 +42,16 @@ pub fn optional_num(cur: &mut Cur<'_>, test: bool) -> Result<Option<u32>, Bad>
     }
 }
 
-/// The delta of an entry, and its frequency where that is stated.
-fn entry_parts(cur: &mut Cur<'_>, term: &RuledTerm) -> Result<(u32, Option<u32>), Bad>
-    ensures { Gives (λ x. entry x.0 x.1) (read_shape (entry_shape term.now) cur.old) cur.new result }
+/// An entry as it stands: its delta, and its frequency where that is stated.
+#[derive(Clone, Copy, Debug, PartialEq, Eq)]
+struct EntryParts {
+    delta: u32,
+    stated: Option<u32>,
+}
+
+/// The parts of the entry that stands here.
+fn entry_parts(cur: &mut Cur<'_>, term: &RuledTerm) -> Result<EntryParts, Bad>
+    ensures { Gives (λ x. entry x.delta x.stated) (read_shape (entry_shape term.now) cur.old) cur.new result }
 {
     let delta = match cur.vint() {
         Err(bad) => return Err(bad),
@@ -52,7 +59,7 @@ fn entry_parts(cur: &mut Cur<'_>, term: &RuledTerm) -> Result<(u32, Option<u32>)
     };
     match optional_num(cur, !term.rules.omit_tf && !is_odd(delta)) {
         Err(bad) => Err(bad),
-        Ok(stated) => Ok((delta, stated)),
+        Ok(stated) => Ok(EntryParts { delta, stated }),
     }
 }
 
@@ -103,13 +110,12 @@ fn entry_broken(
     first: bool,
     last: u32,
     place: usize,
-    delta: u32,
-    stated: Option<u32>,
+    parts: &EntryParts,
 ) -> Option<u16>
-    ensures broken { result ≡ first_broken (entry_conditions term.now first last place (entry delta stated)) }
-    ensures below { result ≡ None → last + gap_of term.now delta < 2 ^ 32 }
+    ensures broken { result ≡ first_broken (entry_conditions term.now first last place (entry parts.now.delta parts.now.stated)) }
+    ensures below { result ≡ None → last + gap_of term.now parts.now.delta < 2 ^ 32 }
 {
-    let gap = gap(term, delta);
+    let gap = gap(term, parts.delta);
     let documents = term.rules.documents;
     if starts_elsewhere(term, first, place) {
         return Some(FREQ_START);
@@ -120,7 +126,7 @@ fn entry_broken(
     if u64::from(last) + u64::from(gap) >= u64::from(documents) {
         return Some(DOC_RANGE);
     }
-    if is_low_frequency(stated) {
+    if is_low_frequency(parts.stated) {
         return Some(FREQ);
     }
     None
@@ -134,15 +140,15 @@ pub fn next_entry(cur: &mut Cur<'_>, term: &RuledTerm, first: bool, last: u32) -
         (λ rule. record_at (entry_shape term.now) (entry_conditions term.now first last cur.old.place) cur.old ≡ Err rule) }
 {
     let place = cur.place();
-    let (delta, stated) = match entry_parts(cur, term) {
+    let parts = match entry_parts(cur, term) {
         Err(bad) => return Err(rule_of(bad)),
         Ok(parts) => parts,
     };
-    match entry_broken(term, first, last, place, delta, stated) {
+    match entry_broken(term, first, last, place, &parts) {
         Some(rule) => Err(rule),
         None => Ok(Entry {
-            doc: last + gap(term, delta),
-            freq: frequency_or_one(stated),
+            doc: last + gap(term, parts.delta),
+            freq: frequency_or_one(parts.stated),
         }),
     }
 }

@@ -3,9 +3,9 @@ ghost use Rattle.std.specs.Prelude.{◌≡◌, ℕ, suc, ◌+◌, ◌^◌, ◌<�
 ghost use Rattle.lu_grammar.specs.Bytes.{IsBytes, Cursor};
 ghost use Rattle.lu_grammar.specs.Plans.{read_plan};
 ghost use Rattle.freq_skips.specs.Entries.{Posting};
-ghost use Rattle.freq_skips.specs.Levels.{level_of, wanted as is_wanted, data_count, level_data, Follows, AreData, Passes, IsSmall};
+ghost use Rattle.freq_skips.specs.Levels.{level_of, wanted as is_wanted, data_count, level_data, Follows, AreData, IsNextDatum, AreSmallSums};
 
-use crate::datum::{Point, Wanted, good_datum, next_datum};
+use crate::datum::{LevelStart, Point, Wanted, good_datum, next_datum};
 use crate::rules::RuledTerm;
 use lu_prims::Cur;
 
@@ -28,32 +28,31 @@ pub const NO_POINT: Point = Point {
 };
 
 impl<'a> Following<'a> {
-    /// Takes one datum more, of which this is wanted, in a level that starts there; or tells the first rule that it breaks.
+    /// Takes one datum more of a level, of which this is wanted; or tells the first rule that it breaks.
     pub fn check_next(
         &mut self,
         term: &RuledTerm,
-        level: u32,
+        level: &LevelStart,
         wanted: &Wanted,
-        start: usize,
     ) -> Result<(), u16>
         requires bytes { IsBytes self.old.cur.rest }
-        requires start_before { start ≤ self.old.cur.place }
-        requires small { IsSmall self.old.count self.old.last }
+        requires level_before { level.now.place ≤ self.old.cur.place }
+        requires small { AreSmallSums self.old.count self.old.last }
         requires few { self.old.count < 2 ^ 31 }
-        ensures bytes { OnOk result (IsBytes self.new.cur.rest × (start ≤ self.new.cur.place)) }
-        ensures small { IsSmall self.new.count self.new.last }
+        ensures bytes { OnOk result (IsBytes self.new.cur.rest × (level.now.place ≤ self.new.cur.place)) }
+        ensures small { AreSmallSums self.new.count self.new.last }
         ensures count { OnOk result (self.new.count ≡ self.old.count + 1) }
         ensures goes_on { MatchResult result
             (λ _. (postings : List Posting) (stated : Option ℕ) (above : List (List Point)) (begin : Cursor)
-            → begin.place ≡ start → wanted.now ≡ is_wanted term.now postings (level_of level stated above) (suc self.old.count)
-            → Follows term.now postings (level_of level stated above) begin self.old.count self.old.last self.old.cur
-            → Follows term.now postings (level_of level stated above) begin self.new.count self.new.last self.new.cur)
+            → begin.place ≡ level.now.place → wanted.now ≡ is_wanted term.now postings (level_of level.now.number stated above) (suc self.old.count)
+            → Follows term.now postings (level_of level.now.number stated above) begin self.old.count self.old.last self.old.cur
+            → Follows term.now postings (level_of level.now.number stated above) begin self.new.count self.new.last self.new.cur)
             (λ rule. (postings : List Posting) (stated : Option ℕ) (above : List (List Point)) (begin : Cursor)
-            → begin.place ≡ start → wanted.now ≡ is_wanted term.now postings (level_of level stated above) (suc self.old.count)
-            → Follows term.now postings (level_of level stated above) begin self.old.count self.old.last self.old.cur → self.old.count < data_count term.now level
-            → read_plan (level_data term.now postings (level_of level stated above)) begin ≡ Err (record { offset = self.old.cur.place; rule = rule })) }
+            → begin.place ≡ level.now.place → wanted.now ≡ is_wanted term.now postings (level_of level.now.number stated above) (suc self.old.count)
+            → Follows term.now postings (level_of level.now.number stated above) begin self.old.count self.old.last self.old.cur → self.old.count < data_count term.now level.now.number
+            → read_plan (level_data term.now postings (level_of level.now.number stated above)) begin ≡ Err (record { offset = self.old.cur.place; rule = rule })) }
     {
-        match next_datum(&mut self.cur, term, level, wanted, start, &self.last) {
+        match next_datum(&mut self.cur, term, level, wanted, &self.last) {
             Err(rule) => Err(rule),
             Ok(point) => {
                 self.count += 1;
@@ -65,14 +64,14 @@ impl<'a> Following<'a> {
 
     /// Passes one datum of a level whose data are good.
     pub fn pass(&mut self, term: &RuledTerm, level: u32)
-        requires small { IsSmall self.old.count self.old.last }
+        requires small { AreSmallSums self.old.count self.old.last }
         requires few { self.old.count < 2 ^ 31 }
-        ensures small { IsSmall self.new.count self.new.last }
+        ensures small { AreSmallSums self.new.count self.new.last }
         ensures count { self.new.count ≤ self.old.count + 1 }
         ensures goes_on { (postings : List Posting) (stated : Option ℕ) (above : List (List Point)) (begin : Cursor) (points : List Point) (end : Cursor)
             → AreData term.now postings (level_of level stated above) begin points end
             → Follows term.now postings (level_of level stated above) begin self.old.count self.old.last self.old.cur → self.old.count < data_count term.now level
-            → Passes term.now postings (level_of level stated above) begin points self.old.count self.new.last self.new.cur × (self.new.count ≡ self.old.count + 1) }
+            → IsNextDatum term.now postings (level_of level stated above) begin points self.old.count self.new.last self.new.cur × (self.new.count ≡ self.old.count + 1) }
     {
         if let Some(point) = good_datum(&mut self.cur, term, level, &self.last) {
             self.count += 1;

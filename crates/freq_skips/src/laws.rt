@@ -6,7 +6,7 @@ ghost use Rattle.lu_grammar.specs.Meaning.{Reads, ReadsTo, FirstFault};
 ghost use Rattle.freq_skips.specs.declared.rules.RuledTerm.{RuledTerm};
 ghost use Rattle.freq_skips.specs.Writing.{FrqWriting, prox_of, finished, term_written, IsFinishable, IsAsHanded};
 ghost use Rattle.freq_skips.specs.Points.{HasKnownPlaces};
-ghost use Rattle.freq_skips.specs.Sound.{IsSoundTerm};
+ghost use Rattle.freq_skips.specs.Sound.{IsSoundTermData};
 ghost use Rattle.freq_skips.specs.Terms.{TermData, IsTermFault, AreTermsUpTo, term_plan, terms_plan};
 
 /// The terms of a file in turn: where each is good from where the one before ends, and the file ends with the last, the bytes
@@ -40,5 +40,5 @@ pub fn written_has_places()
 /// each frequency is at least 1; and the skip data lead to the entries that they belong to.
 pub fn good_is_sound()
     ensures { (t : RuledTerm) (frq : List ℕ) (value : TermData) (end : Cursor) → IsBytes frq → 2 ≤ t.rules.skip_interval → t.info.freq ≤ length frq
-        → ReadsTo (term_plan t) (place_in frq t.info.freq) value end → IsSoundTerm t value }
+        → ReadsTo (term_plan t) (place_in frq t.info.freq) value end → IsSoundTermData t value }
 {}

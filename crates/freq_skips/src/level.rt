@@ -5,14 +5,14 @@ ghost use Rattle.lu_grammar.specs.Plans.{read_plan};
 ghost use Rattle.lu_types.specs.declared.kind.FileKind.TheVariants.{Frq};
 ghost use Rattle.lu_types.specs.Judging.{IsBroken};
 ghost use Rattle.freq_skips.specs.declared.datum.Point.{Point};
-ghost use Rattle.freq_skips.specs.Entries.{Posting, postings_from, AreEntries, AreGoodFrom, Stands};
+ghost use Rattle.freq_skips.specs.Entries.{Posting, postings_from, AreEntries, AreGoodFrom, IsBehindEntries};
 ghost use Rattle.std.specs.Option.{option_map};
 ghost use Rattle.freq_skips.specs.Levels.{no_point, greatest_power as greatest_power_of, level_count as count_of_levels, level_of, wanted as is_wanted, data_count, stride as stride_of, level_data, child_above as child_of, AreGoodData};
-ghost use Rattle.freq_skips.specs.Walking.{FollowsAbove, IsSmallAbove, StandAbove};
+ghost use Rattle.freq_skips.specs.Walking.{FollowsAbove, AreSmallSumsAbove, StandAbove};
 
-use crate::datum::Wanted;
+use crate::datum::{LevelStart, Wanted};
 use crate::following::{Following, NO_POINT};
-use crate::passing::Passing;
+use crate::passing::{CheckedEntries, Passing};
 use crate::rules::RuledTerm;
 use lu_prims::Cur;
 use lu_types::{FileKind, Spot};
@@ -59,8 +59,8 @@ fn child_above(
 ) -> Option<u64>
     requires interval { 2 ≤ term.now.rules.skip_interval }
     requires few { passed < 2 ^ 31 }
-    requires small { IsSmallAbove passed above.old }
-    ensures small { IsSmallAbove (passed + 1) above.new }
+    requires small { AreSmallSumsAbove passed above.old }
+    ensures small { AreSmallSumsAbove (passed + 1) above.new }
     ensures goes_on { (postings : List Posting) (n : ℕ) (points : List (List Point)) → level ≡ suc n → FollowsAbove term.now postings level points passed above.old → passed < data_count term.now n
         → (result ≡ child_of term.now points (suc passed)) × FollowsAbove term.now postings level points (suc passed) above.new }
 {
@@ -134,12 +134,12 @@ fn wanted_next(
     requires within { passed < data_count term.now level.now.number }
     requires number { level.now.number + 1 < 2 ^ 32 }
     requires few { passed < 2 ^ 31 }
-    requires small { IsSmallAbove passed above.old }
-    ensures small { IsSmallAbove (passed + 1) above.new }
-    ensures stands { (start end : Cursor) → AreEntries term.now start end → Stands term.now start entries.old.index entries.old.doc entries.old.cur → entries.old.index ≤ passed * level.now.stride
-        → Stands term.now start entries.new.index entries.new.doc entries.new.cur × (entries.new.index ≤ suc passed * level.now.stride) }
+    requires small { AreSmallSumsAbove passed above.old }
+    ensures small { AreSmallSumsAbove (passed + 1) above.new }
+    ensures stands { (start end : Cursor) → AreEntries term.now start end → IsBehindEntries term.now start entries.old.index entries.old.doc entries.old.cur → entries.old.index ≤ passed * level.now.stride
+        → IsBehindEntries term.now start entries.new.index entries.new.doc entries.new.cur × (entries.new.index ≤ suc passed * level.now.stride) }
     ensures goes_on { (start end : Cursor) (points : List (List Point))
-        → AreEntries term.now start end → Stands term.now start entries.old.index entries.old.doc entries.old.cur → entries.old.index ≤ passed * level.now.stride
+        → AreEntries term.now start end → IsBehindEntries term.now start entries.old.index entries.old.doc entries.old.cur → entries.old.index ≤ passed * level.now.stride
         → FollowsAbove term.now (postings_from term.now start) (suc level.now.number) points passed above.old
         → (result ≡ is_wanted term.now (postings_from term.now start) (level_of level.now.number level.now.stated points) (suc passed))
         × FollowsAbove term.now (postings_from term.now start) (suc level.now.number) points (suc passed) above.new }
@@ -178,44 +178,47 @@ fn following_above(frq: &[u8], above: Option<usize>) -> Option<Following<'_>>
     }
 }
 
-/// Checks the data of a level that are to start at a place, of a term whose entries are good and start at another; the data
-/// of the level above, where there is one, are good and start at a third. Answers the place behind the data.
+/// Checks the data of a level that are to start at a place, of a term whose entries are good; the data of the level above,
+/// where there is one, are good and start at another. Answers the place behind the data.
 pub fn check_data(
-    frq: &[u8],
+    entries: &CheckedEntries<'_>,
     at: usize,
-    entries: usize,
-    term: &RuledTerm,
     level: &Level,
     above: Option<usize>,
 ) -> Result<usize, Spot>
-    requires interval { 2 ≤ term.now.rules.skip_interval }
-    requires stride { level.now.stride ≡ stride_of term.now level.now.number }
+    requires interval { 2 ≤ entries.now.term.rules.skip_interval }
+    requires stride { level.now.stride ≡ stride_of entries.now.term level.now.number }
     requires number { level.now.number + 1 < 2 ^ 32 }
-    requires at_within { at ≤ length frq.now }
-    requires entries_within { entries ≤ length frq.now }
-    requires above_within { IfSome above (λ place. place ≤ length frq.now) }
-    requires entries_good { AreGoodFrom term.now (place_in frq.now entries) }
-    ensures { (points : List (List Point)) → StandAbove term.now (postings_from term.now (place_in frq.now entries)) (suc level.now.number) points frq.now above
+    requires at_within { at ≤ length entries.now.frq.now }
+    requires bytes { IsBytes entries.now.frq.now }
+    requires entries_within { entries.now.start ≤ length entries.now.frq.now }
+    requires above_within { IfSome above (λ place. place ≤ length entries.now.frq.now) }
+    requires entries_good { AreGoodFrom entries.now.term (place_in entries.now.frq.now entries.now.start) }
+    ensures { (points : List (List Point)) → StandAbove entries.now.term (postings_from entries.now.term (place_in entries.now.frq.now entries.now.start)) (suc level.now.number) points entries.now.frq.now above
         → MatchResult result
-        (λ end. AreGoodData term.now (postings_from term.now (place_in frq.now entries)) (level_of level.now.number level.now.stated points) (place_in frq.now at) (place_in frq.now end) × (end ≤ length frq.now))
-        (λ spot. IsBroken Frq (read_plan (level_data term.now (postings_from term.now (place_in frq.now entries)) (level_of level.now.number level.now.stated points)) (place_in frq.now at)) spot) }
+        (λ end. AreGoodData entries.now.term (postings_from entries.now.term (place_in entries.now.frq.now entries.now.start)) (level_of level.now.number level.now.stated points) (place_in entries.now.frq.now at) (place_in entries.now.frq.now end) × (end ≤ length entries.now.frq.now))
+        (λ spot. IsBroken Frq (read_plan (level_data entries.now.term (postings_from entries.now.term (place_in entries.now.frq.now entries.now.start)) (level_of level.now.number level.now.stated points)) (place_in entries.now.frq.now at)) spot) }
 {
-    let count = quotient(term.info.doc_freq, level.stride);
+    let count = quotient(entries.term.info.doc_freq, level.stride);
     let mut passing = Passing {
-        cur: Cur::at(frq, entries),
+        cur: Cur::at(entries.frq, entries.start),
         index: 0,
         doc: 0,
     };
-    let mut above = following_above(frq, above);
+    let mut above = following_above(entries.frq, above);
     let mut data = Following {
-        cur: Cur::at(frq, at),
+        cur: Cur::at(entries.frq, at),
         count: 0,
         last: NO_POINT,
     };
+    let start = LevelStart {
+        number: level.number,
+        place: at,
+    };
     while data.count < count {
-        let wanted = wanted_next(&mut passing, &mut above, term, level, data.count);
+        let wanted = wanted_next(&mut passing, &mut above, &entries.term, level, data.count);
         let place = data.cur.place();
-        match data.check_next(term, level.number, &wanted, at) {
+        match data.check_next(&entries.term, &start, &wanted) {
             Err(rule) => return Err(Spot::at(FileKind::Frq, place, rule)),
             Ok(()) => {}
         }

@@ -1,5 +1,5 @@
 //! All skip levels of a term.
-ghost use Rattle.lu_grammar.specs.Bytes.{place_in};
+ghost use Rattle.lu_grammar.specs.Bytes.{IsBytes, place_in};
 ghost use Rattle.lu_grammar.specs.Answers.{Gives};
 ghost use Rattle.std.specs.Prelude.{◌≡◌, ◌⊎◌, ℕ, suc, ◌+◌, ◌/◌, ◌^◌, ◌<◌, ◌≤◌, List, [], ◌∷◌, Option, length, ◌==◌, IfOk, IfSome, MatchResult, Some, Ok, Err};
 ghost use Rattle.lu_grammar.specs.Records.{record_at, first_broken};
@@ -14,6 +14,7 @@ ghost use Rattle.freq_skips.specs.Walking.{StandAbove, IsGoodLevel, AreGoodLevel
 
 use crate::datum::skips_start_elsewhere;
 use crate::level::{Level, check_data, level_count};
+use crate::passing::CheckedEntries;
 use crate::rules::RuledTerm;
 use lu_prims::Cur;
 use lu_types::rules::{SKIP_START, rule_of};
@@ -70,36 +71,35 @@ pub fn level_length(
 }
 
 /// Where the data of a level start, and where it ends.
-#[derive(Clone, Copy)]
-struct LevelPlaces {
-    data: usize,
-    end: usize,
+#[derive(Clone, Copy, Debug, PartialEq, Eq)]
+pub struct LevelBounds {
+    pub data: usize,
+    pub end: usize,
 }
 
-/// Checks the level with a number that is to start at a place, of a term whose entries are good and start at another; the
-/// data of the level above, where there is one, are good and start at a third.
+/// Checks the level with a number that is to start at a place, of a term whose entries are good; the data of the level
+/// above, where there is one, are good and start at another.
 fn check_level(
-    frq: &[u8],
+    entries: &CheckedEntries<'_>,
     at: usize,
-    entries: usize,
-    term: &RuledTerm,
     number: u32,
     stride: u64,
     above: Option<usize>,
-) -> Result<LevelPlaces, Spot>
-    requires interval { 2 ≤ term.now.rules.skip_interval }
-    requires stride { stride ≡ stride_of term.now number }
+) -> Result<LevelBounds, Spot>
+    requires interval { 2 ≤ entries.now.term.rules.skip_interval }
+    requires stride { stride ≡ stride_of entries.now.term number }
     requires number { number + 1 < 2 ^ 32 }
-    requires at_within { at ≤ length frq.now }
-    requires entries_within { entries ≤ length frq.now }
-    requires above_within { IfSome above (λ place. place ≤ length frq.now) }
-    requires entries_good { AreGoodFrom term.now (place_in frq.now entries) }
-    ensures { (points : List (List Point)) → StandAbove term.now (postings_from term.now (place_in frq.now entries)) (suc number) points frq.now above
+    requires at_within { at ≤ length entries.now.frq.now }
+    requires bytes { IsBytes entries.now.frq.now }
+    requires entries_within { entries.now.start ≤ length entries.now.frq.now }
+    requires above_within { IfSome above (λ place. place ≤ length entries.now.frq.now) }
+    requires entries_good { AreGoodFrom entries.now.term (place_in entries.now.frq.now entries.now.start) }
+    ensures { (points : List (List Point)) → StandAbove entries.now.term (postings_from entries.now.term (place_in entries.now.frq.now entries.now.start)) (suc number) points entries.now.frq.now above
         → MatchResult result
-        (λ places. IsGoodLevel term.now (postings_from term.now (place_in frq.now entries)) number points frq.now at places.«data» places.end)
-        (λ spot. IsBroken Frq (read_plan (level_plan term.now (postings_from term.now (place_in frq.now entries)) number points) (place_in frq.now at)) spot) }
+        (λ places. IsGoodLevel entries.now.term (postings_from entries.now.term (place_in entries.now.frq.now entries.now.start)) number points entries.now.frq.now at places.«data» places.end)
+        (λ spot. IsBroken Frq (read_plan (level_plan entries.now.term (postings_from entries.now.term (place_in entries.now.frq.now entries.now.start)) number points) (place_in entries.now.frq.now at)) spot) }
 {
-    let (stated, data) = match level_length(frq, at, term, number, above.is_none()) {
+    let (stated, data) = match level_length(entries.frq, at, &entries.term, number, above.is_none()) {
         Err(spot) => return Err(spot),
         Ok(found) => found,
     };
@@ -108,32 +108,33 @@ fn check_level(
         stride,
         stated,
     };
-    match check_data(frq, data, entries, term, &level, above) {
+    match check_data(entries, data, &level, above) {
         Err(spot) => Err(spot),
-        Ok(end) => Ok(LevelPlaces { data, end }),
+        Ok(end) => Ok(LevelBounds { data, end }),
     }
 }
 
-/// Checks the skip levels of a term that are to start at a place, where its entries are good and start at another. Answers
-/// the place behind them.
-pub fn check_levels(frq: &[u8], at: usize, entries: usize, term: &RuledTerm) -> Result<usize, Spot>
-    requires interval { 2 ≤ term.now.rules.skip_interval }
-    requires at_within { at ≤ length frq.now }
-    requires entries_within { entries ≤ length frq.now }
-    requires entries_good { AreGoodFrom term.now (place_in frq.now entries) }
+/// Checks the skip levels of a term that are to start at a place, where its entries are good. Answers the place behind
+/// them.
+pub fn check_levels(entries: &CheckedEntries<'_>, at: usize) -> Result<usize, Spot>
+    requires interval { 2 ≤ entries.now.term.rules.skip_interval }
+    requires at_within { at ≤ length entries.now.frq.now }
+    requires bytes { IsBytes entries.now.frq.now }
+    requires entries_within { entries.now.start ≤ length entries.now.frq.now }
+    requires entries_good { AreGoodFrom entries.now.term (place_in entries.now.frq.now entries.now.start) }
     ensures { MatchResult result
-        (λ end. AreGoodLevels term.now (postings_from term.now (place_in frq.now entries)) frq.now at end)
-        (λ spot. IsBroken Frq (read_plan (levels term.now (postings_from term.now (place_in frq.now entries)) (count_of_levels term.now) []) (place_in frq.now at)) spot) }
+        (λ end. AreGoodLevels entries.now.term (postings_from entries.now.term (place_in entries.now.frq.now entries.now.start)) entries.now.frq.now at end)
+        (λ spot. IsBroken Frq (read_plan (levels entries.now.term (postings_from entries.now.term (place_in entries.now.frq.now entries.now.start)) (count_of_levels entries.now.term) []) (place_in entries.now.frq.now at)) spot) }
 {
-    let interval = u64::from(term.rules.skip_interval);
-    let (count, power) = level_count(term);
+    let interval = u64::from(entries.term.rules.skip_interval);
+    let (count, power) = level_count(&entries.term);
     let mut number = count;
     let mut stride = power;
     let mut above = None;
     let mut place = at;
     while number > 0 {
         number -= 1;
-        match check_level(frq, place, entries, term, number, stride, above) {
+        match check_level(entries, place, number, stride, above) {
             Err(spot) => return Err(spot),
             Ok(places) => {
                 above = Some(places.data);

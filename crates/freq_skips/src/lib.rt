@@ -25,7 +25,7 @@ pub use lu_types::TermRules;
 pub use rules::RuledTerm;
 pub use skip_point::SkipPoint;
 pub use skips::Skips;
-pub use walk::{Datum, Walk, Walked};
+pub use walk::{Datum, Walk, WalkedEntry};
 pub use writer::FreqWriter;
 
 #[cfg(test)]

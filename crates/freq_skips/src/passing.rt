@@ -4,7 +4,7 @@ ghost use Rattle.lu_grammar.specs.Bytes.{Cursor};
 ghost use Rattle.lu_grammar.specs.Plans.{read_plan};
 ghost use Rattle.lu_types.specs.declared.kind.FileKind.TheVariants.{Frq};
 ghost use Rattle.lu_types.specs.Judging.{IsBroken};
-ghost use Rattle.freq_skips.specs.Entries.{entries, AreEntries, Stands, IsNext};
+ghost use Rattle.freq_skips.specs.Entries.{entries, AreEntries, IsBehindEntries, IsNext};
 
 use crate::entry::{Entry, next_entry};
 use crate::rules::RuledTerm;
@@ -25,9 +25,9 @@ impl<'a> Passing<'a> {
         requires { self.old.index < term.now.info.doc_freq }
         ensures { MatchResult result
             (λ e. (self.new.index ≡ self.old.index + 1) × (self.new.doc ≡ e.doc)
-            × ((start : Cursor) → Stands term.now start self.old.index self.old.doc self.old.cur
+            × ((start : Cursor) → IsBehindEntries term.now start self.old.index self.old.doc self.old.cur
             → IsNext term.now start self.old.index (record { doc = e.doc; freq = e.freq; before = self.old.doc; place = self.old.cur.place }) self.new.cur))
-            (λ rule. (start : Cursor) → Stands term.now start self.old.index self.old.doc self.old.cur
+            (λ rule. (start : Cursor) → IsBehindEntries term.now start self.old.index self.old.doc self.old.cur
             → read_plan (entries term.now) start ≡ Err (record { offset = self.old.cur.place; rule = rule })) }
     {
         // Read here, so that its range is known where the index is counted up.
@@ -44,8 +44,8 @@ impl<'a> Passing<'a> {
     /// Passes entries up to the one with an index, of a term whose entries are good.
     pub fn pass_to(&mut self, term: &RuledTerm, target: u32)
         requires { target ≤ term.now.info.doc_freq }
-        ensures { (start end : Cursor) → AreEntries term.now start end → Stands term.now start self.old.index self.old.doc self.old.cur → self.old.index ≤ target
-            → Stands term.now start self.new.index self.new.doc self.new.cur × (self.new.index ≡ target) }
+        ensures { (start end : Cursor) → AreEntries term.now start end → IsBehindEntries term.now start self.old.index self.old.doc self.old.cur → self.old.index ≤ target
+            → IsBehindEntries term.now start self.new.index self.new.doc self.new.cur × (self.new.index ≡ target) }
     {
         while self.index < target {
             match self.step(term) {
@@ -54,6 +54,14 @@ impl<'a> Passing<'a> {
             }
         }
     }
+}
+
+/// A term whose entries are good: the bytes of the file, and where the entries start in them.
+#[derive(Clone, Copy, Debug, PartialEq, Eq)]
+pub struct CheckedEntries<'a> {
+    pub frq: &'a [u8],
+    pub term: RuledTerm,
+    pub start: usize,
 }
 
 /// Checks the entries of a term, from where they are to start.

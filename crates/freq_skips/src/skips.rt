@@ -5,7 +5,8 @@ ghost use Rattle.lu_grammar.specs.Meaning.{ReadsTo};
 ghost use Rattle.freq_skips.specs.Levels.{level_count as level_count_of};
 ghost use Rattle.freq_skips.specs.Terms.{TermData, IsGoodTerm, term_of, term_plan};
 ghost use Rattle.freq_skips.specs.ProxPlaces.{HasProxPlaces};
-ghost use Rattle.freq_skips.specs.Points.{HasKnownPlaces, IsLastBelow, find_steps, most_steps, ticked};
+ghost use Rattle.lu_prims.specs.Steps.{ticked};
+ghost use Rattle.freq_skips.specs.Points.{HasKnownPlaces, IsLastBelow, find_steps, most_steps};
 
 use crate::descent::{LevelCount, descended};
 use crate::following::Following;

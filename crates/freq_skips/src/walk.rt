@@ -6,7 +6,7 @@ ghost use Rattle.lu_grammar.specs.Meaning.{ReadsTo};
 ghost use Rattle.freq_skips.specs.Entries.{Posting, postings_from};
 ghost use Rattle.freq_skips.specs.Levels.{Along, level_of, level_count as count_of_levels, level_plan, stride as stride_of, data_count, AreData};
 ghost use Rattle.freq_skips.specs.Terms.{TermData, IsGoodTerm, term_of, term_plan};
-ghost use Rattle.freq_skips.specs.Walks.{WalkState, walked_at, IsDatumFor, IsOnLevel, IsFresh, AreOnLevels, no_rung, start_in, points_in};
+ghost use Rattle.freq_skips.specs.Walks.{WalkState, walked_at, IsDatumFor, IsOnLevel, IsDatumOfLast, AreOnLevels, no_level_place, start_in, points_in};
 
 use crate::datum::Point;
 use crate::following::{Following, NO_POINT};
@@ -20,7 +20,7 @@ use std::marker::Model;
 
 /// An entry of a term: its index, from 0, its document, and how often the term stands in it.
 #[derive(Clone, Copy, Debug, PartialEq, Eq)]
-pub struct Walked {
+pub struct WalkedEntry {
     pub index: u32,
     pub doc: u32,
     pub freq: u32,
@@ -38,14 +38,14 @@ pub struct Datum {
 
 /// A place along a skip level: so many data are passed, and the last of them leads there.
 #[derive(Clone, Copy, Debug, PartialEq, Eq)]
-pub struct Rung {
+pub struct LevelPlace {
     pub place: usize,
     pub count: u32,
     pub last: Point,
 }
 
 /// At the start of the bytes.
-const NO_RUNG: Rung = Rung {
+const NO_LEVEL_PLACE: LevelPlace = LevelPlace {
     place: 0,
     count: 0,
     last: NO_POINT,
@@ -84,24 +84,24 @@ fn data_end(frq: &[u8], start: usize, term: &RuledTerm, number: u32, count: u32)
 }
 
 /// Passes the next datum along a level.
-fn pass_rung(frq: &[u8], term: &RuledTerm, level: u32, rung: &Rung, before: u32) -> Rung
+fn pass_datum(frq: &[u8], term: &RuledTerm, level: u32, place_before: &LevelPlace, before: u32) -> LevelPlace
     requires interval { 2 ≤ term.now.rules.skip_interval }
     requires level { level < count_of_levels term.now }
     requires within { before < term.now.info.doc_freq }
     requires multiple { (before + 1) % stride_of term.now level ≡ 0 }
-    requires on { IsOnLevel term.now (postings_from term.now (start_in term.now frq.now)) level (points_in term.now frq.now level) frq.now before rung.now }
+    requires on { IsOnLevel term.now (postings_from term.now (start_in term.now frq.now)) level (points_in term.now frq.now level) frq.now before place_before.now }
     ensures on { IsOnLevel term.now (postings_from term.now (start_in term.now frq.now)) level (points_in term.now frq.now level) frq.now (before + 1) result }
-    ensures fresh { IsFresh term.now frq.now level (before + 1) result.last }
+    ensures fresh { IsDatumOfLast term.now frq.now level (before + 1) result.last }
 {
     // Read here, so that its range is known, and with it that of the count of data.
     let _doc_freq = term.info.doc_freq;
     let mut following = Following {
-        cur: Cur::at(frq, rung.place),
-        count: rung.count,
-        last: rung.last,
+        cur: Cur::at(frq, place_before.place),
+        count: place_before.count,
+        last: place_before.last,
     };
     following.pass(term, level);
-    Rung {
+    LevelPlace {
         place: following.cur.place(),
         count: following.count,
         last: following.last,
@@ -112,7 +112,7 @@ fn pass_rung(frq: &[u8], term: &RuledTerm, level: u32, rung: &Rung, before: u32)
 const MOST_LEVELS: usize = 32;
 
 /// The places along the levels of a term, which are so many, at the start of each.
-fn first_rungs(frq: &[u8], term: &RuledTerm, count: u32, power: u64) -> [Rung; MOST_LEVELS]
+fn level_starts(frq: &[u8], term: &RuledTerm, count: u32, power: u64) -> [LevelPlace; MOST_LEVELS]
     requires good { IsGoodTerm term.now.info term.now.rules frq.now }
     requires count { count ≡ count_of_levels term.now }
     requires power { power ≡ term.now.rules.skip_interval ^ count }
@@ -120,9 +120,9 @@ fn first_rungs(frq: &[u8], term: &RuledTerm, count: u32, power: u64) -> [Rung; M
     ensures { AreOnLevels term.now frq.now 0 result }
 {
     let interval = u64::from(term.rules.skip_interval);
-    let mut rungs = [NO_RUNG; MOST_LEVELS];
+    let mut places = [NO_LEVEL_PLACE; MOST_LEVELS];
     if count == 0 {
-        return rungs;
+        return places;
     }
     let mut number = count;
     let mut stride = power;
@@ -130,7 +130,7 @@ fn first_rungs(frq: &[u8], term: &RuledTerm, count: u32, power: u64) -> [Rung; M
     while number > 0 {
         number -= 1;
         let start = data_start(frq, place, term, number, number + 1 == count);
-        rungs[number as usize] = Rung {
+        places[number as usize] = LevelPlace {
             place: start,
             count: 0,
             last: NO_POINT,
@@ -144,14 +144,14 @@ fn first_rungs(frq: &[u8], term: &RuledTerm, count: u32, power: u64) -> [Rung; M
         );
         stride /= interval;
     }
-    rungs
+    places
 }
 
 /// Passes the data that belong to the entry with an index, on the lowest levels; answers how many levels have one.
-fn climb(
+fn pass_data_of(
     frq: &[u8],
     term: &RuledTerm,
-    rungs: &mut [Rung; MOST_LEVELS],
+    places: &mut [LevelPlace; MOST_LEVELS],
     count: u32,
     index: u32,
 ) -> u32
@@ -160,9 +160,9 @@ fn climb(
     requires few { count < 32 }
     requires within { index < term.now.info.doc_freq }
     requires fits { index + 1 < 2 ^ 32 }
-    requires on { AreOnLevels term.now frq.now index rungs.old }
-    ensures on { AreOnLevels term.now frq.now (index + 1) rungs.new }
-    ensures low { (n : ℕ) → n < result → IsFresh term.now frq.now n (index + 1) (slice_index_or rungs.new n no_rung).last }
+    requires on { AreOnLevels term.now frq.now index places.old }
+    ensures on { AreOnLevels term.now frq.now (index + 1) places.new }
+    ensures low { (n : ℕ) → n < result → IsDatumOfLast term.now frq.now n (index + 1) (slice_index_or places.new n no_level_place).last }
     ensures high { (n : ℕ) → result ≤ n → (index + 1) % stride_of term.now n ≢ 0 ⊎ count_of_levels term.now ≤ n }
     ensures within { result ≤ count }
 {
@@ -170,7 +170,7 @@ fn climb(
     let mut level = 0;
     let mut quotient = index + 1;
     while level < count && quotient % interval == 0 {
-        rungs[level as usize] = pass_rung(frq, term, level, &rungs[level as usize], index);
+        places[level as usize] = pass_datum(frq, term, level, &places[level as usize], index);
         quotient /= interval;
         level += 1;
     }
@@ -188,15 +188,15 @@ pub struct Walk<'a> {
     fresh: u32,
     doc: u32,
     freq: u32,
-    rungs: [Rung; MOST_LEVELS],
+    places: [LevelPlace; MOST_LEVELS],
 }
 
 impl<'a> Model for Walk<'a> {
     ghost use Rattle.std.specs.Prelude.{◌≡◌, ◌≤◌, ◌<◌, ◌^◌, ℕ, length, slice_index_or};
     ghost use Rattle.lu_grammar.specs.Bytes.{IsBytes};
-    ghost use Rattle.freq_skips.specs.Entries.{AreGoodFrom, postings_from, Stands};
+    ghost use Rattle.freq_skips.specs.Entries.{AreGoodFrom, postings_from, IsBehindEntries};
     ghost use Rattle.freq_skips.specs.Levels.{level_count};
-    ghost use Rattle.freq_skips.specs.Walks.{WalkState, IsFresh, IsStale, StandsBefore, AreOnLevels, no_rung, start_in, value_from};
+    ghost use Rattle.freq_skips.specs.Walks.{WalkState, IsDatumOfLast, HasNoDatumForLast, IsBeforeLast, AreOnLevels, no_level_place, start_in, value_from};
 
     ghost Value = { WalkState };
 
@@ -211,14 +211,14 @@ impl<'a> Model for Walk<'a> {
       postings : (value_from w.term (start_in w.term w.frq.now)).postings ≡ postings_from w.term (start_in w.term w.frq.now);
       levels : w.count ≡ level_count w.term;
       few : w.count < 32;
-      stands : Stands w.term (start_in w.term w.frq.now) w.passing.index w.passing.doc w.passing.cur;
+      stands : IsBehindEntries w.term (start_in w.term w.frq.now) w.passing.index w.passing.doc w.passing.cur;
       within : w.passing.index ≤ w.term.info.doc_freq;
-      on : AreOnLevels w.term w.frq.now w.passing.index w.rungs;
+      on : AreOnLevels w.term w.frq.now w.passing.index w.places;
       fresh_within : w.fresh ≤ w.count;
-      low : (n : ℕ) → n < w.fresh → IsFresh w.term w.frq.now n w.passing.index (slice_index_or w.rungs n no_rung).last;
+      low : (n : ℕ) → n < w.fresh → IsDatumOfLast w.term w.frq.now n w.passing.index (slice_index_or w.places n no_level_place).last;
       some : 0 < w.fresh → 0 < w.passing.index;
-      high : (n : ℕ) → w.fresh ≤ n → n < level_count w.term → IsStale w.term n w.passing.index;
-      before : 0 < w.passing.index → StandsBefore w.term w.frq.now w.passing.index w.doc w.freq;
+      high : (n : ℕ) → w.fresh ≤ n → n < level_count w.term → HasNoDatumForLast w.term n w.passing.index;
+      before : 0 < w.passing.index → IsBeforeLast w.term w.frq.now w.passing.index w.doc w.freq;
     } };
 }
 
@@ -236,7 +236,7 @@ impl<'a> Walk<'a> {
         };
         let cur = Cur::at(frq, info.freq as usize);
         let (count, power) = level_count(&term);
-        let rungs = first_rungs(frq, &term, count, power);
+        let places = level_starts(frq, &term, count, power);
         Walk {
             frq,
             term,
@@ -249,12 +249,12 @@ impl<'a> Walk<'a> {
             fresh: 0,
             doc: 0,
             freq: 0,
-            rungs,
+            places,
         }
     }
 
     /// The next entry; `None` exactly at the end.
-    pub fn next(&mut self) -> Option<Walked>
+    pub fn next(&mut self) -> Option<WalkedEntry>
         ensures { MatchOption result
             ((self.old.passed ≡ length self.old.value.postings) × (self.new ≡ self.old))
             (λ walked. (self.old.passed < length self.old.value.postings) × (walked ≡ walked_at self.old.value self.old.passed) × (self.new ≡ record { term = self.old.term; value = self.old.value; passed = self.old.passed + 1 })) }
@@ -269,10 +269,10 @@ impl<'a> Walk<'a> {
             Err(_rule) => return None,
             Ok(entry) => entry,
         };
-        self.fresh = climb(self.frq, &self.term, &mut self.rungs, self.count, index);
+        self.fresh = pass_data_of(self.frq, &self.term, &mut self.places, self.count, index);
         self.doc = before;
         self.freq = place.saturating_sub(self.term.info.freq as usize) as u32;
-        Some(Walked {
+        Some(WalkedEntry {
             index,
             doc: entry.doc,
             freq: entry.freq,
@@ -287,7 +287,7 @@ impl<'a> Walk<'a> {
         if level >= self.fresh {
             return None;
         }
-        let last = &self.rungs[level as usize].last;
+        let last = &self.places[level as usize].last;
         Some(Datum {
             doc: self.doc,
             freq: self.freq,

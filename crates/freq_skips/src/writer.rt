@@ -2,9 +2,9 @@
 ghost use Rattle.std.specs.Prelude.{◌≡◌, ◌⊎◌, ◌<◌, ◌≤◌, ◌^◌, ◌+◌, ◌-◌, ◌*◌, ◌/◌, [], ◌++◌, length, OnOk, OnErr, slice_index_or, slice_index, false, None, Some, ◌==◌, if◌then◌else◌, IfSome, IfOk};
 ghost use Rattle.lu_grammar.specs.Bytes.{IsBytes};
 ghost use Rattle.lu_grammar.specs.Parts.{vlong};
-ghost use Rattle.freq_skips.specs.Written.{canonical_parts, entry_parts_bytes, last_doc, skip_between, front_bytes, no_mark, optional_bytes, with_length};
-ghost use Rattle.freq_skips.specs.InnerLevels.{marks_of, marked_bytes, marked_count, places_after, marked_levels, AreSmallMarks, AreSmallPlaces};
-ghost use Rattle.freq_skips.specs.Writing.{bytes_so_far, begun, added, skip_delta, finished};
+ghost use Rattle.freq_skips.specs.Written.{canonical_parts, entry_parts_bytes, last_doc, skip_between, bytes_to_child, no_mark, optional_bytes, with_level_length};
+ghost use Rattle.freq_skips.specs.InnerLevels.{marks_of_input, marked_bytes, marked_count, places_after, marked_levels, AreSmallMarks, AreSmallPlaces};
+ghost use Rattle.freq_skips.specs.Writing.{bytes_so_far, entries_begun, entry_added, skip_delta, finished};
 
 use crate::datum::Skip;
 use crate::level::greatest_power;
@@ -98,7 +98,7 @@ fn skip_to(payloads: bool, from: &Mark, to: &Mark, child: Option<u64>) -> Skip
 /// Appends a datum up to its child pointer. It states no payload length.
 fn put_front(out: &mut Vec<u8>, skip: &Skip) -> Result<(), OutOfMemory>
     requires { skip.now.payload ≡ None }
-    ensures { OnOk result (out.new.items ≡ out.old.items ++ front_bytes skip.now) }
+    ensures { OnOk result (out.new.items ≡ out.old.items ++ bytes_to_child skip.now) }
 {
     put_vint(out, skip.doc)?;
     put_vint(out, skip.freq)?;
@@ -165,8 +165,8 @@ fn written_level(alloc: Global, level: &LevelInput<'_>) -> Result<WrittenLevel, 
     requires small { AreSmallMarks level.now.marks.now }
     requires pointers { level.now.number ≡ 0 ⊎ length level.now.marks.now / level.now.step ≤ length level.now.children.now }
     requires small_pointers { AreSmallPlaces level.now.children.now }
-    ensures bytes { IfOk result (λ written. written.bytes.items ≡ marked_bytes (marks_of level.now) (marked_count (marks_of level.now))) }
-    ensures places { IfOk result (λ written. written.places.items ≡ places_after (marks_of level.now) (marked_count (marks_of level.now))) }
+    ensures bytes { IfOk result (λ written. written.bytes.items ≡ marked_bytes (marks_of_input level.now) (marked_count (marks_of_input level.now))) }
+    ensures places { IfOk result (λ written. written.places.items ≡ places_after (marks_of_input level.now) (marked_count (marks_of_input level.now))) }
     ensures small { IfOk result (λ written. AreSmallPlaces written.places.items) }
 {
     let mut bytes = Vec::new(alloc);
@@ -192,7 +192,7 @@ fn written_level(alloc: Global, level: &LevelInput<'_>) -> Result<WrittenLevel, 
 /// Appends the data of a level with a number, after their length where it is not the lowest.
 fn put_with_length(out: &mut Vec<u8>, number: u32, bytes: &[u8]) -> Result<(), OutOfMemory>
     requires { length bytes.now < 2 ^ 63 }
-    ensures { OnOk result (out.new.items ≡ out.old.items ++ with_length number bytes.now) }
+    ensures { OnOk result (out.new.items ≡ out.old.items ++ with_level_length number bytes.now) }
 {
     if number > 0 {
         put_vlong(out, bytes.len() as u64)?;
@@ -215,7 +215,7 @@ fn put_levels(
     requires small_pointers { AreSmallPlaces level.now.children.now }
     requires steps { left ≡ 0 ⊎ level.now.step * level.now.interval ^ (left - 1) ≤ 2 ^ 32 }
     requires fits { level.now.number + left < 2 ^ 32 }
-    ensures { OnOk result (out.new.items ≡ out.old.items ++ marked_levels left (marks_of level.now)) }
+    ensures { OnOk result (out.new.items ≡ out.old.items ++ marked_levels left (marks_of_input level.now)) }
 {
     if left == 0 {
         return Ok(());
@@ -323,7 +323,7 @@ impl FreqWriter {
         requires none { self.old.entries ≡ [] }
         requires room { length self.old.bytes < 2 ^ 31 }
         ensures place { result ≡ length self.old.bytes }
-        ensures begun { self.new ≡ begun self.old omit_tf payloads }
+        ensures begun { self.new ≡ entries_begun self.old omit_tf payloads }
     {
         self.omit_tf = omit_tf;
         self.payloads = payloads;
@@ -337,7 +337,7 @@ impl FreqWriter {
         requires doc_small { doc < 2 ^ 31 }
         requires some { 1 ≤ freq }
         requires freq_small { freq < 2 ^ 31 }
-        ensures ok { OnOk result (self.new ≡ added self.old (record { doc = doc; freq = freq; prox = prox })) }
+        ensures ok { OnOk result (self.new ≡ entry_added self.old (record { doc = doc; freq = freq; prox = prox })) }
         ensures err { OnErr result (self.new ≡ self.old) }
     {
         let before = self.bytes.len();

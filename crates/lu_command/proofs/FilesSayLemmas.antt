@@ -12,10 +12,11 @@ use Rattle.lu_types.specs.Judging.{IsFirstFault}
 use Rattle.lu_types.proofs.FileLaws.{one_meaning, no_fault_if_they_stand, one_fault_among, made_of_bytes}
 use Rattle.lu_types.specs.declared.kind.FileKind.TheVariants.{Fnm, Fdx, Fdt}
 use Rattle.lu_types.specs.declared.fault.Spot.{Spot}
+use Rattle.lu_types.specs.Stores.{whole_store, windowed}
 use Rattle.field_infos.specs.Fnm.{fnm_plan}
 use Rattle.stored_fields.specs.Places.{fdx_plan}
 use Rattle.stored_fields.specs.Documents.{fdt_plan}
-use Rattle.stored_fields.specs.Stores.{total_of, whole_store, windowed, own_files, all_files}
+use Rattle.stored_fields.specs.Stores.{total_of, own_files, all_files}
 use Rattle.lu_command.specs.declared.outcome.Outcome.{Outcome}
 use Rattle.lu_command.specs.Texts.{field_lines, doc_lines}
 use Rattle.lu_folder.specs.Limits.{file_limit}

@@ -13,7 +13,7 @@ use Rattle.lu_types.specs.declared.stored.Stored.{Stored}
 use Rattle.lu_types.specs.declared.stored.Stored.TheVariants as values
 use Rattle.hex.specs.Hex.{encode_lower}
 use Rattle.lu_types.specs.StoredFields.{StoredField}
-use Rattle.stored_fields.specs.Values.{Document}
+use Rattle.stored_fields.specs.Values.{StoredDocument}
 use Rattle.std.specs.List.{flat_map}
 use Rattle.std.specs.Prelude.{Bool, true, false}
 
@@ -87,9 +87,9 @@ abbrev pub stored_line : StoredField → List ℕ
 stored_line stored = line (codes "stored" ▹ decimal stored.field ▹ flag_digit stored.tokenized ▹ value_text stored.value)
 
 -- the lines of a document: its number, and its stored values
-abbrev pub doc_text : ℕ → Document → List ℕ
+abbrev pub doc_text : ℕ → StoredDocument → List ℕ
 doc_text number document = line (codes "doc" ▹ decimal number) ++ flat_map stored_line document
 
 -- the lines of documents, numbered from here on
-abbrev pub doc_lines : ℕ → List Document → List ℕ
+abbrev pub doc_lines : ℕ → List StoredDocument → List ℕ
 doc_lines number documents = numbered doc_text number documents

@@ -5,14 +5,14 @@ use std::alloc::Global;
 use std::test::Fail;
 
 // A commit of the segment `_0` with one document.
-const ONE: &[u8] =
+pub(crate) const ONE: &[u8] =
     b"\xFF\xFF\xFF\xF7\x00\x00\x00\x00\x00\x00\x00\x01\x00\x00\x00\x01\x00\x00\x00\x01\x02\
     _0\x00\x00\x00\x01\xFF\xFF\xFF\xFF\xFF\xFF\xFF\xFF\xFF\xFF\xFF\xFF\x01\xFF\xFF\xFF\
     \xFF\xFF\x00\x00\x00\x00\x01\x00\x00\x00\x01\x06source\x05flush\x00\x00\x00\x00\x00\
     \x00\x00\x00\xF1*\x80`";
 
 // A commit without segments.
-const NONE: &[u8] =
+pub(crate) const NONE: &[u8] =
     b"\xFF\xFF\xFF\xF7\x00\x00\x00\x00\x00\x00\x00\x01\x00\x00\x00\x00\x00\x00\x00\x00\x00\
     \x00\x00\x00\x00\x00\x00\x00\x07\x9B/\x0C";
 
@@ -47,7 +47,7 @@ const TWO: &[u8] =
     \xAFb\x8B";
 
 // A commit of the segment `_0` without documents.
-const EMPTY: &[u8] =
+pub(crate) const EMPTY: &[u8] =
     b"\xFF\xFF\xFF\xF7\x00\x00\x00\x00\x00\x00\x00\x01\x00\x00\x00\x01\x00\x00\x00\x01\x02\
     _0\x00\x00\x00\x00\xFF\xFF\xFF\xFF\xFF\xFF\xFF\xFF\xFF\xFF\xFF\xFF\x01\xFF\xFF\xFF\
     \xFF\xFF\x00\x00\x00\x00\x01\x00\x00\x00\x01\x06source\x05flush\x00\x00\x00\x00\x00\
@@ -68,7 +68,7 @@ const DELETED: &[u8] =
     \x00\x00\xAA\xBA\xDE\xDC";
 
 // The files of a segment with one document, whose only indexed field has norms and a vector.
-const FILES: [(&str, &[u8]); 11] = [
+pub(crate) const FILES: [(&str, &[u8]); 11] = [
     (
         "_0.fnm",
         b"\xFE\xFF\xFF\xFF\x0F\x02\x05title\x10\x04body\x0F",
@@ -101,7 +101,7 @@ const FILES: [(&str, &[u8]); 11] = [
 ];
 
 // A folder with those files and this commit.
-fn folder(alloc: Global, commit: &[u8]) -> Result<MemDir, OutOfMemory> {
+pub(crate) fn folder(alloc: Global, commit: &[u8]) -> Result<MemDir, OutOfMemory> {
     let mut dir = MemDir::new(alloc);
     for (name, bytes) in FILES {
         dir.put(name, bytes)?;

@@ -24,6 +24,8 @@ pub use outcome::{Effect, Outcome};
 pub use status::{Refusal, Status, Which};
 
 #[cfg(test)]
+mod check_row_tests;
+#[cfg(test)]
 mod check_tests;
 #[cfg(test)]
 mod docs_tests;

@@ -9,8 +9,8 @@ use Rattle.std.proofs.lemmas.List.Sums.{fold-append}
 use Rattle.lu_dir.specs.Loading.{texts}
 use Rattle.lu_dir.proofs.Loads.{texts-more}
 use Rattle.segment_infos.specs.declared.naming.LuceneName.{LuceneName}
-use Rattle.segment_infos.specs.LuceneNames.{Spells, IsLuceneName, name_in}
-use Rattle.segment_infos.proofs.NameSpelled.{name_in-Spells, TellsName-name_in}
+use Rattle.segment_infos.specs.LuceneNames.{SpellsName, IsLuceneName, lucene_name_in}
+use Rattle.segment_infos.proofs.NameSpelled.{lucene_name_in-SpellsName, TellsName-lucene_name_in}
 use Rattle.lu_folder.specs.declared.numbering.Counted.{Counted}
 use Rattle.lu_folder.specs.Numbers.{above}
 use Rattle.lu_folder.specs.Counting.{counted_number, counted_number_in, drawn}
@@ -35,9 +35,9 @@ drawn-more counted least names place text name found within at named is =
     ∙ above-last least found (filter_map (counted_number_in counted) (texts (take place names)))
 
 -- the number of a text that is a name
-pub counted_number_in-name : (counted : Counted) (text : List ℕ) (name : LuceneName) (number : Option ℕ) → Spells text name → number ≡ counted_number counted name → number ≡ counted_number_in counted text
-counted_number_in-name counted text name number spells is = is ∙ sym (ap (option_and_then (counted_number counted)) (name_in-Spells text name spells))
+pub counted_number_in-name : (counted : Counted) (text : List ℕ) (name : LuceneName) (number : Option ℕ) → SpellsName text name → number ≡ counted_number counted name → number ≡ counted_number_in counted text
+counted_number_in-name counted text name number spells is = is ∙ sym (ap (option_and_then (counted_number counted)) (lucene_name_in-SpellsName text name spells))
 
 -- that of one that is none
 pub counted_number_in-none : (counted : Counted) (text : List ℕ) → ¬ IsLuceneName text → None ≡ counted_number_in counted text
-counted_number_in-none counted text none = sym (ap (option_and_then (counted_number counted)) (sym (TellsName-name_in text None none)))
+counted_number_in-none counted text none = sym (ap (option_and_then (counted_number counted)) (sym (TellsName-lucene_name_in text None none)))

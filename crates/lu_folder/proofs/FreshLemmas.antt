@@ -11,11 +11,11 @@ use Rattle.segment_infos.specs.declared.infos.SegInfo.{SegInfo}
 use Rattle.segment_infos.specs.declared.naming.LuceneName.{LuceneName}
 use Rattle.segment_infos.specs.declared.naming.LuceneName.TheVariants.{Commit, Part, Del, Sep}
 use Rattle.segment_infos.specs.Generations.{generation_of}
-use Rattle.segment_infos.specs.LuceneNames.{IsGenerationNumber, IsName, Spells, name_spelling, name_in}
+use Rattle.segment_infos.specs.LuceneNames.{IsGenerationNumber, IsName, SpellsName, name_spelling, lucene_name_in}
 use Rattle.segment_infos.specs.Referring.{line_names, referred_names}
 use Rattle.segment_infos.specs.Parsing.{IsFile}
 use Rattle.segment_infos.specs.Values.{CommitValue}
-use Rattle.segment_infos.proofs.NameSpelled.{name_in-Spells}
+use Rattle.segment_infos.proofs.NameSpelled.{lucene_name_in-SpellsName}
 use Rattle.lu_folder.specs.declared.new_file.NewFile.{NewFile}
 use Rattle.lu_folder.specs.ChangeValues.{ChangeValue, commit_name}
 use Rattle.lu_folder.specs.Changes.{pending_file, written}
@@ -33,7 +33,7 @@ use Rattle.lu_folder.proofs.SameName.{Contains-only, only-is}
 pub listed-below : (counted_number : LuceneName → Option ℕ) (least : ℕ) (names : List (List ℕ)) (name : LuceneName) (n : ℕ) → IsName name → counted_number name ≡ Some n → Contains names (name_spelling name) → n < above least (numbers_in counted_number names)
 listed-below counted_number least names name n valid is among =
     above-each least (numbers_in counted_number names) n
-    (filter_map-Contains (λ (text : List ℕ). option_and_then counted_number (name_in text)) names (name_spelling name) n among (ap (option_and_then counted_number) (name_in-Spells (name_spelling name) name (valid, refl)) ∙ is))
+    (filter_map-Contains (λ (text : List ℕ). option_and_then counted_number (lucene_name_in text)) names (name_spelling name) n among (ap (option_and_then counted_number) (lucene_name_in-SpellsName (name_spelling name) name (valid, refl)) ∙ is))
 
 -- a generation from the drawn one on is that of no listed commit
 pub generation-unlisted : (names : List (List ℕ)) (number later : ℕ) → next_generation names ≡ Some number → number ≤ later → later < 2 ^ 63 → ¬ Contains names (commit_name later)
@@ -131,7 +131,7 @@ pub drawn-fresh : (files : Files) (names : List (List ℕ)) (change : ChangeValu
 drawn-fresh files names change all drawn new among = record {
   absent = λ file there. unnamed-none files names all file.name (new.unlisted file there);
   greatest = λ generation le bound. unnamed-none files names all (commit_name generation) (generation-unlisted names change.generation generation drawn le bound);
-  no_commit = λ file there generation same. let (name, spells, is) : (name : LuceneName) × Spells file.name name × IsFile name = new.named file there in file-no_commit name (file-segment name is).0 generation (file-segment name is).1 (sym spells.1 ∙ same);
+  no_commit = λ file there generation same. let (name, spells, is) : (name : LuceneName) × SpellsName file.name name × IsFile name = new.named file there in file-no_commit name (file-segment name is).0 generation (file-segment name is).1 (sym spells.1 ∙ same);
   one = new.one;
   kept = λ file there removed. by_part file (Contains-append_cases change.files (pending_file change ∷ []) file there) (among file.name removed);
 }

@@ -15,9 +15,9 @@ use Rattle.lu_dir.specs.Files.{Files, contents}
 use Rattle.lu_dir.proofs.Contents.{bytes_eq-same}
 use Rattle.segment_infos.specs.declared.naming.LuceneName.{LuceneName}
 use Rattle.segment_infos.specs.declared.naming.LuceneName.TheVariants.{Commit, Part, Del, Sep}
-use Rattle.segment_infos.specs.LuceneNames.{IsGenerationNumber, name_in}
+use Rattle.segment_infos.specs.LuceneNames.{IsGenerationNumber, lucene_name_in}
 use Rattle.segment_infos.specs.Generations.{generation_of, generation_named, generation_in, listed_generations, AreGenerations}
-use Rattle.segment_infos.proofs.NameSpelled.{name_in-Spells, Spells-name_in}
+use Rattle.segment_infos.proofs.NameSpelled.{lucene_name_in-SpellsName, SpellsName-lucene_name_in}
 use Rattle.lu_folder.specs.ChangeValues.{commit_name}
 use Rattle.lu_folder.specs.Commits.{commit_file, HasCommitFile}
 
@@ -80,10 +80,10 @@ generation-named None generation is = absurd (cc)
 generation-named (Some name) generation is = ap Some (generation-of name generation is)
 
 pub generation_in-commit : (text : List ℕ) (generation : ℕ) → generation_in text ≡ Some generation → IsGenerationNumber generation × (text ≡ commit_name generation)
-generation_in-commit text generation is = Spells-name_in text (Commit generation) (generation-named (name_in text) generation is)
+generation_in-commit text generation is = SpellsName-lucene_name_in text (Commit generation) (generation-named (lucene_name_in text) generation is)
 
 pub commit-generation_in : (generation : ℕ) → IsGenerationNumber generation → generation_in (commit_name generation) ≡ Some generation
-commit-generation_in generation valid = ap generation_named (name_in-Spells (commit_name generation) (Commit generation) (valid, refl))
+commit-generation_in generation valid = ap generation_named (lucene_name_in-SpellsName (commit_name generation) (Commit generation) (valid, refl))
 
 module _ (files : Files) (names : List (List ℕ)) (all : IsPermutation (keys files) names) where
   -- a file is there exactly where its name is listed

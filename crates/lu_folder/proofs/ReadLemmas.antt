@@ -16,11 +16,12 @@ use Rattle.lu_dir.specs.Files.{Files}
 use Rattle.lu_dir.specs.Loading.{first_over, texts}
 use Rattle.std.specs.declared.string.String.{String}
 use Rattle.std.specs.declared.alloc.Global.{Global}
+use Rattle.lu_types.specs.Kinds.{front_kinds, vector_kinds}
 use Rattle.segment_infos.specs.LuceneNames.{IsName, name_spelling}
 use Rattle.segment_infos.specs.Referring.{del_names, sep_names, sep_names_from, norm_names}
 use Rattle.segment_infos.specs.Values.{IsGeneration, IsStore, IsNormGen, AreNormGens, IsLine}
 use Rattle.segment_infos.proofs.KeptNames.{all-append}
-use Rattle.lu_folder.specs.Reading.{own_part, packed_store, document_part, holder, parts_read, front_kinds, vector_kinds, read_names, kind_of_name, first_too_large}
+use Rattle.lu_folder.specs.Reading.{own_part, packed_store, document_part, holder, parts_read, read_names, kind_of_name, first_too_large}
 use Rattle.lu_folder.specs.Limits.{file_limit}
 
 -- one kind more

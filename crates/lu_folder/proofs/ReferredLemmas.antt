@@ -9,7 +9,7 @@ use Rattle.segment_infos.specs.declared.infos.SegInfo.{SegInfo}
 use Rattle.segment_infos.specs.declared.naming.LuceneName.{LuceneName}
 use Rattle.segment_infos.specs.declared.naming.LuceneName.TheVariants.{Commit, Part, Del, Sep}
 use Rattle.segment_infos.specs.LuceneNames.{name_spelling}
-use Rattle.segment_infos.specs.Referring.{document_kinds, index_kinds, parts, own_parts, store_parts, del_names, sep_names, sep_names_from, norm_names, line_names}
+use Rattle.segment_infos.specs.Referring.{document_kinds, index_kinds, names_of_parts, own_part_names, store_part_names, del_names, sep_names, sep_names_from, norm_names, line_names}
 use Rattle.lu_folder.specs.ChangeValues.{commit_name}
 use Rattle.lu_folder.specs.Numbers.{segment_of_name}
 use Rattle.lu_folder.specs.Drawing.{store_numbers, line_numbers}
@@ -39,9 +39,9 @@ AreOf-one : (numbers : List ℕ) (name : LuceneName) (number : ℕ) → segment_
 unfolding AreOf IsOf
 AreOf-one numbers name number is among other here = (number, ap segment_of_name (sym (only-is name other here)) ∙ is, among)
 
-AreOf-parts : (numbers : List ℕ) (number : ℕ) (some : List FileKind) → Contains numbers number → AreOf numbers (parts number some)
-AreOf-parts numbers number [] among = AreOf-none numbers
-AreOf-parts numbers number (kind ∷ some) among = AreOf-append numbers (Part number kind ∷ []) (parts number some) (AreOf-one numbers (Part number kind) number refl among) (AreOf-parts numbers number some among)
+AreOf-names_of_parts : (numbers : List ℕ) (number : ℕ) (some : List FileKind) → Contains numbers number → AreOf numbers (names_of_parts number some)
+AreOf-names_of_parts numbers number [] among = AreOf-none numbers
+AreOf-names_of_parts numbers number (kind ∷ some) among = AreOf-append numbers (Part number kind ∷ []) (names_of_parts number some) (AreOf-one numbers (Part number kind) number refl among) (AreOf-names_of_parts numbers number some among)
 
 AreOf-seps : (numbers : List ℕ) (number field : ℕ) (generations : List ℤ) → Contains numbers number → AreOf numbers (sep_names_from number field generations)
 AreOf-seps numbers number field [] among = AreOf-none numbers
@@ -60,16 +60,16 @@ AreOf-del : (numbers : List ℕ) (number : ℕ) (generation : Option ℕ) → Co
 AreOf-del numbers number None among = AreOf-none numbers
 AreOf-del numbers number (Some generation) among = AreOf-one numbers (Del number generation) number refl among
 
-AreOf-store : (numbers : List ℕ) (store : Option SharedStore) → ((s : SharedStore) → store ≡ Some s → Contains numbers s.number) → AreOf numbers (store_parts store)
+AreOf-store : (numbers : List ℕ) (store : Option SharedStore) → ((s : SharedStore) → store ≡ Some s → Contains numbers s.number) → AreOf numbers (store_part_names store)
 AreOf-store numbers None among = AreOf-none numbers
-AreOf-store numbers (Some store) among = AreOf-parts numbers store.number (cond store.compound (kinds.Cfx ∷ []) document_kinds) (among store refl)
+AreOf-store numbers (Some store) among = AreOf-names_of_parts numbers store.number (cond store.compound (kinds.Cfx ∷ []) document_kinds) (among store refl)
 
 -- the line of a segment refers to files of its own number and of its store's
 AreOf-line : (line : SegInfo) → AreOf (line_numbers line) (line_names line)
 AreOf-line line =
     let numbers : List ℕ = line_numbers line in
-    AreOf-append numbers (own_parts line) (store_parts line.store ++ (del_names line.number line.del_gen ++ norm_names line.number line.norm_gens)) (AreOf-parts numbers line.number _ own)
-    (AreOf-append numbers (store_parts line.store) (del_names line.number line.del_gen ++ norm_names line.number line.norm_gens) (AreOf-store numbers line.store (λ s is. store (line.store) s is))
+    AreOf-append numbers (own_part_names line) (store_part_names line.store ++ (del_names line.number line.del_gen ++ norm_names line.number line.norm_gens)) (AreOf-names_of_parts numbers line.number _ own)
+    (AreOf-append numbers (store_part_names line.store) (del_names line.number line.del_gen ++ norm_names line.number line.norm_gens) (AreOf-store numbers line.store (λ s is. store (line.store) s is))
     (AreOf-append numbers (del_names line.number line.del_gen) (norm_names line.number line.norm_gens) (AreOf-del numbers line.number line.del_gen own) (AreOf-norms numbers line.number line.norm_gens own)))
   where
     own : Contains (line_numbers line) line.number

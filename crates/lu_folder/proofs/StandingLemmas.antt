@@ -9,8 +9,8 @@ use Rattle.lu_dir.specs.Files.{Files, contents}
 use Rattle.lu_dir.proofs.Contents.{bytes_eq-same}
 use Rattle.segment_infos.specs.declared.naming.LuceneName.{LuceneName}
 use Rattle.segment_infos.specs.declared.naming.LuceneName.TheVariants.{Commit}
-use Rattle.segment_infos.specs.LuceneNames.{name_spelling, name_in}
-use Rattle.segment_infos.specs.Referring.{KeptValue, names_kept_by, kept_names, is_among, is_removable, removable, referred_names}
+use Rattle.segment_infos.specs.LuceneNames.{name_spelling, lucene_name_in}
+use Rattle.segment_infos.specs.Referring.{KeptValue, names_kept_by, kept_names, is_spelled_among, is_removable, removable, referred_names}
 use Rattle.segment_infos.specs.Values.{CommitValue}
 use Rattle.lu_folder.specs.declared.new_file.NewFile.{NewFile}
 use Rattle.lu_folder.specs.ChangeValues.{ChangeValue, commit_name}
@@ -41,13 +41,13 @@ kept-names (first ∷ rest) one name there among = by_place there (λ later. kep
     by_place (zero, within, is) later = Contains-append_left (names_kept_by first) (kept_names rest) name (subst (λ (k : KeptValue). Contains (names_kept_by k) name) (sym is) among)
     by_place (suc k, within, is) later = Contains-append_right (names_kept_by first) (kept_names rest) name (later (k, omega arith, is))
 
-among-true : (names : List LuceneName) (name : LuceneName) → Contains names name → is_among names (name_spelling name) ≡ true
+among-true : (names : List LuceneName) (name : LuceneName) → Contains names name → is_spelled_among names (name_spelling name) ≡ true
 among-true names name (k, within, is) = list_any_at (λ (other : LuceneName). bytes_eq (name_spelling name) (name_spelling other)) names k name within (ap (λ (other : LuceneName). bytes_eq (name_spelling name) (name_spelling other)) is ∙ bytes_eq-same (name_spelling name))
 
 -- it is not removable
 pub kept-not_removable : (kept : List KeptValue) (one : KeptValue) (names : List (List ℕ)) (name : LuceneName) → Contains kept one → Contains (names_kept_by one) name → ¬ Contains (removable kept names) (name_spelling name)
 kept-not_removable kept one names name there among removed =
-    refused (is_some (name_in (name_spelling name))) (is_among (kept_names kept) (name_spelling name)) (among-true (kept_names kept) name (kept-names kept one name there among)) (Contains-filter (is_removable kept) names (name_spelling name) removed).1
+    refused (is_some (lucene_name_in (name_spelling name))) (is_spelled_among (kept_names kept) (name_spelling name)) (among-true (kept_names kept) name (kept-names kept one name there among)) (Contains-filter (is_removable kept) names (name_spelling name) removed).1
   where
     refused : (a b : Bool) → b ≡ true → (a && not b) ≡ true → ⊥
     refused true true is both = cc

@@ -6,13 +6,13 @@ use Rattle.lu_types.specs.Names.{greatest_segment}
 use Rattle.segment_infos.specs.declared.infos.SegInfo.{SegInfo}
 use Rattle.segment_infos.specs.declared.naming.LuceneName.{LuceneName}
 use Rattle.segment_infos.specs.Generations.{generation_of}
-use Rattle.segment_infos.specs.LuceneNames.{name_in}
+use Rattle.segment_infos.specs.LuceneNames.{lucene_name_in}
 use Rattle.segment_infos.specs.Values.{CommitValue}
 use Rattle.lu_folder.specs.Numbers.{above, if_below, segment_of_name, del_generation_of}
 
 -- the numbers of the names that have one
 abbrev pub numbers_in : (LuceneName → Option ℕ) → List (List ℕ) → List ℕ
-numbers_in counted_number names = filter_map (λ text. option_and_then counted_number (name_in text)) names
+numbers_in counted_number names = filter_map (λ text. option_and_then counted_number (lucene_name_in text)) names
 
 -- the generation of the next commit: above all listed ones, and at least 1; none where that is no generation
 abbrev pub next_generation : List (List ℕ) → Option ℕ

@@ -1,9 +1,10 @@
 -- The files that are read for a segment, in the order in which files are checked (docs/FORMAT.md, "Commits in a folder").
-use Rattle.std.specs.Prelude.{ℕ, List, [], ◌∷◌, ◌++◌, map, Option, Some, None, if◌then◌else◌, option_map, option_and_then, slice_get}
+use Rattle.std.specs.Prelude.{ℕ, List, ◌++◌, map, Option, Some, None, if◌then◌else◌, option_map, option_and_then, slice_get}
 use Rattle.std.specs.List.{filter_map}
 use Rattle.lu_types.specs.declared.kind.FileKind.{FileKind}
 use Rattle.lu_types.specs.declared.kind.FileKind.TheVariants as kinds
 use Rattle.lu_types.specs.declared.stored.SharedStore.{SharedStore}
+use Rattle.lu_types.specs.Kinds.{front_kinds, vector_kinds}
 use Rattle.lu_dir.specs.Files.{Files}
 use Rattle.lu_dir.specs.Loading.{first_over}
 use Rattle.segment_infos.specs.declared.infos.SegInfo.{SegInfo}
@@ -49,15 +50,6 @@ holder line kinds.Tvf = document_part line.store (own_part line)
 -- the parts of these kinds that are read
 abbrev pub parts_read : SegInfo → List FileKind → List LuceneName
 parts_read line some = filter_map (λ kind. option_map (λ number. Part number kind) (holder line kind)) some
-
--- the kinds of parts up to the norms, and those behind the deleted documents
-abbrev pub front_kinds : List FileKind
-front_kinds =
-    kinds.Cfs ∷ kinds.Cfx ∷ kinds.Fnm ∷ kinds.Fdx ∷ kinds.Fdt
-    ∷ kinds.Tis ∷ kinds.Tii ∷ kinds.Frq ∷ kinds.Prx ∷ kinds.Nrm ∷ []
-
-abbrev pub vector_kinds : List FileKind
-vector_kinds = kinds.Tvx ∷ kinds.Tvd ∷ kinds.Tvf ∷ []
 
 -- the names of the files that are read for a segment
 abbrev pub read_names : SegInfo → List LuceneName

@@ -15,26 +15,9 @@ use crate::choosing::FILE_LIMIT;
 use crate::fault::FolderFault;
 use lu_dir::{Dir, LoadFault, Loaded, load};
 use lu_prims::OutOfMemory;
-use lu_types::{FileKind, SharedStore};
+use lu_types::{FRONT_KINDS, FileKind, SharedStore, VECTOR_KINDS};
 use segment_infos::{LuceneName, NormGens, SegInfo, name_text};
 use std::alloc::Global;
-
-/// The kinds of the parts up to the norms, in the order in which files are checked.
-const FRONT_KINDS: [FileKind; 10] = [
-    FileKind::Cfs,
-    FileKind::Cfx,
-    FileKind::Fnm,
-    FileKind::Fdx,
-    FileKind::Fdt,
-    FileKind::Tis,
-    FileKind::Tii,
-    FileKind::Frq,
-    FileKind::Prx,
-    FileKind::Nrm,
-];
-
-/// The kinds of the parts behind the deleted documents.
-const VECTOR_KINDS: [FileKind; 3] = [FileKind::Tvx, FileKind::Tvd, FileKind::Tvf];
 
 /// The number of a segment that has its own parts outside a compound file.
 fn own_part(info: &SegInfo) -> Option<u32>

@@ -13,4 +13,6 @@ pub mod Conditions
 pub mod WasRead
 pub mod FileEnds
 pub mod Turns
+pub mod FixedLemmas
+pub mod SplitRecords
 pub mod Codecs

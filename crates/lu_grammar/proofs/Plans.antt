@@ -3,7 +3,7 @@ use Rattle.std.proofs.Common.{◌≡◌, ℕ, ◌+◌, ◌≤◌, List, [], ◌�
 use Rattle.std.specs.Prelude.{MatchResult}
 use Rattle.std.proofs.lemmas.List.{length-append, append_cancel_right}
 use Rattle.lu_grammar.specs.Bytes.{IsBytes, Cursor}
-use Rattle.lu_grammar.specs.Reading.{◌>>=◌}
+use Rattle.lu_grammar.specs.Reading.{◌>>=◌, value_or}
 use Rattle.lu_grammar.specs.Records.{Shape, Condition, Breaks, record_at}
 use Rattle.lu_grammar.specs.Plans.{Plan, done, due, Broken, broken_at, read_plan}
 use Rattle.lu_grammar.specs.Meaning.{Spelled, bytes_of, IsGood, AreGood, due_after, ReadsTo, BreaksHere, FaultFrom}
@@ -101,6 +101,10 @@ read_plan-judges {V} {R} (due shape conditions after) c fits =
 
 abbrev pub ok_of : {A E : Type 0} → A → Result A E
 ok_of x = Ok x
+
+-- a result that is some value is its value
+pub settled : {V E : Type 0} (other v : V) (r : Result V E) → r ≡ ok_of v → r ≡ Ok (value_or other r)
+settled other v r e = e ∙ ap ok_of (sym (ap (value_or other) e))
 
 abbrev pub err_of : {A E : Type 0} → E → Result A E
 err_of e = Err e

@@ -5,7 +5,7 @@ use Rattle.lu_grammar.specs.Bytes.{Cursor}
 use Rattle.lu_grammar.specs.Parts.{Part, Value}
 use Rattle.lu_grammar.specs.Reading.{◌>>=◌, read_part}
 use Rattle.lu_grammar.specs.Records.{Shape, whole, part, Condition, first_broken, rule_of, read_shape, unless_broken, judged, record_at}
-use Rattle.lu_grammar.specs.Plans.{Plan, due, Broken, broken_at, read_plan}
+use Rattle.lu_grammar.specs.Plans.{Plan, due, broken_at, read_plan}
 use Rattle.lu_grammar.proofs.Records.{read_shape-part, read_shape-part_err, record_at-read, record_at-breaks, record_at-unread, ok_pair, same_pair}
 use Rattle.lu_grammar.proofs.Plans.{ok_of, err_is_not_ok}
 

@@ -16,7 +16,7 @@ use Rattle.lu_input.specs.declared.fault.LineFault.{LineFault}
 use Rattle.lu_input.specs.declared.fault.InputFault.{InputFault}
 use Rattle.lu_input.specs.declared.fault.InputFault.TheVariants.{Line, OutOfMemory}
 use Rattle.lu_input.specs.Answers.{Appends}
-use Rattle.lu_input.specs.Lines.{json_of, lines_after, before_all, and_then, numbered, line_document, line_found, documents_from, input_documents}
+use Rattle.lu_input.specs.Lines.{json_of, lines_after, before_all, before_the_rest, numbered_line, line_document, line_found, documents_from, input_documents}
 
 -- the lines before the byte at `start` were read; a line begins there, and reaches at least up to `place`
 abbrev pub ReadLines : Limits → List ℕ → List Document → ℕ → ℕ → ℕ → Type 0
@@ -31,21 +31,21 @@ before_twice : (docs more : List Document) (r : Result (List Document) InputFaul
 before_twice docs more (Ok rest) = ap (λ ds. Ok ds) (sym (append_assoc docs more rest))
 before_twice docs more (Err fault) = refl
 
-found_at : (number : ℕ) (judged : Result Document LineFault) (found : Option Document) (rest : Result (List Document) InputFault) → numbered number judged ≡ Ok found → and_then number judged rest ≡ before_all (option_to_list found) rest
+found_at : (number : ℕ) (judged_line : Result Document LineFault) (found : Option Document) (rest : Result (List Document) InputFault) → numbered_line number judged_line ≡ Ok found → before_the_rest number judged_line rest ≡ before_all (option_to_list found) rest
 found_at number (Ok doc) found rest e = ap (λ (o : Option Document). before_all (option_to_list o) rest) same
   where
     same : Some doc ≡ found
     same = cc
 found_at number (Err fault) found rest e = absurd (cc)
 
-fault_at : (number : ℕ) (judged : Result Document LineFault) (fault : InputFault) (rest : Result (List Document) InputFault) → numbered number judged ≡ Err fault → and_then number judged rest ≡ Err fault
+fault_at : (number : ℕ) (judged_line : Result Document LineFault) (fault : InputFault) (rest : Result (List Document) InputFault) → numbered_line number judged_line ≡ Err fault → before_the_rest number judged_line rest ≡ Err fault
 fault_at number (Ok doc) fault rest e = absurd (cc)
 fault_at number (Err told) fault rest e = same
   where
     bare : Line number told ≡ fault
     bare = cc
 
-    same : and_then number (Err told) rest ≡ Err fault
+    same : before_the_rest number (Err told) rest ≡ Err fault
     same = ap (λ f. Err f) bare
 
 found_first : (limits : Limits) (number : ℕ) (line : List ℕ) (rest : List (List ℕ)) (found : Option Document) → line_found limits number line ≡ Ok found
@@ -77,7 +77,7 @@ json_none line h = at (is_utf8 line) refl
 pub line_found-some : (limits : Limits) (number : ℕ) (line : List ℕ) (doc : Document) → (length line ≡ 0 → ⊥) → line_document limits line ≡ Ok doc → line_found limits number line ≡ Ok (Some doc)
 unfolding line_found
 line_found-some limits number [] doc some e = absurd (some refl)
-line_found-some limits number (b ∷ line) doc some e = ap (numbered number) e
+line_found-some limits number (b ∷ line) doc some e = ap (numbered_line number) e
 
 -- ---- the walk
 

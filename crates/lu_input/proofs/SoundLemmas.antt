@@ -9,7 +9,7 @@ use Rattle.lu_types.specs.DocFaults.{doc_fault}
 use Rattle.lu_input.specs.declared.fault.LineFault.{LineFault}
 use Rattle.lu_input.specs.declared.fault.InputFault.{InputFault}
 use Rattle.lu_input.specs.Shapes.{document_of}
-use Rattle.lu_input.specs.Lines.{lines, json_of, faulty, shaped, judged, line_document, before_all, and_then, documents_from, input_documents}
+use Rattle.lu_input.specs.Lines.{lines, json_of, faulty, shaped, judged_line, line_document, before_all, before_the_rest, documents_from, input_documents}
 
 abbrev IsSoundDocument : Limits → Document → Type 0
 IsSoundDocument limits doc = doc_fault doc limits ≡ None
@@ -30,19 +30,19 @@ shaped-sound : (limits : Limits) (o : Option Document) → SoundIfOk limits (sha
 shaped-sound limits None = tt
 shaped-sound limits (Some doc) = faulty-sound limits doc (doc_fault doc limits) refl
 
-judged-sound : (limits : Limits) (o : Option Data) → SoundIfOk limits (judged limits o)
-judged-sound limits None = tt
-judged-sound limits (Some d) = shaped-sound limits (document_of d)
+judged_line-sound : (limits : Limits) (o : Option Data) → SoundIfOk limits (judged_line limits o)
+judged_line-sound limits None = tt
+judged_line-sound limits (Some d) = shaped-sound limits (document_of d)
 
 line-sound : (limits : Limits) (line : List ℕ) → SoundIfOk limits (line_document limits line)
 unfolding line_document
-line-sound limits line = judged-sound limits (json_of line)
+line-sound limits line = judged_line-sound limits (json_of line)
 
 more-sound : (limits : Limits) (doc : Document) (r : Result (List Document) InputFault) → IsSoundDocument limits doc → AllSoundIfOk limits r → AllSoundIfOk limits (before_all (doc ∷ []) r)
 more-sound limits doc (Ok docs) first rest = All-cons (IsSoundDocument limits) doc docs first rest
 more-sound limits doc (Err fault) first rest = tt
 
-line-and-more : (limits : Limits) (number : ℕ) (line : Result Document LineFault) (r : Result (List Document) InputFault) → SoundIfOk limits line → AllSoundIfOk limits r → AllSoundIfOk limits (and_then number line r)
+line-and-more : (limits : Limits) (number : ℕ) (line : Result Document LineFault) (r : Result (List Document) InputFault) → SoundIfOk limits line → AllSoundIfOk limits r → AllSoundIfOk limits (before_the_rest number line r)
 line-and-more limits number (Ok doc) r first rest = more-sound limits doc r first rest
 line-and-more limits number (Err fault) r first rest = tt
 

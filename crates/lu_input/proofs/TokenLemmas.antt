@@ -9,7 +9,7 @@ use Rattle.std.specs.Str.{chars, IsUtf8, IsCharBoundary}
 use lib.Utf8.{scalars, scalar, encodes, encode}
 use Rattle.std.proofs.lemmas.Str.{chars-nil, encodes-chars, chars_past_char, IsUtf8-past_char, chars-append, IsUtf8-append, IsUtf8-encode, IsUtf8-nil, cons_from_encodes, length-encode, len_utf8_bounds, IsCharBoundary-at_seam}
 use Rattle.lu_types.specs.declared.document.Token.{Token}
-use Rattle.lu_input.specs.Tokens.{width, closed, tokens_after, tokens_of}
+use Rattle.lu_input.specs.Tokens.{width, closed_token, tokens_after, tokens_of}
 
 -- So much of a text was walked: `tokens` are those before the byte `begin`, where what is read of a run begins, at the unit `start`;
 -- the walk stands at the byte `place` and the unit `here`, before the rest.
@@ -26,22 +26,22 @@ pub record Walked (text : List ℕ) (tokens : List Token) (begin start here plac
   pub few : length tokens ≤ begin
   pub same : tokens_of text ≡ tokens ++ tokens_after (length tokens) (chars run) start here (chars rest)
 
-pub closed-run : (position : ℕ) (run : List ℕ) (start end : ℕ) → IsUtf8 run → 0 < length run
-    → closed position (chars run) start end ≡ record { text = run; position = position; start = start; end = end; payload = [] } ∷ []
-closed-run position run start end utf8 some = at (chars run) (encodes-chars run utf8)
+pub closed_token-run : (position : ℕ) (run : List ℕ) (start end : ℕ) → IsUtf8 run → 0 < length run
+    → closed_token position (chars run) start end ≡ record { text = run; position = position; start = start; end = end; payload = [] } ∷ []
+closed_token-run position run start end utf8 some = at (chars run) (encodes-chars run utf8)
   where
-    at : (cs : List ℕ) → encodes cs ≡ run → closed position cs start end ≡ record { text = run; position = position; start = start; end = end; payload = [] } ∷ []
+    at : (cs : List ℕ) → encodes cs ≡ run → closed_token position cs start end ≡ record { text = run; position = position; start = start; end = end; payload = [] } ∷ []
     at [] e = absurd (omega (arith, ap length e))
     at (c ∷ cs) e = ap (λ t. record { text = t; position = position; start = start; end = end; payload = [] } ∷ []) e
 
-pub closed-empty : (position : ℕ) (run : List ℕ) (start end : ℕ) → length run ≡ 0 → closed position (chars run) start end ≡ []
-closed-empty position [] start end e = ap (λ cs. closed position cs start end) chars-nil
-closed-empty position (b ∷ run) start end e = absurd (omega arith)
+pub closed_token-empty : (position : ℕ) (run : List ℕ) (start end : ℕ) → length run ≡ 0 → closed_token position (chars run) start end ≡ []
+closed_token-empty position [] start end e = ap (λ cs. closed_token position cs start end) chars-nil
+closed_token-empty position (b ∷ run) start end e = absurd (omega arith)
 
 pub width-le : (c : ℕ) → width c ≤ len_utf8 c
 width-le c = grind (arith, nat_tests)
 
-few_closed : (position : ℕ) (cs : List ℕ) (start end : ℕ) → length (closed position cs start end) ≤ 1
+few_closed : (position : ℕ) (cs : List ℕ) (start end : ℕ) → length (closed_token position cs start end) ≤ 1
 few_closed position [] start end = omega arith
 few_closed position (c ∷ cs) start end = omega arith
 
@@ -106,7 +106,7 @@ module _ (text : List ℕ) (tokens : List Token) (begin start here place : ℕ) 
   pub stands_within : place ≤ length text
   stands_within = omega (arith, ap length w.parts, length-append w.front (w.run ++ rest), length-append w.run rest, w.begins, w.places)
 
-  pub walked_end : length rest ≡ 0 → tokens_of text ≡ tokens ++ closed (length tokens) (chars w.run) start here
+  pub walked_end : length rest ≡ 0 → tokens_of text ≡ tokens ++ closed_token (length tokens) (chars w.run) start here
   unfolding tokens_after
   walked_end e = w.same ∙ ap (λ bs. tokens ++ tokens_after (length tokens) (chars w.run) start here (chars bs)) (no_bytes rest e) ∙ ap (λ cs. tokens ++ tokens_after (length tokens) (chars w.run) start here cs) chars-nil
 
@@ -138,21 +138,21 @@ module _ (text : List ℕ) (tokens : List Token) (begin start here place : ℕ) 
           few = w.few;
           same = w.same
               ∙ ap (λ cs. tokens ++ tokens_after (length tokens) (chars w.run) start here cs) next
-              ∙ ap (λ b. tokens ++ cond b (closed (length tokens) (chars w.run) start here ++ tokens_after (length tokens + length (closed (length tokens) (chars w.run) start here)) [] (here + width c) (here + width c) (chars more)) (tokens_after (length tokens) (chars w.run ++ c ∷ []) start (here + width c) (chars more))) dark
+              ∙ ap (λ b. tokens ++ cond b (closed_token (length tokens) (chars w.run) start here ++ tokens_after (length tokens + length (closed_token (length tokens) (chars w.run) start here)) [] (here + width c) (here + width c) (chars more)) (tokens_after (length tokens) (chars w.run ++ c ∷ []) start (here + width c) (chars more))) dark
               ∙ ap (λ cs. tokens ++ tokens_after (length tokens) (chars w.run ++ cs) start (here + width c) (chars more)) (sym (chars-encode c h))
               ∙ ap (λ cs. tokens ++ tokens_after (length tokens) cs start (here + width c) (chars more)) (sym (chars-append w.run (encode c) w.run_utf8))
               ∙ ap (λ k. tokens ++ tokens_after (length tokens) (chars (w.run ++ encode c)) start (here + k) (chars more)) (sym wide);
         }
 
     pub walked_white : (after : ℕ) → after ≡ place + length (encode c) → is_whitespace c ≡ true
-        → (news : List Token) → news ≡ tokens ++ closed (length tokens) (chars w.run) start here → Walked text news after (here + n) (here + n) after more
+        → (news : List Token) → news ≡ tokens ++ closed_token (length tokens) (chars w.run) start here → Walked text news after (here + n) (here + n) after more
     unfolding tokens_after
     walked_white after at white news is =
         let h = first_scalar rest more c w.rest_utf8 e in
         let le = width-le c in
-        let shut = closed (length tokens) (chars w.run) start here in
+        let shut = closed_token (length tokens) (chars w.run) start here in
         let few = few_closed (length tokens) (chars w.run) start here in
-        let count : length news ≡ length tokens + length (closed (length tokens) (chars w.run) start here) = ap length is ∙ length-append tokens (closed (length tokens) (chars w.run) start here) in
+        let count : length news ≡ length tokens + length (closed_token (length tokens) (chars w.run) start here) = ap length is ∙ length-append tokens (closed_token (length tokens) (chars w.run) start here) in
         record {
           front = w.front ++ (w.run ++ encode c);
           run = [];
@@ -178,10 +178,10 @@ pub width-is : (c n : ℕ) → (c < 65536 → n ≡ 1) → (65536 ≤ c → n �
 width-is c n low high = grind (arith, nat_tests)
 
 pub pushed-run : (after before : List Token) (text payload run : List ℕ) (position n start end : ℕ) → after ≡ before ++ record { text = text; position = position; start = start; end = end; payload = payload } ∷ []
-    → text ≡ run → payload ≡ [] → position ≡ n → IsUtf8 run → 0 < length run → after ≡ before ++ closed n (chars run) start end
+    → text ≡ run → payload ≡ [] → position ≡ n → IsUtf8 run → 0 < length run → after ≡ before ++ closed_token n (chars run) start end
 pushed-run after before text payload run position n start end e t p at utf8 some =
     e
     ∙ ap (λ (x : List ℕ). before ++ record { text = x; position = position; start = start; end = end; payload = payload } ∷ []) t
     ∙ ap (λ (x : List ℕ). before ++ record { text = run; position = position; start = start; end = end; payload = x } ∷ []) p
     ∙ ap (λ (x : ℕ). before ++ record { text = run; position = x; start = start; end = end; payload = [] } ∷ []) at
-    ∙ ap (λ ts. before ++ ts) (sym (closed-run n run start end utf8 some))
+    ∙ ap (λ ts. before ++ ts) (sym (closed_token-run n run start end utf8 some))

@@ -12,7 +12,7 @@ use Rattle.serde_json.specs.Read.{number_of, of_json, of_items, of_members, max_
 use Rattle.serde_json.specs.Find.{get, get_member, as_array}
 use Rattle.serde_json.specs.View.{view, items_view}
 use Rattle.serde_json.specs.declared.value.Value.{Value}
-use Rattle.lu_input.specs.Lengths.{longest, longest_item, longest_member, IsShort, IsShortIfAny}
+use Rattle.lu_input.specs.Lengths.{longest, longest_item, longest_member, HasShortTexts, HasShortTextsIfAny}
 use Rattle.lu_input.proofs.TokenLengths.{longest_text, tokens-le}
 
 -- ---- what the grammar gives
@@ -131,9 +131,9 @@ AtMost-map : {A B : Type 0} (f : A → ℕ) (g : B → ℕ) (n : ℕ) (h : A →
 AtMost-map f g n h k None x = tt
 AtMost-map f g n h k (Some a) x = k a x
 
-AtMost-and_then : {A B : Type 0} (f : A → ℕ) (g : B → ℕ) (n : ℕ) (h : A → Option B) → ((a : A) → f a ≤ n → AtMost g n (h a)) → (o : Option A) → AtMost f n o → AtMost g n (option_and_then h o)
-AtMost-and_then f g n h k None x = tt
-AtMost-and_then f g n h k (Some a) x = k a x
+AtMost-before_the_rest : {A B : Type 0} (f : A → ℕ) (g : B → ℕ) (n : ℕ) (h : A → Option B) → ((a : A) → f a ≤ n → AtMost g n (h a)) → (o : Option A) → AtMost f n o → AtMost g n (option_and_then h o)
+AtMost-before_the_rest f g n h k None x = tt
+AtMost-before_the_rest f g n h k (Some a) x = k a x
 
 none_of : {A : Type 0} (n : ℕ) (o : Option A) → AtMost (λ _. 0) n o
 none_of n None = tt
@@ -160,12 +160,12 @@ mutual
   items-le : (js : json.Items) (n : ℕ) → long_item js ≤ n → AtMost longest_item n (of_items js)
   items-le json.no_items n h = omega arith
   items-le (json.item j js) n h =
-      AtMost-and_then longest longest_item n _ (λ d x. AtMost-map longest_item longest_item n (item d) (λ ds y. omega arith) _ (items-le js n (omega arith))) _ (json-le j n (omega arith))
+      AtMost-before_the_rest longest longest_item n _ (λ d x. AtMost-map longest_item longest_item n (item d) (λ ds y. omega arith) _ (items-le js n (omega arith))) _ (json-le j n (omega arith))
 
   members-le : (ms : json.Members) (found : Members) (n : ℕ) → long_member ms ≤ n → longest_member found ≤ n → AtMost longest_member n (of_members ms found)
   members-le json.no_members found n h k = k
   members-le (json.member name j ms) found n h k =
-      AtMost-and_then longest longest_member n _ (λ d x. members-le ms (put name d found) n (omega arith) (put-le name d found n x k)) _ (json-le j n (omega arith))
+      AtMost-before_the_rest longest longest_member n _ (λ d x. members-le ms (put name d found) n (omega arith) (put-le name d found n x k)) _ (json-le j n (omega arith))
 
 last-le : (o : Option (json.Json × List Token)) (n : ℕ) → ReadsWithin long_json n o → AtMost long_json n (option_and_then (λ p. json.if_last p.0 p.1) o)
 last-le None n h = tt
@@ -175,7 +175,7 @@ last-le (Some (j, t ∷ r)) n h = tt
 pub read-le : (text : List ℕ) (d : Data) → read text ≡ Some d → longest d ≤ length text
 read-le text d e =
     let n = length text in
-    subst (AtMost longest n) e (AtMost-and_then long_json longest n of_json (λ j x. json-le j n x) _ (last-le _ n (Within-value n max_depth (tokens text) (tokens-le text))))
+    subst (AtMost longest n) e (AtMost-before_the_rest long_json longest n of_json (λ j x. json-le j n x) _ (last-le _ n (Within-value n max_depth (tokens text) (tokens-le text))))
 
 -- ---- parts of a value
 
@@ -188,11 +188,11 @@ member-le k (member l e ms) n h = either (slice_cmp nat_cmp k l) (member-le k ms
     either Equal x = omega arith
     either Greater x = x
 
-short-of : (o : Option Data) (n : ℕ) → n < 2 ^ 31 → AtMost longest n o → IsShortIfAny o
+short-of : (o : Option Data) (n : ℕ) → n < 2 ^ 31 → AtMost longest n o → HasShortTextsIfAny o
 short-of None n h x = tt
 short-of (Some d) n h x = omega arith
 
-pub get-short : (k : List ℕ) (d : Data) → IsShort d → IsShortIfAny (get k d)
+pub get-short : (k : List ℕ) (d : Data) → HasShortTexts d → HasShortTextsIfAny (get k d)
 get-short k null h = tt
 get-short k (boolean b) h = tt
 get-short k (number n) h = tt
@@ -217,7 +217,7 @@ array-longest (array es) ds e = ap longest_item (same es ds e)
 array-longest (object ms) ds e = absurd (cc)
 
 -- an item of a list
-pub item-short : (d : Data) (vs found : List Value) (i : ℕ) (v : Value) → IsShort d → as_array d ≡ Some (items_view vs) → found ≡ vs → i < length found → v ≡ slice_index_or found i v → IsShort (view v)
+pub item-short : (d : Data) (vs found : List Value) (i : ℕ) (v : Value) → HasShortTexts d → as_array d ≡ Some (items_view vs) → found ≡ vs → i < length found → v ≡ slice_index_or found i v → HasShortTexts (view v)
 item-short d vs found i v h e same within at =
     let here = item-le found i v within in
     let all : longest_item (items_view found) ≡ longest_item (items_view vs) = ap (λ (ws : List Value). longest_item (items_view ws)) same in

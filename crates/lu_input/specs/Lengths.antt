@@ -21,10 +21,10 @@ abbrev mutual
   longest_member (member k d ms) = max (longest d) (longest_member ms)
 
 -- each of them has fewer than 2 ^ 31 bytes
-abbrev pub IsShort : Data → Type 0
-IsShort d = longest d < 2 ^ 31
+abbrev pub HasShortTexts : Data → Type 0
+HasShortTexts d = longest d < 2 ^ 31
 
 -- so it is with the value, where there is one
-abbrev pub IsShortIfAny : Option Data → Type 0
-IsShortIfAny None = Unit {0}
-IsShortIfAny (Some d) = IsShort d
+abbrev pub HasShortTextsIfAny : Option Data → Type 0
+HasShortTextsIfAny None = Unit {0}
+HasShortTextsIfAny (Some d) = HasShortTexts d

@@ -70,8 +70,8 @@ abbrev pub whole_of : ℕ → Data → Option ℕ
 whole_of most d = as_number d >>= as_u64 >>= at_most most
 
 -- the bytes of hexadecimal text
-abbrev pub bytes_of : Data → Option (List ℕ)
-bytes_of d = as_str d >>= λ digits. result_ok (decode_of digits)
+abbrev pub bytes_of_hex : Data → Option (List ℕ)
+bytes_of_hex d = as_str d >>= λ digits. result_ok (decode_of digits)
 
 -- the norm: null omits norms
 abbrev pub norm_of : Data → Option (Option ℕ)
@@ -86,8 +86,8 @@ vector_named name =
     (cond (bytes_eq name (codes "offsets")) (Some Offsets)
     (cond (bytes_eq name (codes "both")) (Some Both) None))))
 
-abbrev pub vector_of : Data → Option Vector
-vector_of d = as_str d >>= vector_named
+abbrev pub vector_kind_of : Data → Option Vector
+vector_kind_of d = as_str d >>= vector_named
 
 -- ---- objects
 
@@ -100,7 +100,7 @@ one_of f g (Some d) (Some e) = None
 
 -- what is stored: exactly one of a text and of bytes
 abbrev pub stored_value_in : Option Data → Option Data → Option Stored
-stored_value_in text binary = one_of (λ t. option_map (λ s. Text s) (as_str t)) (λ b. option_map (λ s. Binary s) (bytes_of b)) text binary
+stored_value_in text binary = one_of (λ t. option_map (λ s. Text s) (as_str t)) (λ b. option_map (λ s. Binary s) (bytes_of_hex b)) text binary
 
 abbrev pub stored_names : List (List ℕ)
 stored_names = codes "field" ∷ codes "tokenized" ∷ codes "text" ∷ codes "binary" ∷ []
@@ -127,7 +127,7 @@ token_of d = do
   position ← required (whole_of greatest) (get (codes "position") o)
   start ← required (whole_of greatest) (get (codes "start") o)
   end ← required (whole_of greatest) (get (codes "end") o)
-  payload ← or_absent [] bytes_of (get (codes "payload") o)
+  payload ← or_absent [] bytes_of_hex (get (codes "payload") o)
   Some (record { text = text; position = position; start = start; end = end; payload = payload })
 
 -- the tokens: exactly one of a text and of a list of tokens
@@ -143,7 +143,7 @@ indexed_of d = do
   field ← required as_str (get (codes "field") o)
   norm ← or_absent (Some 124) norm_of (get (codes "norm") o)
   omit_tf ← or_absent false as_bool (get (codes "omitTf") o)
-  vector ← or_absent Off vector_of (get (codes "vector") o)
+  vector ← or_absent Off vector_kind_of (get (codes "vector") o)
   tokens ← tokens_in (get (codes "text") o) (get (codes "tokens") o)
   Some (record { field = field; norm = norm; omit_tf = omit_tf; vector = vector; tokens = tokens })
 

@@ -3,7 +3,7 @@ ghost use Rattle.std.specs.Prelude.{◌≡◌, ◌⊎◌, ◌<◌, ◌^◌, leng
 ghost use Rattle.serde_json.specs.View.{view};
 ghost use Rattle.lu_types.specs.Documents.{IsDocument};
 ghost use Rattle.lu_input.specs.Answers.{Appends, JudgesLine};
-ghost use Rattle.lu_input.specs.Lengths.{IsShort, IsShortIfAny};
+ghost use Rattle.lu_input.specs.Lengths.{HasShortTexts, HasShortTextsIfAny};
 ghost use Rattle.lu_input.specs.Lines.{input_documents, json_of, line_document, line_found, shaped, sound};
 ghost use Rattle.lu_input.specs.Shapes.{document_of};
 
@@ -99,7 +99,7 @@ fn line_document(
 fn json(alloc: Global, line: &[u8]) -> Result<Option<Value>, OutOfMemory>
     requires { length line.now < 2 ^ 31 }
     ensures found { IfOk result (λ found. json_of line.now ≡ option_map view found) }
-    ensures short { IfOk result (λ found. IsShortIfAny (option_map view found)) }
+    ensures short { IfOk result (λ found. HasShortTextsIfAny (option_map view found)) }
 {
     match Value::from_slice(alloc, line) {
         Ok(value) => Ok(Some(value)),
@@ -117,7 +117,7 @@ fn shaped(
     number: u32,
     limits: &Limits,
 ) -> Result<Document, InputFault>
-    requires { IsShort (view value.now) }
+    requires { HasShortTexts (view value.now) }
     ensures judges { JudgesLine number (shaped limits.now (document_of (view value.now))) result }
     ensures texts { IfOk result IsDocument }
 {

@@ -5,8 +5,8 @@ ghost use Rattle.std.specs.Str.{bytes_eq};
 ghost use Rattle.serde_json.specs.Find.{as_str, as_bool};
 ghost use Rattle.serde_json.specs.View.{view, members_view};
 ghost use Rattle.lu_types.specs.declared.document.Vector.TheVariants.{Off};
-ghost use Rattle.lu_input.specs.Answers.{Reads};
-ghost use Rattle.lu_input.specs.Shapes.{are_among, has_only, required, or_absent, whole_of, bytes_of, norm_of, vector_of, vector_named, greatest};
+ghost use Rattle.lu_input.specs.Answers.{AnswersShape};
+ghost use Rattle.lu_input.specs.Shapes.{are_among, has_only, required, or_absent, whole_of, bytes_of_hex, norm_of, vector_kind_of, vector_named, greatest};
 
 use crate::fault::Misread;
 use hex::FromHexError;
@@ -50,7 +50,7 @@ fn is_among(name: &str, names: &[&str]) -> bool
 
 /// The text that a member is.
 pub fn text(alloc: Global, member: Option<&Value>) -> Result<Text, Misread>
-    ensures { Reads (required as_str (option_map (λ v. view v.now) member.entry)) result }
+    ensures { AnswersShape (required as_str (option_map (λ v. view v.now) member.entry)) result }
 {
     match member.and_then(Value::as_str) {
         Some(text) => Ok(Text::from_str(alloc, text)?),
@@ -60,7 +60,7 @@ pub fn text(alloc: Global, member: Option<&Value>) -> Result<Text, Misread>
 
 /// True or false, and false where the member is absent.
 pub fn flag(member: Option<&Value>) -> Result<bool, Misread>
-    ensures { Reads (or_absent false as_bool (option_map (λ v. view v.now) member.entry)) result }
+    ensures { AnswersShape (or_absent false as_bool (option_map (λ v. view v.now) member.entry)) result }
 {
     match member {
         Some(value) => value.as_bool().ok_or(Misread::BadShape),
@@ -70,7 +70,7 @@ pub fn flag(member: Option<&Value>) -> Result<bool, Misread>
 
 /// A whole number that fits 32 bits.
 pub fn whole(member: Option<&Value>) -> Result<u32, Misread>
-    ensures { Reads (required (whole_of greatest) (option_map (λ v. view v.now) member.entry)) result }
+    ensures { AnswersShape (required (whole_of greatest) (option_map (λ v. view v.now) member.entry)) result }
 {
     match member.and_then(Value::as_u64) {
         Some(number) if number <= u32::MAX as u64 => Ok(number as u32),
@@ -80,7 +80,7 @@ pub fn whole(member: Option<&Value>) -> Result<u32, Misread>
 
 /// The bytes of hexadecimal text.
 pub fn bytes(alloc: Global, value: &Value) -> Result<Bytes, Misread>
-    ensures { Reads (bytes_of (view value.now)) result }
+    ensures { AnswersShape (bytes_of_hex (view value.now)) result }
 {
     let Some(digits) = value.as_str() else {
         return Err(Misread::BadShape);
@@ -94,7 +94,7 @@ pub fn bytes(alloc: Global, value: &Value) -> Result<Bytes, Misread>
 
 /// The bytes that a member stands for, none where it is absent.
 pub fn payload(alloc: Global, member: Option<&Value>) -> Result<Bytes, Misread>
-    ensures { Reads (or_absent [] bytes_of (option_map (λ v. view v.now) member.entry)) result }
+    ensures { AnswersShape (or_absent [] bytes_of_hex (option_map (λ v. view v.now) member.entry)) result }
 {
     match member {
         Some(value) => bytes(alloc, value),
@@ -107,7 +107,7 @@ const DEFAULT_NORM: u8 = 124;
 
 /// The norm: null omits norms.
 pub fn norm(member: Option<&Value>) -> Result<Option<u8>, Misread>
-    ensures { Reads (or_absent (Some 124) norm_of (option_map (λ v. view v.now) member.entry)) result }
+    ensures { AnswersShape (or_absent (Some 124) norm_of (option_map (λ v. view v.now) member.entry)) result }
 {
     let Some(value) = member else {
         return Ok(Some(DEFAULT_NORM));
@@ -123,7 +123,7 @@ pub fn norm(member: Option<&Value>) -> Result<Option<u8>, Misread>
 
 /// What the vector keeps.
 pub fn vector(member: Option<&Value>) -> Result<Vector, Misread>
-    ensures { Reads (or_absent Off vector_of (option_map (λ v. view v.now) member.entry)) result }
+    ensures { AnswersShape (or_absent Off vector_kind_of (option_map (λ v. view v.now) member.entry)) result }
 {
     let Some(value) = member else {
         return Ok(Vector::Off);

@@ -2,8 +2,8 @@
 ghost use Rattle.std.specs.Prelude.{◌≡◌, ◌<◌, ◌^◌, [], Some, option_map, map, codes};
 ghost use Rattle.serde_json.specs.Find.{as_str, get};
 ghost use Rattle.serde_json.specs.View.{view};
-ghost use Rattle.lu_input.specs.Answers.{Reads};
-ghost use Rattle.lu_input.specs.Lengths.{IsShort, IsShortIfAny};
+ghost use Rattle.lu_input.specs.Answers.{AnswersShape};
+ghost use Rattle.lu_input.specs.Lengths.{HasShortTexts, HasShortTextsIfAny};
 ghost use Rattle.lu_input.specs.Shapes.{or_absent, list_of, one_of, stored_of, token_of, indexed_of, document_of, stored_value_in, tokens_in};
 
 use crate::fault::Misread;
@@ -16,8 +16,8 @@ use std::alloc::Global;
 
 /// The document that a value is, whose texts are shorter than 2^31 bytes.
 pub fn document(alloc: Global, value: &Value) -> Result<Document, Misread>
-    requires { IsShort (view value.now) }
-    ensures { Reads (document_of (view value.now)) result }
+    requires { HasShortTexts (view value.now) }
+    ensures { AnswersShape (document_of (view value.now)) result }
 {
     if !has_only(value, &["stored", "indexed"]) {
         return Err(Misread::BadShape);
@@ -29,7 +29,7 @@ pub fn document(alloc: Global, value: &Value) -> Result<Document, Misread>
 
 /// The stored values of a list, none where it is absent.
 fn stored_values(alloc: Global, member: Option<&Value>) -> Result<Items<StoredValue>, Misread>
-    ensures { Reads (or_absent [] (list_of stored_of) (option_map (λ v. view v.now) member.entry)) result }
+    ensures { AnswersShape (or_absent [] (list_of stored_of) (option_map (λ v. view v.now) member.entry)) result }
 {
     let Some(value) = member else {
         return Ok(Items::new(Vec::new(alloc)));
@@ -49,8 +49,8 @@ fn stored_values(alloc: Global, member: Option<&Value>) -> Result<Items<StoredVa
 
 /// The indexed fields of a list, none where it is absent.
 fn indexed_fields(alloc: Global, member: Option<&Value>) -> Result<Items<IndexedField>, Misread>
-    requires { IsShortIfAny (option_map (λ v. view v.now) member) }
-    ensures { Reads (or_absent [] (list_of indexed_of) (option_map (λ v. view v.now) member.entry)) result }
+    requires { HasShortTextsIfAny (option_map (λ v. view v.now) member) }
+    ensures { AnswersShape (or_absent [] (list_of indexed_of) (option_map (λ v. view v.now) member.entry)) result }
 {
     let Some(value) = member else {
         return Ok(Items::new(Vec::new(alloc)));
@@ -70,7 +70,7 @@ fn indexed_fields(alloc: Global, member: Option<&Value>) -> Result<Items<Indexed
 
 /// The stored value that an object is.
 fn stored_value(alloc: Global, value: &Value) -> Result<StoredValue, Misread>
-    ensures { Reads (stored_of (view value.now)) result }
+    ensures { AnswersShape (stored_of (view value.now)) result }
 {
     if !has_only(value, &["field", "tokenized", "text", "binary"]) {
         return Err(Misread::BadShape);
@@ -87,7 +87,7 @@ fn stored_value(alloc: Global, value: &Value) -> Result<StoredValue, Misread>
 
 /// What is stored: exactly one of a text and of bytes.
 fn stored(alloc: Global, text: Option<&Value>, binary: Option<&Value>) -> Result<Stored, Misread>
-    ensures { Reads (stored_value_in (option_map (λ v. view v.now) text.entry) (option_map (λ v. view v.now) binary.entry)) result }
+    ensures { AnswersShape (stored_value_in (option_map (λ v. view v.now) text.entry) (option_map (λ v. view v.now) binary.entry)) result }
 {
     match (text, binary) {
         (Some(_), None) => Ok(Stored::Text(members::text(alloc, text)?)),
@@ -98,8 +98,8 @@ fn stored(alloc: Global, text: Option<&Value>, binary: Option<&Value>) -> Result
 
 /// The indexed field that an object is.
 fn indexed_field(alloc: Global, value: &Value) -> Result<IndexedField, Misread>
-    requires { IsShort (view value.now) }
-    ensures { Reads (indexed_of (view value.now)) result }
+    requires { HasShortTexts (view value.now) }
+    ensures { AnswersShape (indexed_of (view value.now)) result }
 {
     if !has_only(
         value,
@@ -127,8 +127,8 @@ fn tokens(
     text: Option<&Value>,
     list: Option<&Value>,
 ) -> Result<Items<Token>, Misread>
-    requires { IsShortIfAny (option_map (λ v. view v.now) text) }
-    ensures { Reads (tokens_in (option_map (λ v. view v.now) text.entry) (option_map (λ v. view v.now) list.entry)) result }
+    requires { HasShortTextsIfAny (option_map (λ v. view v.now) text) }
+    ensures { AnswersShape (tokens_in (option_map (λ v. view v.now) text.entry) (option_map (λ v. view v.now) list.entry)) result }
 {
     match (text, list) {
         (Some(value), None) => match value.as_str() {
@@ -142,7 +142,7 @@ fn tokens(
 
 /// The tokens of a list.
 fn token_list(alloc: Global, value: &Value) -> Result<Items<Token>, Misread>
-    ensures { Reads (list_of token_of (view value.now)) result }
+    ensures { AnswersShape (list_of token_of (view value.now)) result }
 {
     let Some(items) = value.as_array() else {
         return Err(Misread::BadShape);
@@ -159,7 +159,7 @@ fn token_list(alloc: Global, value: &Value) -> Result<Items<Token>, Misread>
 
 /// The token that an object is.
 fn token(alloc: Global, value: &Value) -> Result<Token, Misread>
-    ensures { Reads (token_of (view value.now)) result }
+    ensures { AnswersShape (token_of (view value.now)) result }
 {
     if !has_only(value, &["text", "position", "start", "end", "payload"]) {
         return Err(Misread::BadShape);

@@ -1,7 +1,7 @@
 //! The tokens of a text (format page, "Input").
 ghost use Rattle.std.specs.Prelude.{◌≡◌, ◌<◌, ◌^◌, ◌++◌, length, vec_len, IfOk, OnOk};
 ghost use Rattle.std.specs.Str.{chars};
-ghost use Rattle.lu_input.specs.Tokens.{closed, tokens_of};
+ghost use Rattle.lu_input.specs.Tokens.{closed_token, tokens_of};
 
 use lu_prims::OutOfMemory;
 use lu_types::{Bytes, Text, Token};
@@ -40,7 +40,7 @@ fn push_run(
     end: u32,
 ) -> Result<(), OutOfMemory>
     requires { vec_len tokens.old < 2 ^ 32 }
-    ensures { OnOk result (tokens.new.items ≡ tokens.old.items ++ closed (vec_len tokens.old) (chars run.now) start end) }
+    ensures { OnOk result (tokens.new.items ≡ tokens.old.items ++ closed_token (vec_len tokens.old) (chars run.now) start end) }
 {
     if run.is_empty() {
         return Ok(());

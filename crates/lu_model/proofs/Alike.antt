@@ -10,7 +10,7 @@ use Rattle.std.proofs.lemmas.Cmp.{then_total, on_total}
 use Rattle.lu_prims.specs.Order.{text_cmp}
 use Rattle.lu_prims.proofs.Units.{level_same, text_order}
 use Rattle.lu_types.specs.Tables.{TableField}
-use Rattle.lu_model.specs.Index.{Term, term_cmp, in_order, Occurrences, IndexedEntry}
+use Rattle.lu_model.specs.Index.{Term, term_cmp, in_order, KeptOccurrences, IndexedEntry}
 use Rattle.lu_model.specs.Contents.{Content, missing_norm, bits_of, has_norms, index_of, indexed_term, kept}
 use Rattle.lu_model.proofs.Words.{IsIn, HaveSame, IsTerm, value_in, vector_in, has_vectors, entry_of, norms_in}
 use Rattle.lu_model.proofs.Ordered.{same-in_order}
@@ -75,13 +75,13 @@ module _ (table : List TableField) where
   ]
 
   -- an entry by what is kept
-  abbrev entry_by : ℕ → Occurrences → IndexedEntry
+  abbrev entry_by : ℕ → KeptOccurrences → IndexedEntry
   entry_by n occurrences = record { document = n; occurrences = occurrences }
 
   entry_kept : (term : Term) (n : ℕ) (a : Content) → entry_of table term (n, a) ≡ option_map (entry_by n) (option_map (kept (bits_of term.field table)) (a.occurrences term))
   entry_kept term n a = twice (a.occurrences term)
     where
-      twice : (o : Option Occurrences) → option_map (λ o. entry_by n (kept (bits_of term.field table) o)) o ≡ option_map (entry_by n) (option_map (kept (bits_of term.field table)) o)
+      twice : (o : Option KeptOccurrences) → option_map (λ o. entry_by n (kept (bits_of term.field table) o)) o ≡ option_map (entry_by n) (option_map (kept (bits_of term.field table)) o)
       twice None = refl
       twice (Some o) = refl
 

@@ -5,7 +5,7 @@ use Rattle.std.specs.List.{find, list_any, enumerate_from, cons_option}
 use borrow.Author.Tests.{eqb-true}
 use mathlib.Core.Bool.{true≢false}
 use Rattle.lu_types.specs.Tables.{TableField}
-use Rattle.lu_model.specs.Index.{Term, Occurrences, IndexedEntry}
+use Rattle.lu_model.specs.Index.{Term, KeptOccurrences, IndexedEntry}
 use Rattle.lu_model.specs.Contents.{Content, bits_of, field_number, indexed_term, kept, name_of, occurrences_at, term_of}
 use Rattle.lu_model.proofs.Words.{IsIn, same_term, entry_of}
 use Rattle.lu_model.proofs.Held.{same_term-true, same_term-itself}
@@ -38,18 +38,18 @@ apart m n h = elim (eqb m n) as (λ b. eqb m n ≡ b → b ≡ false) [
 ] refl
 
 module _ (table : List TableField) (term : Term) where
-  abbrev keeps : Option Occurrences → Option Occurrences
+  abbrev keeps : Option KeptOccurrences → Option KeptOccurrences
   keeps o = option_map (kept (bits_of term.field table)) o
 
   abbrev entries_from : ℕ → List Content → List IndexedEntry
   entries_from m contents = filter_map (entry_of table term) (enumerate_from m contents)
 
   -- the entry of a document before these entries, or not
-  first_entry : (m k : ℕ) (c : Content) (rest : List IndexedEntry) (answer : Option Occurrences)
+  first_entry : (m k : ℕ) (c : Content) (rest : List IndexedEntry) (answer : Option KeptOccurrences)
       → (eqb k m ≡ true → keeps (c.occurrences term) ≡ answer) → (eqb k m ≡ true → occurrences_at k rest ≡ None) → (eqb k m ≡ false → occurrences_at k rest ≡ answer)
       → occurrences_at k (cons_option (entry_of table term (m, c)) rest) ≡ answer
   first_entry m k c rest answer here none later =
-      elim (c.occurrences term) as (λ o. keeps o ≡ keeps (c.occurrences term) → occurrences_at k (cons_option (option_map (λ (occurrences : Occurrences). let e : IndexedEntry = record { document = m; occurrences = kept (bits_of term.field table) occurrences } in e) o) rest) ≡ answer) [
+      elim (c.occurrences term) as (λ o. keeps o ≡ keeps (c.occurrences term) → occurrences_at k (cons_option (option_map (λ (occurrences : KeptOccurrences). let e : IndexedEntry = record { document = m; occurrences = kept (bits_of term.field table) occurrences } in e) o) rest) ≡ answer) [
         | None ↦ λ q. elim (eqb k m) as (λ b. eqb k m ≡ b → occurrences_at k rest ≡ answer) [ true ↦ λ t. none t ∙ q ∙ here t | false ↦ λ t. later t ] refl
         | Some o ↦ λ q. elim (eqb k m) as (λ b. eqb k m ≡ b → option_map (λ (entry : IndexedEntry). entry.occurrences) (cond b (Some (record { document = m; occurrences = kept (bits_of term.field table) o })) (find (λ (entry : IndexedEntry). eqb k entry.document) rest)) ≡ answer) [
           | true ↦ λ t. q ∙ here t

@@ -8,7 +8,7 @@ use Rattle.lu_types.specs.Bits.{has_bit}
 use Rattle.lu_types.specs.Tables.{TableField}
 use Rattle.lu_types.specs.Bits as bit
 use Rattle.lu_grammar.specs.Bytes.{IsBytes}
-use Rattle.lu_model.specs.Index.{Term, term_cmp, Occurrences, given, omitted, IndexedEntry, IndexedTerm}
+use Rattle.lu_model.specs.Index.{Term, term_cmp, KeptOccurrences, given, omitted, IndexedEntry, IndexedTerm}
 use Rattle.lu_model.specs.Contents.{field_at, kept, occurrences_at, term_of}
 use Rattle.lu_model.specs.Valid.{IsKept, AreNorms}
 use Rattle.lu_model.proofs.Words.{IsIn, same_term}
@@ -45,14 +45,14 @@ norm_bytes size (f ∷ fields) (x ∷ norms) zero bytes h e = let k : AreNorms s
 norm_bytes size (f ∷ fields) (x ∷ norms) (suc n) bytes h e = norm_bytes size fields norms n bytes h.1 e
 
 -- what one table keeps, as another wants it that says as much
-pub kept_above : (below above : ℕ) (o : Occurrences) → Says above below → IsKept below o → IsKept above (kept above o)
+pub kept_above : (below above : ℕ) (o : KeptOccurrences) → Says above below → IsKept below o → IsKept above (kept above o)
 kept_above below above o says h =
     elim (has_bit bit.omit_tf above) as (λ b. has_bit bit.omit_tf above ≡ b → IsKept above (cond b omitted o)) [
       | true ↦ λ t. t
       | false ↦ λ t. given_case o h t
     ] refl
   where
-    given_case : (o : Occurrences) → IsKept below o → has_bit bit.omit_tf above ≡ false → IsKept above o
+    given_case : (o : KeptOccurrences) → IsKept below o → has_bit bit.omit_tf above ≡ false → IsKept above o
     given_case (given occurrences) h t = (
       t,
       record {
@@ -82,7 +82,7 @@ one_found fields (u ∷ terms) it t rise (inr k) e =
     ] refl
 
 -- the entry that tells of a document
-pub found_entry : (n : ℕ) (entries : List IndexedEntry) (o : Occurrences) → occurrences_at n entries ≡ Some o → (e : IndexedEntry) × IsIn e entries × (e.occurrences ≡ o)
+pub found_entry : (n : ℕ) (entries : List IndexedEntry) (o : KeptOccurrences) → occurrences_at n entries ≡ Some o → (e : IndexedEntry) × IsIn e entries × (e.occurrences ≡ o)
 found_entry n [] o e = cc
 found_entry n (f ∷ entries) o e =
     elim (eqb n f.document) as (λ b. option_map (λ (g : IndexedEntry). g.occurrences) (cond b (Some f) (find (λ (g : IndexedEntry). eqb n g.document) entries)) ≡ Some o → (e : IndexedEntry) × IsIn e (f ∷ entries) × (e.occurrences ≡ o)) [

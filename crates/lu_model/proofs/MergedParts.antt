@@ -6,7 +6,7 @@ use Rattle.std.proofs.lemmas.List.{length-map}
 use Rattle.lu_types.specs.Tables.{TableField}
 use Rattle.lu_types.specs.Bits as bit
 use Rattle.lu_types.specs.Joins.{join_all}
-use Rattle.lu_model.specs.Index.{Term, term_cmp, in_order, Occurrences, IndexedEntry, IndexedTerm, Index}
+use Rattle.lu_model.specs.Index.{Term, term_cmp, in_order, KeptOccurrences, IndexedEntry, IndexedTerm, Index}
 use Rattle.lu_model.specs.Contents.{Content, bits_of, content_at, field_at, indexed_term, is_deleted, kept, live, live_contents, name_of, occurrences_at, term_of}
 use Rattle.lu_model.specs.Valid.{IsSmall, IsKept, IsIndexedTerm, IsValid}
 use Rattle.lu_model.proofs.Words.{IsIn, Each, same_term, no_field, value_in, stands_at, entries_if_any, IsValue, IsTerm, stored_by_name, IsText}
@@ -108,7 +108,7 @@ module _ (indexes : List Index) (ok : Each IsValid indexes) where
       let s = of_term t h in
       subst (HasName table) (sym s.is) (name_at-Has table (field_at s.it.field s.index.fields) (term_has s.index s.inside s.it s.in_terms))
 
-  pub known : (t : Term) (index : Index) → IsIn index indexes → (n : ℕ) (o : Occurrences) → (found : Option IndexedTerm) → find (λ u. same_term t (term_of index.fields u)) index.terms ≡ found → occurrences_at n (entries_if_any found) ≡ Some o → IsKept (bits_of t.field table) (kept (bits_of t.field table) o)
+  pub known : (t : Term) (index : Index) → IsIn index indexes → (n : ℕ) (o : KeptOccurrences) → (found : Option IndexedTerm) → find (λ u. same_term t (term_of index.fields u)) index.terms ≡ found → occurrences_at n (entries_if_any found) ≡ Some o → IsKept (bits_of t.field table) (kept (bits_of t.field table) o)
   known t index h n o None q e = cc
   known t index h n o (Some it) q e =
       let r = find_in (λ (u : IndexedTerm). same_term t (term_of index.fields u)) it index.terms q in
@@ -119,7 +119,7 @@ module _ (indexes : List Index) (ok : Each IsValid indexes) where
       let says = subst (λ (w : Term). Says (bits_of w.field table) (field_at it.field index.fields).bits) (sym is) (term_says index h it r.0) in
       kept_above (field_at it.field index.fields).bits (bits_of t.field table) o says (subst (IsKept (field_at it.field index.fields).bits) entry.2 one.1)
 
-  pub term_kept : (t : Term) (c : Content) (o : Occurrences) → IsIn c contents → c.occurrences t ≡ Some o → IsKept (bits_of t.field table) (kept (bits_of t.field table) o)
+  pub term_kept : (t : Term) (c : Content) (o : KeptOccurrences) → IsIn c contents → c.occurrences t ≡ Some o → IsKept (bits_of t.field table) (kept (bits_of t.field table) o)
   term_kept t c o h e =
       let s = of_source c h in
       known t s.0 s.1 s.2.0 o (find (λ u. same_term t (term_of s.0.fields u)) s.0.terms) refl (ap (λ (w : Content). w.occurrences t) (sym s.2.2) ∙ e)

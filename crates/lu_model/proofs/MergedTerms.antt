@@ -6,7 +6,7 @@ use Rattle.std.specs.List.Sorted.{IsStrictlySortedBy}
 use Rattle.std.specs.Ordering.{nat_cmp}
 use mathlib.Core.Bool.{true≢false}
 use Rattle.lu_types.specs.Tables.{TableField}
-use Rattle.lu_model.specs.Index.{Term, term_cmp, in_order, Occurrences, IndexedEntry, IndexedTerm, Index}
+use Rattle.lu_model.specs.Index.{Term, term_cmp, in_order, KeptOccurrences, IndexedEntry, IndexedTerm, Index}
 use Rattle.lu_model.specs.Contents.{Content, bits_of, content_at, field_at, field_number, index_of, indexed_term, joined_table, kept, live, live_contents, merge_of, merged_term, occurrences_at, term_of}
 use Rattle.lu_model.specs.Valid.{IsIndexedTerm, IsKept, IsValid}
 use Rattle.lu_model.proofs.Words.{IsIn, Each, same_term, entries_if_any, stands_at, entry_of}
@@ -64,7 +64,7 @@ knows index n t e = at (find (λ u. same_term t (term_of index.fields u)) index.
 pub some_source : (table : List TableField) (t : Term) (m : ℕ) (contents : List Content) → 0 < length (filter_map (entry_of table t) (enumerate_from m contents)) → (c : Content) × IsIn c contents × (is_some (c.occurrences t) ≡ true)
 some_source table t m [] h = absurd (omega arith)
 some_source table t m (c ∷ contents) h =
-    elim (c.occurrences t) as (λ o. c.occurrences t ≡ o → 0 < length (cons_option (option_map (λ (occurrences : Occurrences). let e : IndexedEntry = record { document = m; occurrences = kept (bits_of t.field table) occurrences } in e) o) (filter_map (entry_of table t) (enumerate_from (m + 1) contents))) → (d : Content) × IsIn d (c ∷ contents) × (is_some (d.occurrences t) ≡ true)) [
+    elim (c.occurrences t) as (λ o. c.occurrences t ≡ o → 0 < length (cons_option (option_map (λ (occurrences : KeptOccurrences). let e : IndexedEntry = record { document = m; occurrences = kept (bits_of t.field table) occurrences } in e) o) (filter_map (entry_of table t) (enumerate_from (m + 1) contents))) → (d : Content) × IsIn d (c ∷ contents) × (is_some (d.occurrences t) ≡ true)) [
       | None ↦ λ q h. let r = some_source table t (m + 1) contents h in (r.0, inr r.1, r.2)
       | Some o ↦ λ q h. (c, inl refl, ap is_some q)
     ] refl h

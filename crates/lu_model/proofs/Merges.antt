@@ -7,7 +7,7 @@ use Rattle.lu_types.specs.Bits.{has_bit}
 use Rattle.lu_types.specs.Tables.{TableField}
 use Rattle.lu_types.specs.Bits as bit
 use Rattle.lu_types.specs.declared.document.Document.{Document}
-use Rattle.lu_model.specs.Index.{Term, Occurrences, omitted, Index}
+use Rattle.lu_model.specs.Index.{Term, KeptOccurrences, omitted, Index}
 use Rattle.lu_model.specs.Contents.{Content, bits_of, content_at, content_of, index_of, is_deleted, kept, live_contents, merge_of, under}
 use Rattle.lu_model.proofs.Words.{Source, IsSource, source_index, left_docs, IsIn, IsTerm, IsClear}
 use Rattle.lu_types.specs.Joins.{join, join_all, indexed_field, fields_of, has_payloads, asked_bits}
@@ -37,7 +37,7 @@ pub covered : (table : List TableField) (docs : List Document) → join table (f
 covered table docs covers doc h f k = subst (λ t. Has t f) covers (Has-join table (flat_map fields_of docs) f (in_flat_map fields_of doc f docs h k))
 
 -- what one table keeps, kept by another that omits wherever the first does
-kept_twice : (below above : ℕ) (o : Occurrences) → (has_bit bit.omit_tf below ≡ true → has_bit bit.omit_tf above ≡ true) → kept above (kept below o) ≡ kept above o
+kept_twice : (below above : ℕ) (o : KeptOccurrences) → (has_bit bit.omit_tf below ≡ true → has_bit bit.omit_tf above ≡ true) → kept above (kept below o) ≡ kept above o
 kept_twice below above o h =
     elim (has_bit bit.omit_tf below) as (λ b. has_bit bit.omit_tf below ≡ b → kept above (cond b omitted o) ≡ kept above o) [
       | true ↦ λ t. let up = h t in ap (λ b. cond b omitted omitted) up ∙ sym (ap (λ b. cond b omitted o) up)
@@ -77,7 +77,7 @@ module _ (all : List TableField) (source : Source) (ok : IsSource source) (above
     vectors = same_vectors source.0 source.1 fields texts n doc e;
   }
     where
-      twice : (t : Term) (o : Option Occurrences) → (content_of doc).occurrences t ≡ o → option_map (kept (bits_of t.field all)) (option_map (kept (bits_of t.field source.0)) o) ≡ option_map (kept (bits_of t.field all)) o
+      twice : (t : Term) (o : Option KeptOccurrences) → (content_of doc).occurrences t ≡ o → option_map (kept (bits_of t.field all)) (option_map (kept (bits_of t.field source.0)) o) ≡ option_map (kept (bits_of t.field all)) o
       twice t None q = refl
       twice t (Some o) q = ap Some (kept_twice (bits_of t.field source.0) (bits_of t.field all) o (omits doc (in_at source.1 n doc e) t (occurrences-in_terms doc t (ap is_some q))))
 

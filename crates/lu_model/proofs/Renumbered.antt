@@ -11,7 +11,7 @@ use Rattle.std.proofs.lemmas.Bool.Decides.{nat_tests}
 use borrow.Author.Tests.{eqb-true}
 use mathlib.Core.Bool.{true≢false}
 use Rattle.lu_types.specs.Tables.{TableField}
-use Rattle.lu_model.specs.Index.{Term, Occurrences, IndexedEntry, Index}
+use Rattle.lu_model.specs.Index.{Term, KeptOccurrences, IndexedEntry, Index}
 use Rattle.lu_model.specs.Contents.{bits_of, content_at, entries_in, is_deleted, kept, live, live_contents, live_from, merged_entries, occurrences_at, renumbered}
 use Rattle.lu_model.proofs.Words.{Each, EachPair, live_between, entry_of}
 use Rattle.lu_model.proofs.Each.{each_in, each_at}
@@ -99,11 +99,11 @@ module _ (table : List TableField) (term : Term) (index : Index) where
   low_end m n entries h = each_in (λ (entry : IndexedEntry). m ≤ entry.document) entries (λ e k. (each_at (λ (entry : IndexedEntry). (m ≤ entry.document) × (entry.document < m + n)) e entries h k).0)
 
   -- a first document that has an entry, or none
-  step : (base m n : ℕ) (rest : List IndexedEntry) (first : Option Occurrences) → occurrences_at m (entries_in index term) ≡ first
+  step : (base m n : ℕ) (rest : List IndexedEntry) (first : Option KeptOccurrences) → occurrences_at m (entries_in index term) ≡ first
       → (b : Bool) → stays m ≡ b → gathered (base + cond b 1 0) (m + 1) n ≡ rest
       → filter_map (entry_of table term) (enumerate_from base (map (content_at index) (cond b (m ∷ filter stays (range_with_len (m + 1) n)) (filter stays (range_with_len (m + 1) n)))))
-      ≡ cond b (cons_option (option_map (λ (o : Occurrences). let e : IndexedEntry = record { document = base; occurrences = kept bits o } in e) first) rest) rest
-  step base m n rest first e true q r = λ i. cons_option (option_map (λ (o : Occurrences). let e : IndexedEntry = record { document = base; occurrences = kept bits o } in e) (e i)) (r i)
+      ≡ cond b (cons_option (option_map (λ (o : KeptOccurrences). let e : IndexedEntry = record { document = base; occurrences = kept bits o } in e) first) rest) rest
+  step base m n rest first e true q r = λ i. cons_option (option_map (λ (o : KeptOccurrences). let e : IndexedEntry = record { document = base; occurrences = kept bits o } in e) (e i)) (r i)
   step base m n rest first e false q r = ap (λ k. gathered k (m + 1) n) (sym (add-zero base)) ∙ r
 
   gathered-is : (n base m : ℕ) (entries : List IndexedEntry) → Rise entries → Within m n entries → Says m entries → gathered base m n ≡ left base m entries

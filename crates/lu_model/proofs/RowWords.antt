@@ -5,7 +5,8 @@ use Rattle.lu_types.specs.declared.document.IndexedField.{IndexedField}
 use Rattle.lu_types.specs.declared.document.Token.{Token}
 use Rattle.lu_types.specs.declared.document.Vector.TheVariants.{Off, Both}
 use Rattle.lu_types.specs.declared.stored.Stored.TheVariants.{Text}
-use Rattle.lu_model.specs.Index.{IndexedEntry, IndexedTerm, Occurrence, Term, given}
+use Rattle.lu_types.specs.Occurrences.{Occurrence}
+use Rattle.lu_model.specs.Index.{IndexedEntry, IndexedTerm, Term, given}
 
 abbrev pub f : List ℕ
 f = codes "f"

@@ -11,7 +11,7 @@ use Rattle.lu_types.specs.Tables.{TableField}
 use Rattle.lu_types.specs.Bits as bit
 use Rattle.lu_types.specs.declared.document.Document.{Document}
 use Rattle.lu_types.specs.declared.stored.StoredValue.{StoredValue}
-use Rattle.lu_model.specs.Index.{Term, term_cmp, in_order, Occurrences, Index, FieldVector}
+use Rattle.lu_model.specs.Index.{Term, term_cmp, in_order, KeptOccurrences, Index, FieldVector}
 use Rattle.lu_model.specs.Contents.{Content, missing_norm, bits_of, content_at, content_of, field_number, has_norms, index_of, indexed_term, kept, name_of, occurrences_at, term_of, under, vector_of}
 use Rattle.lu_model.proofs.Words.{IsIn, HaveSame, same_term, no_field, value_in, vector_in, has_vectors, has_vector_of, stands_at, entries_if_any, byte_of, IsTerm, norms_in, stored_by_name, vector_by_name}
 use Rattle.lu_types.specs.Joins.{stored_field, indexed_field, has_vector, has_payloads, is_empty}
@@ -91,7 +91,7 @@ module _ (table : List TableField) (docs : List Document) (fields : (doc : Docum
   occurrences_say n doc e t true q = entries_say n doc e t
   occurrences_say n doc e t false q = sym (ap (option_map (kept (bits_of t.field table))) (unknown ((content_of doc).occurrences t) refl))
     where
-      unknown : (o : Option Occurrences) → (content_of doc).occurrences t ≡ o → o ≡ None
+      unknown : (o : Option KeptOccurrences) → (content_of doc).occurrences t ≡ o → o ≡ None
       unknown None p = refl
       unknown (Some o) p =
           absurd (true≢false (sym (any-in t keys (in_keys doc (in_at docs n doc e) t (occurrences-in_terms doc t (ap is_some p)))) ∙ q))

@@ -21,7 +21,8 @@ use Rattle.lu_types.specs.Documents.{IsDocument, IsIndexedField, IsToken}
 use Rattle.lu_types.specs.DocFaults.{IsSoundToken, IsSoundField, IsSound}
 use Rattle.lu_types.specs.Joins.{has_payloads, asked_bits}
 use Rattle.lu_types.specs.declared.stored.Stored.TheVariants.{Binary}
-use Rattle.lu_model.specs.Index.{Term, Occurrence, Occurrences, given, omitted, IndexedEntry}
+use Rattle.lu_types.specs.Occurrences.{Occurrence}
+use Rattle.lu_model.specs.Index.{Term, KeptOccurrences, given, omitted, IndexedEntry}
 use Rattle.lu_model.specs.Contents.{Content, bits_of, content_of, given_if_any, kept, tokens_for, tokens_with}
 use Rattle.lu_model.specs.Valid.{IsSmall, IsStorable, IsKept}
 use Rattle.lu_model.proofs.Words.{IsIn, Each, entry_of}
@@ -51,7 +52,7 @@ module _ (table : List TableField) (term : Term) where
   abbrev entries_from : ℕ → List Content → List IndexedEntry
   entries_from m contents = filter_map (entry_of table term) (enumerate_from m contents)
 
-  pub entries_within : (size m : ℕ) (contents : List Content) → m + length contents ≤ size → ((c : Content) (o : Occurrences) → IsIn c contents → c.occurrences term ≡ Some o → IsKept bits (kept bits o))
+  pub entries_within : (size m : ℕ) (contents : List Content) → m + length contents ≤ size → ((c : Content) (o : KeptOccurrences) → IsIn c contents → c.occurrences term ≡ Some o → IsKept bits (kept bits o))
       → Each (λ entry. (m ≤ entry.document) × (entry.document < size) × IsKept bits entry.occurrences) (entries_from m contents)
   entries_within size m [] room h = tt
   entries_within size m (c ∷ contents) room h =
@@ -59,7 +60,7 @@ module _ (table : List TableField) (term : Term) where
       let at = each_at (λ (entry : IndexedEntry). (m + 1 ≤ entry.document) × (entry.document < size) × IsKept bits entry.occurrences) e (entries_from (m + 1) contents) (entries_within size (m + 1) contents (omega arith) (λ d o q. h d o (inr q))) k in
       let above : m + 1 ≤ e.document = at.0 in
       (omega arith, at.1, at.2)) in
-      elim (c.occurrences term) as (λ o. c.occurrences term ≡ o → Each (λ (entry : IndexedEntry). (m ≤ entry.document) × (entry.document < size) × IsKept bits entry.occurrences) (cons_option (option_map (λ (occurrences : Occurrences). let e : IndexedEntry = record { document = m; occurrences = kept bits occurrences } in e) o) (entries_from (m + 1) contents))) [
+      elim (c.occurrences term) as (λ o. c.occurrences term ≡ o → Each (λ (entry : IndexedEntry). (m ≤ entry.document) × (entry.document < size) × IsKept bits entry.occurrences) (cons_option (option_map (λ (occurrences : KeptOccurrences). let e : IndexedEntry = record { document = m; occurrences = kept bits occurrences } in e) o) (entries_from (m + 1) contents))) [
         | None ↦ λ q. rest
         | Some o ↦ λ q. ((omega arith, omega arith, h c o (inl refl) q), rest)
       ] refl
@@ -73,7 +74,7 @@ module _ (table : List TableField) (term : Term) where
   not_below m (c ∷ contents) =
       let rest = each_in (λ (entry : IndexedEntry). m ≤ entry.document) (entries_from (m + 1) contents) (λ e k.
       let at : m + 1 ≤ e.document = each_at (λ (entry : IndexedEntry). m + 1 ≤ entry.document) e (entries_from (m + 1) contents) (not_below (m + 1) contents) k in omega arith) in
-      elim (c.occurrences term) as (λ o. Each (λ (entry : IndexedEntry). m ≤ entry.document) (cons_option (option_map (λ (occurrences : Occurrences). let e : IndexedEntry = record { document = m; occurrences = kept bits occurrences } in e) o) (entries_from (m + 1) contents))) [
+      elim (c.occurrences term) as (λ o. Each (λ (entry : IndexedEntry). m ≤ entry.document) (cons_option (option_map (λ (occurrences : KeptOccurrences). let e : IndexedEntry = record { document = m; occurrences = kept bits occurrences } in e) o) (entries_from (m + 1) contents))) [
         | None ↦ rest
         | Some o ↦ (omega arith, rest)
       ]
@@ -85,7 +86,7 @@ module _ (table : List TableField) (term : Term) where
       let rest = entries_rise (m + 1) contents in
       let above = above_all m (entries_from (m + 1) contents) (each_in (λ (entry : IndexedEntry). m < entry.document) (entries_from (m + 1) contents) (λ e k.
       let at : m + 1 ≤ e.document = each_at (λ (entry : IndexedEntry). m + 1 ≤ entry.document) e (entries_from (m + 1) contents) (not_below (m + 1) contents) k in omega arith)) in
-      elim (c.occurrences term) as (λ o. IsStrictlySortedBy nat_cmp (map (λ (entry : IndexedEntry). entry.document) (cons_option (option_map (λ (occurrences : Occurrences). let e : IndexedEntry = record { document = m; occurrences = kept bits occurrences } in e) o) (entries_from (m + 1) contents)))) [
+      elim (c.occurrences term) as (λ o. IsStrictlySortedBy nat_cmp (map (λ (entry : IndexedEntry). entry.document) (cons_option (option_map (λ (occurrences : KeptOccurrences). let e : IndexedEntry = record { document = m; occurrences = kept bits occurrences } in e) o) (entries_from (m + 1) contents)))) [
         | None ↦ rest
         | Some o ↦ (above, rest)
       ]
@@ -94,18 +95,18 @@ module _ (table : List TableField) (term : Term) where
   some_entry m c [] h e = absurd h
   some_entry m c (d ∷ contents) (inl q) e =
       let there : is_some (d.occurrences term) ≡ true = ap (λ (w : Content). is_some (w.occurrences term)) (sym q) ∙ e in
-      elim (d.occurrences term) as (λ o. is_some o ≡ true → 0 < length (cons_option (option_map (λ (occurrences : Occurrences). let e : IndexedEntry = record { document = m; occurrences = kept bits occurrences } in e) o) (entries_from (m + 1) contents))) [
+      elim (d.occurrences term) as (λ o. is_some o ≡ true → 0 < length (cons_option (option_map (λ (occurrences : KeptOccurrences). let e : IndexedEntry = record { document = m; occurrences = kept bits occurrences } in e) o) (entries_from (m + 1) contents))) [
         | None ↦ λ t. absurd (true≢false (sym t))
         | Some o ↦ λ t. omega arith
       ] there
   some_entry m c (d ∷ contents) (inr k) e =
       let rest = some_entry (m + 1) c contents k e in
-      elim (d.occurrences term) as (λ o. 0 < length (cons_option (option_map (λ (occurrences : Occurrences). let e : IndexedEntry = record { document = m; occurrences = kept bits occurrences } in e) o) (entries_from (m + 1) contents))) [
+      elim (d.occurrences term) as (λ o. 0 < length (cons_option (option_map (λ (occurrences : KeptOccurrences). let e : IndexedEntry = record { document = m; occurrences = kept bits occurrences } in e) o) (entries_from (m + 1) contents))) [
         | None ↦ rest
         | Some o ↦ omega arith
       ]
 
-given_is : (tokens : List Token) (o : Occurrences) → given_if_any tokens ≡ Some o → (o ≡ given (map occurrence tokens)) × (0 < length tokens)
+given_is : (tokens : List Token) (o : KeptOccurrences) → given_if_any tokens ≡ Some o → (o ≡ given (map occurrence tokens)) × (0 < length tokens)
 given_is [] o e = cc
 given_is (t ∷ tokens) o e = let same : given (map occurrence (t ∷ tokens)) ≡ o = cc in (sym same, omega arith)
 
@@ -118,7 +119,7 @@ module _ (table : List TableField) (doc : Document) (limits : Limits) (small : I
   made_field f h = each_at IsIndexedField f doc.indexed (each-from_all IsIndexedField doc.indexed made.indexed) h
 
   -- what is kept of a term in the document is as the table wants it
-  pub is_kept : (term : Term) (o : Occurrences) → (content_of doc).occurrences term ≡ Some o → IsKept (bits_of term.field table) (kept (bits_of term.field table) o)
+  pub is_kept : (term : Term) (o : KeptOccurrences) → (content_of doc).occurrences term ≡ Some o → IsKept (bits_of term.field table) (kept (bits_of term.field table) o)
   is_kept term o e =
       let s = stands_in doc term (occurrences-in_terms doc term (ap is_some e)) in
       let f = s.field in

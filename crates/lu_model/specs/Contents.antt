@@ -14,7 +14,7 @@ use Rattle.lu_types.specs.declared.document.Document.{Document}
 use Rattle.lu_types.specs.declared.document.IndexedField.{IndexedField}
 use Rattle.lu_types.specs.declared.document.Token.{Token}
 use Rattle.lu_types.specs.declared.stored.StoredValue.{StoredValue}
-use Rattle.lu_model.specs.Index.{Term, term_cmp, in_order, Occurrences, given, omitted, IndexedEntry, IndexedTerm, FieldVector, Index}
+use Rattle.lu_model.specs.Index.{Term, term_cmp, in_order, KeptOccurrences, given, omitted, IndexedEntry, IndexedTerm, FieldVector, Index}
 
 -- the number of the field that has the name, from 0; the number of fields where none has it
 abbrev pub field_number : List ℕ → List TableField → ℕ
@@ -44,7 +44,7 @@ missing_norm = 124
 pub record Content : Type 0 where
   pub stored : List StoredValue
   pub terms : List Term
-  pub occurrences : Term → Option Occurrences
+  pub occurrences : Term → Option KeptOccurrences
   pub norm : List ℕ → Option ℕ
   pub vectors : List (FieldVector (List ℕ))
 
@@ -60,7 +60,7 @@ vectors_in table vectors =
     (filter (λ vector. has_bit bit.vectors (bits_of vector.field table)) vectors)
 
 -- what a field with these bits keeps of a term in a document: where it omits frequencies and positions, only that the term is there
-abbrev pub kept : ℕ → Occurrences → Occurrences
+abbrev pub kept : ℕ → KeptOccurrences → KeptOccurrences
 kept bits occurrences = cond (has_bit bit.omit_tf bits) omitted occurrences
 
 -- a term with the documents in which it stands, in order
@@ -100,7 +100,7 @@ abbrev pub tokens_for : Term → IndexedField → List Token
 tokens_for term field = cond (bytes_eq term.field field.field) (tokens_with term.text field.tokens) []
 
 -- the occurrences of a term, if it has tokens
-abbrev pub given_if_any : List Token → Option Occurrences
+abbrev pub given_if_any : List Token → Option KeptOccurrences
 given_if_any tokens =
     cond (is_empty tokens) None (Some (given (map (λ token. record { position = token.position; payload = token.payload }) tokens)))
 
@@ -149,7 +149,7 @@ entries_in index term = unwrap_or (option_map (λ found. found.entries)
     (find (λ t. bytes_eq term.field (name_of index.fields t.field) && bytes_eq term.text t.text) index.terms)) []
 
 -- what the entries say of a document, if it is among them
-abbrev pub occurrences_at : ℕ → List IndexedEntry → Option Occurrences
+abbrev pub occurrences_at : ℕ → List IndexedEntry → Option KeptOccurrences
 occurrences_at document entries = option_map (λ entry. entry.occurrences) (find (λ entry. document == entry.document) entries)
 
 -- what a document of an index holds

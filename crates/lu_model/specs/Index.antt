@@ -5,6 +5,7 @@ use Rattle.std.specs.BTreeSet.{insert_key}
 use Rattle.std.specs.List.{fold}
 use Rattle.std.specs.Ordering.{ordering_then}
 use Rattle.lu_prims.specs.Order.{text_cmp}
+use Rattle.lu_types.specs.Occurrences.{Occurrence}
 use Rattle.lu_types.specs.StoredFields.{StoredField}
 use Rattle.lu_types.specs.Tables.{TableField}
 
@@ -21,25 +22,20 @@ term_cmp a b = ordering_then (text_cmp a.field b.field) (text_cmp a.text b.text)
 unfoldable pub in_order : {X : Type 0} → (X → X → Ordering) → List X → List X
 in_order cmp items = fold (insert_key cmp) [] items
 
--- where a term stands in a document, and its payload there, empty where it has none
-pub record Occurrence : Type 0 where
-  pub position : ℕ
-  pub payload : List ℕ
-
 -- what is known of a term in a document: its occurrences, or only that it stands there
-pub data Occurrences : Type 0 where
-  given : List Occurrence → Occurrences
-  omitted : Occurrences
+pub data KeptOccurrences : Type 0 where
+  given : List Occurrence → KeptOccurrences
+  omitted : KeptOccurrences
 
 -- how often the term stands in the document; 1 where that is omitted
-abbrev pub frequency : Occurrences → ℕ
+abbrev pub frequency : KeptOccurrences → ℕ
 frequency (given occurrences) = length occurrences
 frequency omitted = 1
 
 -- a document in which a term stands
 pub record IndexedEntry : Type 0 where
   pub document : ℕ
-  pub occurrences : Occurrences
+  pub occurrences : KeptOccurrences
 
 -- a term with its entries: the number of its field, and its text
 pub record IndexedTerm : Type 0 where

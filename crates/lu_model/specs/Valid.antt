@@ -11,7 +11,8 @@ use Rattle.lu_types.specs.Tables.{TableField, IsTable}
 use Rattle.lu_types.specs.Bits as bit
 use Rattle.lu_types.specs.declared.stored.Stored.{Stored}
 use Rattle.lu_types.specs.declared.stored.Stored.TheVariants.{Text, Binary}
-use Rattle.lu_model.specs.Index.{term_cmp, Occurrence, Occurrences, given, omitted, IndexedTerm, VectorTerm, FieldVector, Index}
+use Rattle.lu_types.specs.Occurrences.{Occurrence}
+use Rattle.lu_model.specs.Index.{term_cmp, KeptOccurrences, given, omitted, IndexedTerm, VectorTerm, FieldVector, Index}
 use Rattle.lu_model.specs.Contents.{field_at, has_norms, term_of}
 
 -- below 2^31: a count, a length, a position or an offset
@@ -31,7 +32,7 @@ pub record AreOccurrences (bits : ℕ) (occurrences : List Occurrence) : Type 0 
   pub payloads : has_bit bit.payloads bits ≡ false → All (λ o. o.payload ≡ []) occurrences
 
 -- what a field with these bits keeps of a term in a document: occurrences are omitted exactly where the field omits them
-abbrev pub IsKept : ℕ → Occurrences → Type 0
+abbrev pub IsKept : ℕ → KeptOccurrences → Type 0
 IsKept bits (given occurrences) = (has_bit bit.omit_tf bits ≡ false) × AreOccurrences bits occurrences
 IsKept bits omitted = has_bit bit.omit_tf bits ≡ true
 

@@ -7,4 +7,6 @@ pub mod PutLemmas
 pub mod QuotedLemmas
 pub mod Quotients
 pub mod Remainders
+pub mod TextLemmas
+pub mod StepLemmas
 pub mod Units

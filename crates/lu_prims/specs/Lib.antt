@@ -3,3 +3,4 @@ pub mod Checksum
 pub mod Cur
 pub mod Order
 pub mod Quoted
+pub mod Steps

@@ -1,7 +1,7 @@
 ghost use Rattle.std.specs.Prelude.{◌≡◌, ◌<◌, List, ℕ};
 ghost use Rattle.std.specs.Cmp.{IsTotalOrder};
 ghost use Rattle.std.specs.Str.{IsUtf8};
-ghost use Rattle.lu_prims.specs.Order.{byte_rank, text_cmp, units};
+ghost use Rattle.lu_prims.specs.Order.{byte_rank, bytes_cmp, text_cmp, units};
 
 use std::cmp::Ordering;
 
@@ -11,15 +11,20 @@ use std::cmp::Ordering;
 pub fn utf16_cmp(a: &str, b: &str) -> Ordering
     ensures { result ≡ text_cmp a.now b.now }
 {
-    let left = a.as_bytes();
-    let right = b.as_bytes();
-    let shared = left.len().min(right.len());
+    tail_cmp(a.as_bytes(), b.as_bytes())
+}
+
+/// Compares the bytes that follow what two texts share, in the order of `utf16_cmp`. It takes no memory.
+pub fn tail_cmp(a: &[u8], b: &[u8]) -> Ordering
+    ensures { result ≡ bytes_cmp a.now b.now }
+{
+    let shared = a.len().min(b.len());
     for place in 0..shared {
-        if left[place] != right[place] {
-            return byte_rank(left[place]).cmp(&byte_rank(right[place]));
+        if a[place] != b[place] {
+            return byte_rank(a[place]).cmp(&byte_rank(b[place]));
         }
     }
-    left.len().cmp(&right.len())
+    a.len().cmp(&b.len())
 }
 
 /// `utf16_cmp` is a total order of texts: texts with the same units, and texts that it calls equal, are the same.

@@ -1,5 +1,5 @@
 -- Files that are needed stand for one thing, or have one first fault.
-use Rattle.std.proofs.Common.{◌≡◌, ◌⊎◌, ℕ, List, [], ◌∷◌, ◌++◌, Option, Some, None, Result, Ok, Err, refl, sym, ap, subst, ◌∙◌, inl, inr}
+use Rattle.std.proofs.Common.{◌≡◌, ◌⊎◌, ℕ, List, [], ◌∷◌, ◌++◌, Option, Some, None, Result, Ok, Err, refl, sym, subst, ◌∙◌, inl, inr}
 use Rattle.std.specs.Option.{ForSome}
 use Rattle.lu_grammar.specs.Bytes.{IsBytes}
 use Rattle.lu_grammar.specs.Plans.{Plan, Broken, read_file}
@@ -12,6 +12,7 @@ use Rattle.lu_types.specs.declared.fault.CodecFault.{CodecFault}
 use Rattle.lu_types.specs.declared.fault.CodecFault.TheVariants as faults
 use Rattle.lu_types.specs.Judging.{Checks}
 use Rattle.lu_types.specs.FilePlans.{FilePlan, stands, needs, StandFor, missing, followed_by, each_file, IsFaultAmong, Judges, HoldBytes}
+use Rattle.lu_types.proofs.SpotLemmas.{spot_of, same_spot}
 
 -- they stand for one thing at most
 pub one_meaning : {X : Type 0} (files : FilePlan X) (x y : X) → StandFor files x → StandFor files y → x ≡ y
@@ -27,14 +28,6 @@ no_fault_if_they_stand (needs kind None plan after) x spot made a fault = a
 no_fault_if_they_stand (needs kind (Some bytes) plan after) x spot made (v, reads, a) (inl f) = no_fault_if_read (plan bytes) bytes v spot.offset spot.rule made.0 reads f.1
 no_fault_if_they_stand (needs kind (Some bytes) plan after) x spot made (v, reads, a) (inr (w, also, f)) =
     no_fault_if_they_stand (after bytes v) x spot (made.1 v) a (subst (λ u. IsFaultAmong (after bytes u) spot) (value_is_one (plan bytes) bytes w v also reads) f)
-
--- the spot of these parts
-abbrev spot_of : FileKind → ℕ → ℕ → Spot
-spot_of kind offset rule = record { kind = kind; offset = offset; rule = rule }
-
--- spots with the same parts are one
-same_spot : (a b : Spot) → a.kind ≡ b.kind → a.offset ≡ b.offset → a.rule ≡ b.rule → a ≡ b
-same_spot a b kind offset rule = ap (λ k. spot_of k a.offset a.rule) kind ∙ ap (λ n. spot_of b.kind n a.rule) offset ∙ ap (spot_of b.kind b.offset) rule
 
 -- they have one first fault at most
 pub one_fault_among : {X : Type 0} (files : FilePlan X) (a b : Spot) → HoldBytes files → IsFaultAmong files a → IsFaultAmong files b → a ≡ b

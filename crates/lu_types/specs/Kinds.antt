@@ -1,5 +1,5 @@
 -- The extensions of the kinds of files, and the order in which files are checked.
-use Rattle.std.specs.Prelude.{◌≡◌, ℕ, ◌<◌, List, ◌++◌, ◌⊎◌, codes, decimal}
+use Rattle.std.specs.Prelude.{◌≡◌, ℕ, ◌<◌, List, [], ◌∷◌, ◌++◌, ◌⊎◌, codes, decimal}
 use Rattle.lu_types.specs.declared.kind.FileKind.{FileKind}
 use Rattle.lu_types.specs.declared.kind.FileKind.TheVariants.{Commit, Cfs, Cfx, Fnm, Fdx, Fdt, Tis, Tii, Frq, Prx, Nrm, Sep, Del, Tvx, Tvd, Tvf}
 
@@ -44,3 +44,14 @@ turn Tvf = (15, 0)
 -- files of the first kind are checked before those of the second
 abbrev pub IsBefore : FileKind → FileKind → Type 0
 IsBefore a b = ((turn a).0 < (turn b).0) ⊎ (((turn a).0 ≡ (turn b).0) × ((turn a).1 < (turn b).1))
+
+-- the kinds of parts up to the norms, and those behind the deleted documents, in the order in which files are checked
+abbrev pub front_kinds : List FileKind
+front_kinds = Cfs ∷ Cfx ∷ Fnm ∷ Fdx ∷ Fdt ∷ Tis ∷ Tii ∷ Frq ∷ Prx ∷ Nrm ∷ []
+
+abbrev pub vector_kinds : List FileKind
+vector_kinds = Tvx ∷ Tvd ∷ Tvf ∷ []
+
+-- the kinds of which a segment has one file that is named by its extension, in that order
+abbrev pub part_kinds : List FileKind
+part_kinds = front_kinds ++ vector_kinds

@@ -8,8 +8,10 @@ pub mod Joins
 pub mod Judging
 pub mod Kinds
 pub mod Names
+pub mod Occurrences
 pub mod RuleNumbers
 pub mod Rules
 pub mod StoredFields
+pub mod Stores
 pub mod Tables
 pub mod Terms

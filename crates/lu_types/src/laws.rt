@@ -2,6 +2,7 @@
 ghost use Rattle.std.specs.Prelude.{◌≡◌};
 ghost use Rattle.lu_types.specs.RuleNumbers as number;
 ghost use Rattle.lu_types.specs.Bits as bit;
+ghost use Rattle.lu_types.specs.Kinds.{front_kinds, vector_kinds, part_kinds};
 ghost use Rattle.lu_types.specs.Names.{greatest_segment};
 
 use crate::bits::INDEXED;
@@ -11,6 +12,9 @@ use crate::bits::PAYLOADS;
 use crate::bits::VECTOR_OFFSETS;
 use crate::bits::VECTOR_POSITIONS;
 use crate::bits::VECTORS;
+use crate::kinds::FRONT_KINDS;
+use crate::kinds::PART_KINDS;
+use crate::kinds::VECTOR_KINDS;
 use crate::names::GREATEST_SEGMENT;
 use crate::rules::CFS_FIRST;
 use crate::rules::CFS_OFFSET;
@@ -129,4 +133,9 @@ pub fn bits_are_numbered()
 /// The greatest number of a segment is the one that the definitions have.
 pub fn names_are_bounded()
     ensures { GREATEST_SEGMENT ≡ greatest_segment }
+{}
+
+/// The kinds of files that are parts are those that the definitions list.
+pub fn kinds_are_listed()
+    ensures { (FRONT_KINDS ≡ front_kinds) × (VECTOR_KINDS ≡ vector_kinds) × (PART_KINDS ≡ part_kinds) }
 {}

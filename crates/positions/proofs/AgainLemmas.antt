@@ -8,8 +8,9 @@ use Rattle.lu_grammar.proofs.Records.{same_pair}
 use Rattle.lu_grammar.proofs.Plans.{ok_of}
 use Rattle.lu_grammar.proofs.Loops.{then_ok, each-again, times-again}
 use Rattle.lu_grammar.proofs.Codecs.{all_unbroken, same-of, record_at-kept}
+use Rattle.lu_types.specs.Occurrences.{Occurrence}
 use Rattle.positions.specs.Records.{OccurrenceRecord, occurrence_shape, position_gap, length_after}
-use Rattle.positions.specs.Occurrences.{Occurrence, PostedTerm, Held, nothing_held, closed, due_with, occurrence_conditions, occurrence_kind, count_at, entry_plan, entries_plan}
+use Rattle.positions.specs.Occurrences.{PostedTerm, Held, nothing_held, closed, due_with, occurrence_conditions, occurrence_kind, count_at, entry_plan, entries_plan}
 use Rattle.positions.specs.Terms.{term_plan}
 use Rattle.positions.specs.Standing.{StandsIn}
 use Rattle.positions.proofs.StandLemmas.{occurrence_at, kind_at, ended, ended_ok, entry-ended, told, told_ok, term-told, Stands-none, Stands-more, Stands-as, Stands-closed}

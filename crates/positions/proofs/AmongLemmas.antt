@@ -6,15 +6,16 @@ use Rattle.lu_grammar.specs.Bytes.{IsBytes, Cursor, place_in}
 use Rattle.lu_grammar.specs.Records.{read_shape}
 use Rattle.lu_grammar.specs.Plans.{read_plan}
 use Rattle.lu_grammar.proofs.Codecs.{read_plan-ReadsTo}
+use Rattle.lu_types.specs.Occurrences.{Occurrence}
 use Rattle.freq_skips.specs.declared.rules.RuledTerm.{RuledTerm}
 use Rattle.freq_skips.specs.declared.skip_point.SkipPoint.{SkipPoint}
 use Rattle.freq_skips.specs.Points.{IsPoint}
 use Rattle.freq_skips.specs.Terms.{TermData}
 use Rattle.positions.specs.Records.{OccurrenceRecord, occurrence_shape, position_gap, length_after}
-use Rattle.positions.specs.Occurrences.{Occurrence, PostedTerm, occurrence_of, count_at}
+use Rattle.positions.specs.Occurrences.{PostedTerm, occurrence_of, count_at}
 use Rattle.positions.specs.Terms.{term_plan}
 use Rattle.positions.specs.Standing.{count_before, Skims, StandsIn, PassesOver}
-use Rattle.positions.specs.Cursors.{CursorState, StandsInBoth, Agrees, StandsBefore, StandsAmong, StandsWith, IsAmong, posted_term}
+use Rattle.positions.specs.Cursors.{CursorState, StandsInBoth, Agrees, StandsAtEntry, StandsAmong, StandsWith, IsAmong, posted_term}
 use Rattle.positions.proofs.StandLemmas.{Skims-as}
 use Rattle.positions.proofs.AgainLemmas.{StandsFirst, Stands-upto}
 use Rattle.positions.proofs.ValueLemmas.{entry-length}

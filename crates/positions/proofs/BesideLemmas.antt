@@ -4,6 +4,7 @@ use Rattle.std.specs.Prelude.{slice_index_or}
 use Rattle.std.proofs.lemmas.List.{length-append}
 use Rattle.lu_grammar.specs.Bytes.{IsBytes, Cursor, place_in}
 use Rattle.lu_grammar.specs.Meaning.{ReadsTo}
+use Rattle.lu_types.specs.Occurrences.{Occurrence}
 use Rattle.freq_skips.specs.declared.rules.RuledTerm.{RuledTerm}
 use Rattle.freq_skips.specs.Entries.{Posting, no_posting}
 use Rattle.freq_skips.specs.Levels.{stride}
@@ -12,7 +13,6 @@ use Rattle.freq_skips.specs.declared.writer.Handed.{Handed}
 use Rattle.freq_skips.specs.Written.{no_handed, entry_bytes, written_postings}
 use Rattle.freq_skips.specs.Writing.{IsAsHanded}
 use Rattle.freq_skips.proofs.Powers.{power-pos}
-use Rattle.positions.specs.Occurrences.{Occurrence}
 use Rattle.positions.specs.Terms.{term_plan as prx_term_plan}
 use Rattle.positions.specs.Written.{occurrences_bytes, IsHanded}
 use Rattle.positions.specs.Beside.{IsBeside}

@@ -6,9 +6,10 @@ use Rattle.lu_grammar.specs.Plans.{one, times, read_plan}
 use Rattle.lu_grammar.proofs.Loops.{each-none}
 use Rattle.lu_grammar.proofs.Plans.{ok_of}
 use Rattle.lu_grammar.proofs.Records.{same_pair}
-use Rattle.positions.specs.Occurrences.{Occurrence, PostedTerm, count_at}
+use Rattle.lu_types.specs.Occurrences.{Occurrence}
+use Rattle.positions.specs.Occurrences.{PostedTerm, count_at}
 use Rattle.positions.specs.Standing.{passed_kind, count_before, Skims, StandsIn, PassesOver}
-use Rattle.positions.specs.Cursors.{CursorState, Agrees, StandsBefore, StandsAmong, StandsWith}
+use Rattle.positions.specs.Cursors.{CursorState, Agrees, StandsAtEntry, StandsAmong, StandsWith}
 use Rattle.positions.proofs.StandLemmas.{Skims-as, Stands-as, Stands-closed}
 use Rattle.positions.proofs.PassLemmas.{Skims-same, Skims-rest}
 use Rattle.positions.proofs.AgreeLemmas.{agrees-passed}

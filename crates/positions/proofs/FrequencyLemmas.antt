@@ -11,7 +11,7 @@ use Rattle.lu_grammar.specs.Meaning.{ReadsTo}
 use Rattle.lu_grammar.proofs.Codecs.{all_unbroken, record_at-kept, times-keeps}
 use Rattle.freq_skips.specs.declared.rules.RuledTerm.{RuledTerm}
 use Rattle.freq_skips.specs.Records.{Record, stated_of}
-use Rattle.freq_skips.specs.Entries.{Posting, no_posting, Passed, no_entry, frequency, is_low, posting_of, entry_conditions, entry_kind, postings_from}
+use Rattle.freq_skips.specs.Entries.{Posting, no_posting, EntriesSoFar, no_entry, frequency, is_low, posting_of, entry_conditions, entry_kind, postings_from}
 use Rattle.freq_skips.specs.Terms.{TermData, term_plan}
 use Rattle.positions.specs.Occurrences.{PostedTerm, count_at}
 use Rattle.freq_skips.proofs.EntryLemmas.{postings_from-is, postings_from-length}
@@ -42,7 +42,7 @@ AreFrequent-more ps q h some = record {
   ];
 }
 
-AreFrequent-step : (t : RuledTerm) (s : Passed) (c : Cursor) (r : Record) (d : Cursor) → AreFrequent s.postings → record_at ((entry_kind t).shape s) ((entry_kind t).conditions s c.place) c ≡ Ok (r, d) → AreFrequent ((entry_kind t).after s c.place r).postings
+AreFrequent-step : (t : RuledTerm) (s : EntriesSoFar) (c : Cursor) (r : Record) (d : Cursor) → AreFrequent s.postings → record_at ((entry_kind t).shape s) ((entry_kind t).conditions s c.place) c ≡ Ok (r, d) → AreFrequent ((entry_kind t).after s c.place r).postings
 AreFrequent-step t s c r d h e =
     let kept = all_unbroken ((entry_kind t).conditions s c.place r) (record_at-kept ((entry_kind t).shape s) ((entry_kind t).conditions s c.place) c r d e) in
     AreFrequent-more s.postings (posting_of t s.doc c.place r) h (frequency-some (stated_of r) kept.1.1.1.0)

@@ -14,16 +14,17 @@ use Rattle.lu_grammar.proofs.Plans.{ok_of}
 use Rattle.lu_grammar.proofs.Records.{same_pair, TakesRecord, read_shape-judges, ShapeJudges}
 use Rattle.lu_grammar.proofs.Loops.{read_plan-and_then, then_ok, one-was}
 use Rattle.lu_grammar.proofs.Codecs.{all_unbroken, record_at-was, read_plan-ReadsTo, IsBytes-after}
+use Rattle.lu_types.specs.Occurrences.{Occurrence}
 use Rattle.freq_skips.specs.declared.rules.RuledTerm.{RuledTerm}
 use Rattle.freq_skips.specs.Records.{alone}
 use Rattle.freq_skips.specs.Levels.{number_or}
 use Rattle.freq_skips.specs.Entries.{no_posting}
 use Rattle.freq_skips.specs.Terms.{TermData}
 use Rattle.positions.specs.Records.{OccurrenceRecord, payload_shape, occurrence_shape, states_length, length_after, position_gap}
-use Rattle.positions.specs.Occurrences.{Occurrence, PostedTerm, Held, occurrence_of, occurrence_conditions, due_of, occurrence_kind, count_at, entries_plan}
+use Rattle.positions.specs.Occurrences.{PostedTerm, Held, occurrence_of, occurrence_conditions, due_of, occurrence_kind, count_at, entries_plan}
 use Rattle.positions.specs.Terms.{term_plan}
 use Rattle.positions.specs.Standing.{passed_kind, count_before, Skims}
-use Rattle.positions.specs.Written.{last_position, IsDocument}
+use Rattle.positions.specs.Written.{last_position, AreGoodOccurrences}
 use Rattle.positions.specs.Cursors.{StandsInBoth, posted_term}
 use Rattle.positions.proofs.FrequencyLemmas.{count_at-kept}
 use Rattle.positions.proofs.StandLemmas.{Stands-start}
@@ -66,7 +67,7 @@ forced-small b start n force here fits h =
     n 0 start force here (omega arith, fits) h.reads).0
 
 -- one occurrence more at the end of a document
-document-more : (b : Bool) (last : ℕ) (os : List Occurrence) (o : Occurrence) → IsDocument b last os → last_position last os ≤ o.position → o.position < 2 ^ 31 → length o.payload < 2 ^ 31 → IsBytes o.payload → (b ≡ false → o.payload ≡ []) → IsDocument b last (os ++ o ∷ [])
+document-more : (b : Bool) (last : ℕ) (os : List Occurrence) (o : Occurrence) → AreGoodOccurrences b last os → last_position last os ≤ o.position → o.position < 2 ^ 31 → length o.payload < 2 ^ 31 → IsBytes o.payload → (b ≡ false → o.payload ≡ []) → AreGoodOccurrences b last (os ++ o ∷ [])
 document-more b last [] o is le small few bytes none = (le, small, few, bytes, none, tt)
 document-more b last (x ∷ os) o (a, s, f, y, n, more) le small few bytes none = (a, s, f, y, n, document-more b x.position os o more le small few bytes none)
 
@@ -76,7 +77,7 @@ last_position-end last (x ∷ os) o = last_position-end x.position os o
 
 -- the occurrences of a document so far
 record IsGoodSoFar (b : Bool) (s : Held) (c : Cursor) : Type 0 where
-  pub document : IsDocument b 0 s.now
+  pub document : AreGoodOccurrences b 0 s.now
   pub position : s.position ≡ last_position 0 s.now
   pub small : s.force < 2 ^ 31
   pub plain : b ≡ false → s.force ≡ 0
@@ -110,7 +111,7 @@ good-step p s c r d h e =
 
 -- the occurrences of an entry of a term that stands in both files
 pub entry-good : (t : RuledTerm) (value : TermData) (prx : List ℕ) (occurrences : List (List Occurrence)) (k : ℕ) → IsBytes prx → StandsInBoth t value prx occurrences → t.rules.omit_tf ≡ false → k < t.info.doc_freq
-    → IsDocument t.rules.payloads 0 (slice_index_or occurrences k []) × (length (slice_index_or occurrences k []) ≡ (slice_index_or value.postings k no_posting).freq)
+    → AreGoodOccurrences t.rules.payloads 0 (slice_index_or occurrences k []) × (length (slice_index_or occurrences k []) ≡ (slice_index_or value.postings k no_posting).freq)
 entry-good t value prx occurrences k fits good omit lt =
     let p = posted_term t value in
     let b = t.rules.payloads in
@@ -124,7 +125,7 @@ entry-good t value prx occurrences k fits good omit lt =
     let force : h.mid.force ≡ first.force = ap (λ (s : Held). s.force) here.0 ∙ h.force_is in
     let small = forced-small b start (count_before p k + 0) first.force first.here bytes h.skims in
     let begun : IsGoodSoFar b h.mid h.behind = record {
-      document = subst (λ (l : List Occurrence). IsDocument b 0 l) (sym h.fresh) tt;
+      document = subst (λ (l : List Occurrence). AreGoodOccurrences b 0 l) (sym h.fresh) tt;
       position = ap (λ (s : Held). s.position) here.0 ∙ h.position_is ∙ ap (last_position 0) (sym h.fresh);
       small = omega arith;
       plain = λ is. force ∙ Skims-plain start (count_before p k + 0) first.force first.here (subst (λ (x : Bool). Skims x start (count_before p k + 0) first.force first.here) is h.skims);
@@ -132,4 +133,4 @@ entry-good t value prx occurrences k fits good omit lt =
     } in
     let read = times-keeps-at (occurrence_kind p) (IsGoodSoFar b) (good-step p) (count_at p k) h.mid h.behind parts.here parts.next begun parts.times_read in
     let is = entry-is p start occurrences good.end k h.mid h.behind parts h.begun (entry-kept p (count_at p k) h.mid h.behind parts.here parts.next parts.times_read) in
-    (subst (λ (l : List Occurrence). IsDocument b 0 l) (sym is) read.document, entry-length p start occurrences good.end k all lt ∙ count_at-kept p k omit)
+    (subst (λ (l : List Occurrence). AreGoodOccurrences b 0 l) (sym is) read.document, entry-length p start occurrences good.end k all lt ∙ count_at-kept p k omit)

@@ -6,7 +6,8 @@ use Rattle.lu_grammar.specs.Meaning.{ReadsTo}
 use Rattle.lu_grammar.proofs.Parts.{IsBytes-drop}
 use Rattle.lu_grammar.proofs.Plans.{err_is_not_ok, fault-read_plan}
 use Rattle.lu_grammar.proofs.Codecs.{read_plan-ReadsTo, reads-read_plan, place_in-after}
-use Rattle.positions.specs.Occurrences.{Occurrence, PostedTerm}
+use Rattle.lu_types.specs.Occurrences.{Occurrence}
+use Rattle.positions.specs.Occurrences.{PostedTerm}
 use Rattle.positions.specs.Terms.{IsTermFault, term_plan}
 
 -- the occurrences of the term stand between two places

@@ -5,12 +5,13 @@ use Rattle.lu_grammar.specs.Bytes.{IsBytes, Cursor, place_in}
 use Rattle.lu_grammar.specs.Plans.{Broken, times, read_plan}
 use Rattle.lu_grammar.proofs.Parts.{IsBytes-drop}
 use Rattle.lu_grammar.proofs.Codecs.{read_plan-ReadsTo, place_in-after}
+use Rattle.lu_types.specs.Occurrences.{Occurrence}
 use Rattle.freq_skips.specs.declared.rules.RuledTerm.{RuledTerm}
 use Rattle.freq_skips.specs.Levels.{stride}
 use Rattle.freq_skips.specs.Terms.{TermData}
 use Rattle.freq_skips.specs.ProxPlaces.{HasProxPlaces}
 use Rattle.freq_skips.proofs.Powers.{power-pos}
-use Rattle.positions.specs.Occurrences.{Occurrence, PostedTerm, count_at}
+use Rattle.positions.specs.Occurrences.{PostedTerm, count_at}
 use Rattle.positions.specs.Terms.{term_plan}
 use Rattle.positions.specs.Standing.{passed_kind, count_before, Skims}
 use Rattle.positions.specs.Cursors.{StandsInBoth, posted_term}

@@ -5,8 +5,9 @@ use Rattle.lu_grammar.specs.Bytes.{Cursor}
 use Rattle.lu_grammar.specs.Reading.{◌>>=◌}
 use Rattle.lu_grammar.specs.Plans.{Broken, one, each, read_plan}
 use Rattle.lu_grammar.proofs.Loops.{each-none, read_plan-and_then}
+use Rattle.lu_types.specs.Occurrences.{Occurrence}
 use Rattle.freq_skips.specs.Entries.{no_posting}
-use Rattle.positions.specs.Occurrences.{Occurrence, PostedTerm, Held, nothing_held, closed, occurrence_kind, count_at, entry_plan, entries_plan}
+use Rattle.positions.specs.Occurrences.{PostedTerm, Held, nothing_held, closed, occurrence_kind, count_at, entry_plan, entries_plan}
 use Rattle.positions.specs.Terms.{term_plan}
 use Rattle.positions.proofs.StandLemmas.{entry-read, told, told_ok, term-told}
 

@@ -9,6 +9,7 @@ use Rattle.lu_grammar.specs.Plans.{read_plan}
 use Rattle.lu_grammar.specs.Meaning.{ReadsTo}
 use Rattle.lu_grammar.proofs.Parts.{IsBytes-drop}
 use Rattle.lu_grammar.proofs.Codecs.{all_unbroken, same-of, record_at-kept, read_plan-ReadsTo, place_in-after}
+use Rattle.lu_types.specs.Occurrences.{Occurrence}
 use Rattle.freq_skips.specs.declared.rules.RuledTerm.{RuledTerm}
 use Rattle.freq_skips.specs.declared.skip_point.SkipPoint.{SkipPoint}
 use Rattle.freq_skips.specs.Levels.{level_count, stride, data_count}
@@ -17,7 +18,7 @@ use Rattle.freq_skips.specs.Points.{IsPoint, point_after}
 use Rattle.freq_skips.specs.Walks.{point_at}
 use Rattle.freq_skips.proofs.Powers.{power-pos}
 use Rattle.positions.specs.Records.{OccurrenceRecord, occurrence_shape}
-use Rattle.positions.specs.Occurrences.{Occurrence, PostedTerm, any_below, has_datum, datum_at, tells_other_sum, due_with, occurrence_conditions, count_at, entries_plan}
+use Rattle.positions.specs.Occurrences.{PostedTerm, any_below, has_datum, datum_at, tells_other_sum, due_with, occurrence_conditions, count_at, entries_plan}
 use Rattle.positions.specs.Terms.{term_plan}
 use Rattle.positions.specs.Standing.{count_before, StandsIn}
 use Rattle.positions.specs.Cursors.{StandsInBoth, posted_term}

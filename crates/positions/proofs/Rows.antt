@@ -5,11 +5,12 @@ use Rattle.lu_grammar.specs.Bytes.{Cursor, start_of}
 use Rattle.lu_grammar.specs.Reading.{read, read_groups}
 use Rattle.lu_grammar.specs.Records.{record_at}
 use Rattle.lu_grammar.specs.Plans.{each, read_plan, Broken}
+use Rattle.lu_types.specs.Occurrences.{Occurrence}
 use Rattle.freq_skips.specs.declared.datum.Point.{Point}
 use Rattle.freq_skips.specs.declared.rules.RuledTerm.{RuledTerm}
 use Rattle.freq_skips.specs.Entries.{Posting}
 use Rattle.freq_skips.specs.Levels.{greatest_power}
-use Rattle.positions.specs.Occurrences.{Occurrence, PostedTerm}
+use Rattle.positions.specs.Occurrences.{PostedTerm}
 use Rattle.positions.specs.Terms.{term_plan}
 
 -- a term of so many entries, in a field that may have payloads, with one skip datum for each two entries on the lowest of so many levels

@@ -9,8 +9,9 @@ use Rattle.lu_grammar.specs.Records.{Condition, read_shape}
 use Rattle.lu_grammar.specs.Plans.{read_plan}
 use Rattle.lu_grammar.proofs.Plans.{err_is_not_ok}
 use Rattle.lu_grammar.proofs.Codecs.{all_unbroken, record_at-was}
+use Rattle.lu_types.specs.Occurrences.{Occurrence}
 use Rattle.positions.specs.Records.{OccurrenceRecord, occurrence_shape, position_gap, length_after}
-use Rattle.positions.specs.Occurrences.{Occurrence, PostedTerm, occurrence_of, due_with, occurrence_conditions, count_at}
+use Rattle.positions.specs.Occurrences.{PostedTerm, occurrence_of, due_with, occurrence_conditions, count_at}
 use Rattle.positions.specs.Terms.{term_plan}
 use Rattle.positions.specs.Standing.{StandsIn}
 use Rattle.positions.specs.Cursors.{CursorState, Agrees, StandsAmong, StandsWith}

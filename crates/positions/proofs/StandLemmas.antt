@@ -9,8 +9,9 @@ use Rattle.lu_grammar.proofs.Records.{same_pair}
 use Rattle.lu_grammar.proofs.Codecs.{record_at-was, record_at-read}
 use Rattle.lu_grammar.proofs.Plans.{ok_of}
 use Rattle.lu_grammar.proofs.Loops.{read_plan-and_then, each-none, each-more, each-fault, times-more, times-fault}
+use Rattle.lu_types.specs.Occurrences.{Occurrence}
 use Rattle.positions.specs.Records.{OccurrenceRecord, occurrence_shape, position_gap, length_after}
-use Rattle.positions.specs.Occurrences.{Occurrence, PostedTerm, Held, nothing_held, occurrence_of, with_occurrence, closed, due_with, occurrence_conditions, occurrence_kind, count_at, entry_plan, entries_plan}
+use Rattle.positions.specs.Occurrences.{PostedTerm, Held, nothing_held, occurrence_of, with_occurrence, closed, due_with, occurrence_conditions, occurrence_kind, count_at, entry_plan, entries_plan}
 use Rattle.positions.specs.Terms.{term_plan}
 use Rattle.positions.specs.Standing.{passed_kind, count_before, Skims, StandsIn}
 

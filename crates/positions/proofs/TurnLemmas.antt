@@ -7,7 +7,8 @@ use Rattle.lu_grammar.proofs.Parts.{IsBytes-drop}
 use Rattle.lu_grammar.proofs.Files.{read_plan-FaultFrom}
 use Rattle.lu_grammar.proofs.Codecs.{read_plan-ReadsTo, reads-read_plan, turns-more, turns-fault}
 use Rattle.lu_grammar.proofs.Records.{at}
-use Rattle.positions.specs.Occurrences.{Occurrence, PostedTerm}
+use Rattle.lu_types.specs.Occurrences.{Occurrence}
+use Rattle.positions.specs.Occurrences.{PostedTerm}
 use Rattle.positions.specs.Terms.{IsTermFault, AreTermsUpTo, term_plan, terms_plan}
 
 pub terms-more : (terms : List PostedTerm) (values : List (List (List Occurrence))) (p : PostedTerm) (prx : List ℕ) (place end : ℕ) (value : List (List Occurrence)) → IsBytes prx

@@ -8,8 +8,9 @@ use Rattle.lu_grammar.specs.Records.{record_at}
 use Rattle.lu_grammar.specs.Plans.{one, times, each, read_plan}
 use Rattle.lu_grammar.proofs.Records.{same_pair}
 use Rattle.lu_grammar.proofs.Loops.{each-rest, each-keeps, times-keeps}
+use Rattle.lu_types.specs.Occurrences.{Occurrence}
 use Rattle.positions.specs.Records.{OccurrenceRecord}
-use Rattle.positions.specs.Occurrences.{Occurrence, PostedTerm, Held, occurrence_of, with_occurrence, closed, occurrence_kind, count_at, entry_plan}
+use Rattle.positions.specs.Occurrences.{PostedTerm, Held, occurrence_of, with_occurrence, closed, occurrence_kind, count_at, entry_plan}
 use Rattle.positions.specs.Terms.{term_plan}
 use Rattle.positions.specs.Standing.{StandsIn}
 use Rattle.positions.proofs.StandLemmas.{occurrence_at, ended, entry-ended, Stands-more, Stands-more-now}

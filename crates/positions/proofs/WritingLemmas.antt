@@ -8,13 +8,14 @@ use Rattle.lu_grammar.proofs.Plans.{ok_of}
 use Rattle.lu_grammar.proofs.Parts.{IsBytes-drop}
 use Rattle.lu_grammar.proofs.Records.{at}
 use Rattle.lu_grammar.proofs.Codecs.{Writes, reads-read_plan}
-use Rattle.positions.specs.Occurrences.{Occurrence, PostedTerm}
+use Rattle.lu_types.specs.Occurrences.{Occurrence}
+use Rattle.positions.specs.Occurrences.{PostedTerm}
 use Rattle.positions.specs.Terms.{term_plan}
-use Rattle.positions.specs.Written.{written_record, record_bytes, document_bytes, occurrences_bytes, last_length, last_position, IsHanded}
-use Rattle.positions.specs.Writing.{WriterState, begun, document_begun, added, HoldsTerm, HoldsDocument}
+use Rattle.positions.specs.Written.{written_record, record_bytes, document_occurrence_bytes, occurrences_bytes, last_length, last_position, IsHanded}
+use Rattle.positions.specs.Writing.{WriterState, occurrences_begun, document_begun, occurrence_added, HoldsTerm, HoldsDocument}
 use Rattle.positions.proofs.WrittenTerms.{occurrences_bytes-more, occurrences_bytes-none, term-written}
 
-pub holds-begun : (w : WriterState) (payloads : Bool) → HoldsTerm (begun w payloads) payloads w.bytes []
+pub holds-begun : (w : WriterState) (payloads : Bool) → HoldsTerm (occurrences_begun w payloads) payloads w.bytes []
 holds-begun w payloads = record { bytes = sym (append-nil w.bytes) ∙ ap (λ (l : List ℕ). w.bytes ++ l) (sym (occurrences_bytes-none payloads)); payloads_are = refl; start = refl }
 
 pub holds-document : (w : WriterState) (payloads : Bool) (written : List ℕ) (entries : List (List Occurrence)) → HoldsTerm w payloads written entries → HoldsDocument (document_begun w) payloads written entries []
@@ -32,12 +33,12 @@ holds-document w payloads written entries h = record {
 pub holds-so_far : (w : WriterState) (payloads : Bool) (written : List ℕ) (entries : List (List Occurrence)) → HoldsTerm w payloads written entries → length w.bytes - w.start ≡ length (occurrences_bytes payloads entries)
 holds-so_far w payloads written entries h = omega (arith, ap length h.bytes, length-append written (occurrences_bytes payloads entries), h.start)
 
-document_bytes-more : (payloads : Bool) (before : Option ℕ) (last : ℕ) (os : List Occurrence) (o : Occurrence)
-    → document_bytes payloads before last (os ++ o ∷ []) ≡ document_bytes payloads before last os ++ record_bytes (written_record payloads (last_length before os) (last_position last os) o)
-document_bytes-more payloads before last [] o = append-nil (record_bytes (written_record payloads before last o))
-document_bytes-more payloads before last (x ∷ os) o =
-    ap (λ (l : List ℕ). record_bytes (written_record payloads before last x) ++ l) (document_bytes-more payloads (Some (length x.payload)) x.position os o)
-    ∙ sym (append_assoc (record_bytes (written_record payloads before last x)) (document_bytes payloads (Some (length x.payload)) x.position os) (record_bytes (written_record payloads (last_length (Some (length x.payload)) os) (last_position x.position os) o)))
+document_occurrence_bytes-more : (payloads : Bool) (before : Option ℕ) (last : ℕ) (os : List Occurrence) (o : Occurrence)
+    → document_occurrence_bytes payloads before last (os ++ o ∷ []) ≡ document_occurrence_bytes payloads before last os ++ record_bytes (written_record payloads (last_length before os) (last_position last os) o)
+document_occurrence_bytes-more payloads before last [] o = append-nil (record_bytes (written_record payloads before last o))
+document_occurrence_bytes-more payloads before last (x ∷ os) o =
+    ap (λ (l : List ℕ). record_bytes (written_record payloads before last x) ++ l) (document_occurrence_bytes-more payloads (Some (length x.payload)) x.position os o)
+    ∙ sym (append_assoc (record_bytes (written_record payloads before last x)) (document_occurrence_bytes payloads (Some (length x.payload)) x.position os) (record_bytes (written_record payloads (last_length (Some (length x.payload)) os) (last_position x.position os) o)))
 
 last_length-more : (before : Option ℕ) (os : List Occurrence) (o : Occurrence) → last_length before (os ++ o ∷ []) ≡ Some (length o.payload)
 last_length-more before [] o = refl
@@ -47,10 +48,10 @@ last_position-more : (last : ℕ) (os : List Occurrence) (o : Occurrence) → la
 last_position-more last [] o = refl
 last_position-more last (x ∷ os) o = last_position-more x.position os o
 
-pub holds-added : (w : WriterState) (payloads : Bool) (written : List ℕ) (entries : List (List Occurrence)) (now : List Occurrence) (o : Occurrence) → HoldsDocument w payloads written entries now → HoldsDocument (added w o) payloads written entries (now ++ o ∷ [])
+pub holds-added : (w : WriterState) (payloads : Bool) (written : List ℕ) (entries : List (List Occurrence)) (now : List Occurrence) (o : Occurrence) → HoldsDocument w payloads written entries now → HoldsDocument (occurrence_added w o) payloads written entries (now ++ o ∷ [])
 holds-added w payloads written entries now o h =
     let front = occurrences_bytes payloads entries in
-    let doc = document_bytes payloads None 0 now in
+    let doc = document_occurrence_bytes payloads None 0 now in
     let new = record_bytes (written_record payloads (last_length None now) (last_position 0 now) o) in
     let same : record_bytes (written_record w.payloads w.before w.position o) ≡ new =
     ap (λ (b : Bool). record_bytes (written_record b w.before w.position o)) h.holds.payloads_are
@@ -62,7 +63,7 @@ holds-added w payloads written entries now o h =
         bytes = ap (λ (l : List ℕ). w.bytes ++ l) same
             ∙ ap (λ (l : List ℕ). l ++ new) whole
             ∙ append_assoc written (front ++ doc) new
-            ∙ ap (λ (l : List ℕ). written ++ l) (append_assoc front doc new ∙ ap (λ (l : List ℕ). front ++ l) (sym (document_bytes-more payloads None 0 now o)) ∙ sym (occurrences_bytes-more payloads entries (now ++ o ∷ [])));
+            ∙ ap (λ (l : List ℕ). written ++ l) (append_assoc front doc new ∙ ap (λ (l : List ℕ). front ++ l) (sym (document_occurrence_bytes-more payloads None 0 now o)) ∙ sym (occurrences_bytes-more payloads entries (now ++ o ∷ [])));
         payloads_are = h.holds.payloads_are;
         start = h.holds.start;
       };

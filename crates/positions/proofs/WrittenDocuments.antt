@@ -7,11 +7,12 @@ use Rattle.lu_grammar.specs.Bytes.{IsBytes}
 use Rattle.lu_grammar.specs.Records.{first_broken}
 use Rattle.lu_grammar.specs.Plans.{one, times}
 use Rattle.lu_grammar.proofs.Codecs.{Writes, Writes-none, Writes-record}
+use Rattle.lu_types.specs.Occurrences.{Occurrence}
 use Rattle.freq_skips.specs.Records.{is_odd}
 use Rattle.freq_skips.specs.Levels.{level_count}
 use Rattle.positions.specs.Records.{OccurrenceRecord, position_gap}
-use Rattle.positions.specs.Occurrences.{Occurrence, PostedTerm, Held, occurrence_of, with_occurrence, any_below, tells_other_sum, is_misled, due_with, due_of, occurrence_conditions, occurrence_kind}
-use Rattle.positions.specs.Written.{written_parts, written_record, record_bytes, document_bytes, last_length, last_position, IsDocument}
+use Rattle.positions.specs.Occurrences.{PostedTerm, Held, occurrence_of, with_occurrence, any_below, tells_other_sum, is_misled, due_with, due_of, occurrence_conditions, occurrence_kind}
+use Rattle.positions.specs.Written.{written_parts, written_record, record_bytes, document_occurrence_bytes, last_length, last_position, AreGoodOccurrences}
 use Rattle.positions.proofs.WrittenRecords.{IsBefore, written-spells, written-force, written-payload, written-gap}
 
 -- a position in its limit
@@ -66,8 +67,8 @@ module _ (p : PostedTerm) (first : Held) (place : ℕ) where
       }
 
   -- and all that are left of the document, where it is not the first
-  pub rest-written : (os : List Occurrence) (n : ℕ) (bytes : List ℕ) (before : Option ℕ) (last : ℕ) (now : List Occurrence) → HasWritten p first place n bytes before last now → 0 < length now → IsDocument p.term.rules.payloads last os
-      → HasWritten p first place (n + length os) (bytes ++ document_bytes p.term.rules.payloads before last os) (last_length before os) (last_position last os) (now ++ os)
+  pub rest-written : (os : List Occurrence) (n : ℕ) (bytes : List ℕ) (before : Option ℕ) (last : ℕ) (now : List Occurrence) → HasWritten p first place n bytes before last now → 0 < length now → AreGoodOccurrences p.term.rules.payloads last os
+      → HasWritten p first place (n + length os) (bytes ++ document_occurrence_bytes p.term.rules.payloads before last os) (last_length before os) (last_position last os) (now ++ os)
   rest-written [] n bytes before last now h some is =
       subst (λ (l : List Occurrence). HasWritten p first place (n + 0) (bytes ++ []) before last l) (sym (append-nil now))
       (subst (λ (l : List ℕ). HasWritten p first place (n + 0) l before last now) (sym (append-nil bytes)) (subst (λ (k : ℕ). HasWritten p first place k bytes before last now) (let e : n ≡ n + 0 = omega arith in e) h))
@@ -79,7 +80,7 @@ module _ (p : PostedTerm) (first : Held) (place : ℕ) where
       let good = later-none p (length h.held.now == 0) (length h.held.before) h.held.force h.held.position (place + length bytes) r.delta nonempty position in
       let one = one-written n bytes before last now o h le small few fits none good in
       let rest = rest-written os (n + 1) (bytes ++ record_bytes r) (Some (length o.payload)) o.position (now ++ o ∷ []) one (omega (arith, length-append now (o ∷ []))) more in
-      let back = document_bytes b (Some (length o.payload)) o.position os in
+      let back = document_occurrence_bytes b (Some (length o.payload)) o.position os in
       subst (λ (k : ℕ). HasWritten p first place k (bytes ++ (record_bytes r ++ back)) (last_length (Some (length o.payload)) os) (last_position o.position os) (now ++ o ∷ os)) (let e : n + 1 + length os ≡ n + suc (length os) = omega arith in e)
       (subst (λ (l : List ℕ). HasWritten p first place (n + 1 + length os) l (last_length (Some (length o.payload)) os) (last_position o.position os) (now ++ o ∷ os)) (append_assoc bytes (record_bytes r) back)
       (subst (λ (l : List Occurrence). HasWritten p first place (n + 1 + length os) ((bytes ++ record_bytes r) ++ back) (last_length (Some (length o.payload)) os) (last_position o.position os) l) (append_assoc now (o ∷ []) os) rest))

@@ -11,7 +11,7 @@ use Rattle.freq_skips.specs.Records.{alone, is_odd}
 use Rattle.freq_skips.specs.Levels.{number_or}
 use Rattle.freq_skips.specs.Written.{optional_bytes}
 use Rattle.positions.specs.Records.{OccurrenceRecord, position_gap, length_after, payload_shape, occurrence_shape, states_length}
-use Rattle.positions.specs.Written.{restates, with_length, written_parts, record_bytes}
+use Rattle.positions.specs.Written.{restates, with_stated_length, written_parts, record_bytes}
 
 -- twice a number is even, and one more is odd
 pub odd-twice : (n : ℕ) → is_odd (2 * n + 1) ≡ true
@@ -68,7 +68,7 @@ written-spells true force before gap payload (inr some) small few fits plain =
     same-number : (m n : ℕ) → (m == n) ≡ true → n ≡ m
     same-number m n e = grind (arith, nat_tests)
 
-    go : (b : Bool) → (b ≡ true → length payload ≡ force) → Spells (occurrence_shape true force) (with_length (not b) gap payload) (record_bytes (with_length (not b) gap payload))
+    go : (b : Bool) → (b ≡ true → length payload ≡ force) → Spells (occurrence_shape true force) (with_stated_length (not b) gap payload) (record_bytes (with_stated_length (not b) gap payload))
     go true same = forced-spells force gap payload small (same refl) fits
     go false same = stated-spells force gap payload small few fits
 
@@ -82,7 +82,7 @@ written-force true force before gap payload (inr some) plain =
     same-number : (m n : ℕ) → (m == n) ≡ true → m ≡ n
     same-number m n e = grind (arith, nat_tests)
 
-    go : (b : Bool) → (b ≡ true → force ≡ length payload) → length_after force (with_length (not b) gap payload) ≡ length payload
+    go : (b : Bool) → (b ≡ true → force ≡ length payload) → length_after force (with_stated_length (not b) gap payload) ≡ length payload
     go true same = same refl
     go false same = refl
 
@@ -91,7 +91,7 @@ pub written-payload : (payloads : Bool) (before : Option ℕ) (gap : ℕ) (paylo
 written-payload false before gap payload = refl
 written-payload true before gap payload = go (restates before (length payload))
   where
-    go : (b : Bool) → (with_length b gap payload).payload ≡ payload
+    go : (b : Bool) → (with_stated_length b gap payload).payload ≡ payload
     go true = refl
     go false = refl
 
@@ -99,7 +99,7 @@ pub written-gap : (payloads : Bool) (before : Option ℕ) (gap : ℕ) (payload :
 written-gap false before gap payload = refl
 written-gap true before gap payload = go (restates before (length payload))
   where
-    go : (b : Bool) → position_gap true (with_length b gap payload).delta ≡ gap
+    go : (b : Bool) → position_gap true (with_stated_length b gap payload).delta ≡ gap
     go true = omega arith
     go false = omega arith
 

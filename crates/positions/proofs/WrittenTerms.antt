@@ -10,23 +10,24 @@ use Rattle.lu_grammar.specs.Bytes.{IsBytes}
 use Rattle.lu_grammar.specs.Records.{first_broken}
 use Rattle.lu_grammar.specs.Plans.{done, one, times, each}
 use Rattle.lu_grammar.proofs.Codecs.{Writes, Writes-none, Writes-done, Writes-and_then, Writes-turn}
+use Rattle.lu_types.specs.Occurrences.{Occurrence}
 use Rattle.freq_skips.specs.Levels.{level_count, stride, data_count}
 use Rattle.freq_skips.specs.Entries.{no_posting}
 use Rattle.freq_skips.specs.Walks.{point_at}
 use Rattle.freq_skips.specs.Records.{is_odd}
 use Rattle.freq_skips.proofs.Powers.{power-pos, quotient-below, multiple-next, multiple-index}
 use Rattle.positions.specs.Records.{OccurrenceRecord, position_gap}
-use Rattle.positions.specs.Occurrences.{Occurrence, PostedTerm, Held, nothing_held, closed, any_below, has_datum, datum_at, tells_other_sum, is_misled, due_with, occurrence_conditions, occurrence_kind, count_at, entry_plan, entries_plan}
+use Rattle.positions.specs.Occurrences.{PostedTerm, Held, nothing_held, closed, any_below, has_datum, datum_at, tells_other_sum, is_misled, due_with, occurrence_conditions, occurrence_kind, count_at, entry_plan, entries_plan}
 use Rattle.positions.specs.Terms.{term_plan}
-use Rattle.positions.specs.Written.{written_record, record_bytes, document_bytes, occurrences_bytes, last_length, last_position, IsDocument, IsHanded}
+use Rattle.positions.specs.Written.{written_record, record_bytes, document_occurrence_bytes, occurrences_bytes, last_length, last_position, AreGoodOccurrences, IsHanded}
 use Rattle.positions.proofs.LevelTests.{any_below-none, other-none, other-false}
 use Rattle.positions.proofs.FrequencyLemmas.{count_at-kept}
 use Rattle.positions.proofs.WrittenRecords.{written-stated, written-gap}
 use Rattle.positions.proofs.WrittenDocuments.{HasWritten, first-none, one-written, rest-written}
 
-pub occurrences_bytes-more : (payloads : Bool) (entries : List (List Occurrence)) (d : List Occurrence) → occurrences_bytes payloads (entries ++ d ∷ []) ≡ occurrences_bytes payloads entries ++ document_bytes payloads None 0 d
+pub occurrences_bytes-more : (payloads : Bool) (entries : List (List Occurrence)) (d : List Occurrence) → occurrences_bytes payloads (entries ++ d ∷ []) ≡ occurrences_bytes payloads entries ++ document_occurrence_bytes payloads None 0 d
 unfolding occurrences_bytes
-occurrences_bytes-more payloads entries d = flat_map-append (λ os. document_bytes payloads None 0 os) entries (d ∷ []) ∙ ap (λ (l : List ℕ). occurrences_bytes payloads entries ++ l) (append-nil (document_bytes payloads None 0 d))
+occurrences_bytes-more payloads entries d = flat_map-append (λ os. document_occurrence_bytes payloads None 0 os) entries (d ∷ []) ∙ ap (λ (l : List ℕ). occurrences_bytes payloads entries ++ l) (append-nil (document_occurrence_bytes payloads None 0 d))
 
 pub occurrences_bytes-none : (payloads : Bool) → occurrences_bytes payloads [] ≡ []
 unfolding occurrences_bytes
@@ -91,8 +92,8 @@ module _ (p : PostedTerm) (place : ℕ) (entries : List (List Occurrence)) (h : 
   }
 
   -- the document of the next entry, after those
-  document-written : (k : ℕ) (s : Held) → k < length entries → s.now ≡ [] → s.position ≡ 0 → length s.before ≡ k → (p.term.rules.payloads ≡ false → s.force ≡ 0) → (os : List Occurrence) → IsDocument p.term.rules.payloads 0 os → 0 < length os
-      → HasWritten p s (place + length (front k)) (length os) (document_bytes p.term.rules.payloads None 0 os) (last_length None os) (last_position 0 os) os
+  document-written : (k : ℕ) (s : Held) → k < length entries → s.now ≡ [] → s.position ≡ 0 → length s.before ≡ k → (p.term.rules.payloads ≡ false → s.force ≡ 0) → (os : List Occurrence) → AreGoodOccurrences p.term.rules.payloads 0 os → 0 < length os
+      → HasWritten p s (place + length (front k)) (length os) (document_occurrence_bytes p.term.rules.payloads None 0 os) (last_length None os) (last_position 0 os) os
   document-written k s lt now position before plain [] is some = absurd (omega arith)
   document-written k s lt now position before plain (o ∷ os) (le, small, few, fits, none, more) some =
       let b = p.term.rules.payloads in
@@ -107,7 +108,7 @@ module _ (p : PostedTerm) (place : ℕ) (entries : List (List Occurrence)) (h : 
       ∙ first-good k s.force o lt small in
       let first = one-written p s at 0 [] None 0 [] o start le small few fits none good in
       let rest = rest-written p s at os (0 + 1) ([] ++ record_bytes (written_record b None 0 o)) (Some (length o.payload)) o.position ([] ++ o ∷ []) first (omega arith) more in
-      subst (λ (n : ℕ). HasWritten p s at n (document_bytes b None 0 (o ∷ os)) (last_length None (o ∷ os)) (last_position 0 (o ∷ os)) (o ∷ os)) (let e : 0 + 1 + length os ≡ suc (length os) = omega arith in e) rest
+      subst (λ (n : ℕ). HasWritten p s at n (document_occurrence_bytes b None 0 (o ∷ os)) (last_length None (o ∷ os)) (last_position 0 (o ∷ os)) (o ∷ os)) (let e : 0 + 1 + length os ≡ suc (length os) = omega arith in e) rest
 
   more-written : (k : ℕ) → k < length entries → EntriesWritten k → EntriesWritten (suc k)
   more-written k lt w =
@@ -118,17 +119,17 @@ module _ (p : PostedTerm) (place : ℕ) (entries : List (List Occurrence)) (h : 
       let doc = document-written k w.held lt w.now_is w.position_is before w.plain d (h.documents k lt) (h.some k lt) in
       let within : k < p.term.info.doc_freq = omega (arith, h.count) in
       let due : count_at p (length w.held.before) ≡ length d = ap (count_at p) before ∙ count_at-kept p k h.kept ∙ h.frequencies k within in
-      let turn : Writes (entry_plan p w.held) at (document_bytes b None 0 d ++ []) (closed doc.held) =
-      Writes-and_then (times (occurrence_kind p) (count_at p (length w.held.before)) w.held) (λ held. done (closed held)) at (document_bytes b None 0 d) [] doc.held (closed doc.held)
-      (subst (λ (n : ℕ). Writes (times (occurrence_kind p) n w.held) at (document_bytes b None 0 d) doc.held) (sym due) doc.writes) (Writes-done (at + length (document_bytes b None 0 d)) (closed doc.held)) in
+      let turn : Writes (entry_plan p w.held) at (document_occurrence_bytes b None 0 d ++ []) (closed doc.held) =
+      Writes-and_then (times (occurrence_kind p) (count_at p (length w.held.before)) w.held) (λ held. done (closed held)) at (document_occurrence_bytes b None 0 d) [] doc.held (closed doc.held)
+      (subst (λ (n : ℕ). Writes (times (occurrence_kind p) n w.held) at (document_occurrence_bytes b None 0 d) doc.held) (sym due) doc.writes) (Writes-done (at + length (document_occurrence_bytes b None 0 d)) (closed doc.held)) in
       let listed : take (suc k) entries ≡ take k entries ++ d ∷ [] = take-suc entries k [] lt in
-      let bytes : front (suc k) ≡ front k ++ document_bytes b None 0 d = ap (occurrences_bytes b) listed ∙ occurrences_bytes-more b (take k entries) d in
-      let made : Writes (entries_plan p (k + 1)) place (front k ++ document_bytes b None 0 d) (closed doc.held) =
-      Writes-turn (entry_plan p) nothing_held place k (front k) w.held (document_bytes b None 0 d) (closed doc.held) w.writes
-      (subst (λ (l : List ℕ). Writes (entry_plan p w.held) at l (closed doc.held)) (append-nil (document_bytes b None 0 d)) turn) in
+      let bytes : front (suc k) ≡ front k ++ document_occurrence_bytes b None 0 d = ap (occurrences_bytes b) listed ∙ occurrences_bytes-more b (take k entries) d in
+      let made : Writes (entries_plan p (k + 1)) place (front k ++ document_occurrence_bytes b None 0 d) (closed doc.held) =
+      Writes-turn (entry_plan p) nothing_held place k (front k) w.held (document_occurrence_bytes b None 0 d) (closed doc.held) w.writes
+      (subst (λ (l : List ℕ). Writes (entry_plan p w.held) at l (closed doc.held)) (append-nil (document_occurrence_bytes b None 0 d)) turn) in
       record {
         held = closed doc.held;
-        writes = subst (λ (l : List ℕ). Writes (entries_plan p (suc k)) place l (closed doc.held)) (sym bytes) (subst (λ (n : ℕ). Writes (entries_plan p n) place (front k ++ document_bytes b None 0 d) (closed doc.held)) (add-one k) made);
+        writes = subst (λ (l : List ℕ). Writes (entries_plan p (suc k)) place l (closed doc.held)) (sym bytes) (subst (λ (n : ℕ). Writes (entries_plan p n) place (front k ++ document_occurrence_bytes b None 0 d) (closed doc.held)) (add-one k) made);
         before_is = ap (λ (l : List (List Occurrence)). l ++ doc.held.now ∷ []) (doc.kept ∙ w.before_is) ∙ ap (λ (l : List Occurrence). take k entries ++ l ∷ []) doc.now_is ∙ sym listed;
         now_is = refl;
         position_is = refl;

@@ -4,12 +4,13 @@ use Rattle.lu_grammar.specs.Bytes.{Cursor, place_in}
 use Rattle.lu_grammar.specs.Parts.{vint}
 use Rattle.lu_grammar.specs.Reading.{read_part}
 use Rattle.lu_grammar.specs.Meaning.{ReadsTo}
+use Rattle.lu_types.specs.Occurrences.{Occurrence}
 use Rattle.freq_skips.specs.declared.rules.RuledTerm.{RuledTerm}
 use Rattle.freq_skips.specs.declared.skip_point.SkipPoint.{SkipPoint}
 use Rattle.freq_skips.specs.Terms.{TermData, term_plan as frq_term_plan}
 use Rattle.freq_skips.specs.Points.{IsPoint}
 use Rattle.positions.specs.Records.{states_length}
-use Rattle.positions.specs.Occurrences.{Occurrence, PostedTerm, count_at}
+use Rattle.positions.specs.Occurrences.{PostedTerm, count_at}
 use Rattle.positions.specs.Terms.{term_plan}
 use Rattle.positions.specs.Standing.{StandsIn}
 
@@ -52,7 +53,7 @@ abbrev pub Agrees : Bool → ℕ → ℕ → Cursor → Type 0
 Agrees payloads found force here = (found ≡ force) ⊎ StatesLength payloads here
 
 -- the cursor stands where so many entries are passed
-pub record StandsBefore (p : PostedTerm) (passed : ℕ) (c : CursorState) : Type 0 where
+pub record StandsAtEntry (p : PostedTerm) (passed : ℕ) (c : CursorState) : Type 0 where
   pub force : ℕ
   pub position : ℕ
   pub stands : StandsIn p (place_in c.prx p.term.info.prox) passed 0 force position c.here
@@ -72,7 +73,7 @@ pub record StandsAmong (p : PostedTerm) (occurrences : List (List Occurrence)) (
 
 -- where the cursor stands, by what is left of the entry that is open
 abbrev pub StandsWith : PostedTerm → List (List Occurrence) → ℕ → List Occurrence → CursorState → Type 0
-StandsWith p occurrences passed [] c = p.term.rules.omit_tf ≡ false → StandsBefore p passed c
+StandsWith p occurrences passed [] c = p.term.rules.omit_tf ≡ false → StandsAtEntry p passed c
 StandsWith p occurrences passed (o ∷ os) c = StandsAmong p occurrences passed (o ∷ os) c
 
 -- the cursor stands among these occurrences of a term: so many entries are passed, an open one among them, and these occurrences of that one are left

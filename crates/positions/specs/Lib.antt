@@ -1,5 +1,5 @@
 pub mod Records
-pub mod Parts
+pub mod Views
 pub mod Occurrences
 pub mod Terms
 pub mod Standing

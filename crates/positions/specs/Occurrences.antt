@@ -1,6 +1,7 @@
 -- The occurrences of a term: what each stands for, and what it must meet (format page, "Positions").
 use Rattle.std.specs.Prelude.{ℕ, zero, suc, ◌+◌, ◌-◌, ◌/◌, ◌%◌, ◌^◌, Bool, false, not, ◌||◌, ◌&&◌, ◌==◌, nat_le, List, [], ◌∷◌, ◌++◌, length, if◌then◌else◌, slice_index_or}
 use Rattle.lu_types.specs.RuleNumbers as number
+use Rattle.lu_types.specs.Occurrences.{Occurrence}
 use Rattle.lu_grammar.specs.Records.{Condition}
 use Rattle.lu_grammar.specs.Plans.{Plan, done, and_then, Kind, times, each}
 use Rattle.freq_skips.specs.declared.rules.RuledTerm.{RuledTerm}
@@ -10,13 +11,8 @@ use Rattle.freq_skips.specs.Entries.{no_posting}
 use Rattle.freq_skips.specs.Levels.{level_count, stride}
 use Rattle.freq_skips.specs.Terms.{TermData}
 use Rattle.freq_skips.specs.Walks.{point_at}
-use Rattle.positions.specs.declared.due.Due.{Due}
+use Rattle.positions.specs.declared.due.DueOccurrence.{DueOccurrence}
 use Rattle.positions.specs.Records.{OccurrenceRecord, position_gap, length_after, occurrence_shape}
-
--- a place of the term in a document, and the payload there, empty where it has none
-pub record Occurrence : Type 0 where
-  pub position : ℕ
-  pub payload : List ℕ
 
 -- a term with what its part of `.frq` stands for
 pub record PostedTerm : Type 0 where
@@ -77,7 +73,7 @@ abbrev pub is_misled : PostedTerm → ℕ → ℕ → ℕ → Bool
 is_misled p passed force delta = p.term.rules.payloads && not (is_odd delta) && any_below (carries_other_length p passed force) (level_count p.term)
 
 -- what is asked of an occurrence with a delta
-abbrev pub occurrence_conditions : PostedTerm → Due → ℕ → List Condition
+abbrev pub occurrence_conditions : PostedTerm → DueOccurrence → ℕ → List Condition
 occurrence_conditions p d delta =
     (record { rule = number.prox_start; broken = d.first && (d.index == 0) && not (d.place == p.term.info.prox) })
     ∷ (record { rule = number.position; broken = nat_le (2 ^ 31) (d.position + position_gap p.term.rules.payloads delta) })
@@ -86,11 +82,11 @@ occurrence_conditions p d delta =
     ∷ []
 
 -- what is known of an occurrence, by its parts
-abbrev pub due_with : Bool → ℕ → ℕ → ℕ → ℕ → Due
+abbrev pub due_with : Bool → ℕ → ℕ → ℕ → ℕ → DueOccurrence
 due_with first index force position place = record { first = first; index = index; force = force; position = position; place = place }
 
 -- what is known of the occurrence that is due at a place
-abbrev pub due_of : Held → ℕ → Due
+abbrev pub due_of : Held → ℕ → DueOccurrence
 due_of s place = due_with (length s.now == 0) (length s.before) s.force s.position place
 
 -- the occurrences of a term, which differ by those before

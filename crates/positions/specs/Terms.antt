@@ -7,10 +7,11 @@ use Rattle.lu_types.specs.Tables.{TableField}
 use Rattle.lu_grammar.specs.Bytes.{Cursor, start_of, place_in}
 use Rattle.lu_grammar.specs.Plans.{Plan, done, and_then, in_turn}
 use Rattle.lu_grammar.specs.Meaning.{ReadsTo, FaultFrom}
+use Rattle.lu_types.specs.Occurrences.{Occurrence}
 use Rattle.freq_skips.specs.declared.rules.RuledTerm.{RuledTerm}
 use Rattle.freq_skips.specs.Terms.{TermData, term_of, terms_of}
 use Rattle.positions.specs.Records.{OccurrenceRecord}
-use Rattle.positions.specs.Occurrences.{Occurrence, PostedTerm, entries_plan}
+use Rattle.positions.specs.Occurrences.{PostedTerm, entries_plan}
 
 -- the occurrences of a term, entry by entry
 abbrev pub term_plan : PostedTerm → Plan (List (List Occurrence)) OccurrenceRecord

@@ -1,7 +1,7 @@
 -- A writer of `.prx`, and what it holds.
 use Rattle.std.specs.Prelude.{◌≡◌, ◌≤◌, ◌<◌, ◌^◌, ℕ, Bool, false, List, [], ◌∷◌, ◌++◌, length, Option, Some, None}
 use Rattle.lu_grammar.specs.Bytes.{IsBytes}
-use Rattle.positions.specs.Occurrences.{Occurrence}
+use Rattle.lu_types.specs.Occurrences.{Occurrence}
 use Rattle.positions.specs.Written.{written_record, record_bytes, occurrences_bytes, last_length, last_position}
 
 -- a writer: the bytes of the file so far; of the term that is begun whether its field has payloads, and where it starts; of the document that is begun the payload length and the position of the last occurrence
@@ -13,16 +13,16 @@ pub record WriterState : Type 0 where
   pub position : ℕ
 
 -- a term is begun
-abbrev pub begun : WriterState → Bool → WriterState
-begun w payloads = record { bytes = w.bytes; payloads = payloads; start = length w.bytes; before = None; position = 0 }
+abbrev pub occurrences_begun : WriterState → Bool → WriterState
+occurrences_begun w payloads = record { bytes = w.bytes; payloads = payloads; start = length w.bytes; before = None; position = 0 }
 
 -- a document is begun
 abbrev pub document_begun : WriterState → WriterState
 document_begun w = record { bytes = w.bytes; payloads = w.payloads; start = w.start; before = None; position = 0 }
 
 -- an occurrence is added
-abbrev pub added : WriterState → Occurrence → WriterState
-added w o = record { bytes = w.bytes ++ record_bytes (written_record w.payloads w.before w.position o); payloads = w.payloads; start = w.start; before = Some (length o.payload); position = o.position }
+abbrev pub occurrence_added : WriterState → Occurrence → WriterState
+occurrence_added w o = record { bytes = w.bytes ++ record_bytes (written_record w.payloads w.before w.position o); payloads = w.payloads; start = w.start; before = Some (length o.payload); position = o.position }
 
 -- the writer holds what was written before, and these occurrences of the term that is begun, entry by entry
 pub record HoldsTerm (w : WriterState) (payloads : Bool) (written : List ℕ) (entries : List (List Occurrence)) : Type 0 where

@@ -5,15 +5,16 @@ ghost use Rattle.lu_grammar.specs.Plans.{read_plan};
 ghost use Rattle.lu_grammar.specs.Meaning.{ReadsTo};
 ghost use Rattle.lu_types.specs.declared.kind.FileKind.TheVariants.{Prx};
 ghost use Rattle.lu_types.specs.Judging.{IsBroken};
+ghost use Rattle.lu_types.specs.Occurrences.{Occurrence};
 ghost use Rattle.freq_skips.specs.Terms.{TermData, IsGoodTerm, term_of, term_plan as frq_term_plan};
-ghost use Rattle.positions.specs.Occurrences.{Occurrence, count_at};
+ghost use Rattle.positions.specs.Occurrences.{count_at};
 ghost use Rattle.positions.specs.Terms.{IsTermFault, posted, term_plan};
 ghost use Rattle.positions.specs.Standing.{StandsIn};
 ghost use Rattle.positions.specs.Cursors.{StandsInBoth};
 ghost use Rattle.positions.specs.Walked.{posted_by, HasAnswered};
 
 use crate::reading::Reading;
-use freq_skips::{Walk, Walked};
+use freq_skips::{Walk, WalkedEntry};
 use lu_prims::Cur;
 use lu_types::{FileKind, Spot, TermInfo, TermRules};
 
@@ -22,7 +23,7 @@ fn check_entry(
     reading: &mut Reading<'_>,
     walk: &Walk<'_>,
     info: &TermInfo,
-    walked: &Walked,
+    walked: &WalkedEntry,
 ) -> Result<(), Spot>
     requires { HasAnswered walk.now info.now walked.now.index reading.old.payloads }
     ensures payloads { OnOk result (reading.new.payloads ≡ reading.old.payloads) }

@@ -149,6 +149,13 @@ fn low_len(bytes: &Vec<u8>) -> u32 {
     (bytes.len() % (1 << 31)) as u32
 }
 
+/// Where the entries of a term start in `.frq`, and their positions.
+#[derive(Clone, Copy)]
+struct Starts<'a> {
+    entries: &'a [u32],
+    places: &'a [Place],
+}
+
 /// The bytes of a level, and the places just after the ProxSkip of every so manieth datum.
 #[derive(Drop)]
 struct LevelBytes {
@@ -161,8 +168,7 @@ fn level_of(
     alloc: Global,
     drawn: &Drawn,
     stride: u32,
-    starts: &[u32],
-    places: &[Place],
+    starts: &Starts<'_>,
     children: Option<&[u64]>,
 ) -> Result<LevelBytes, Fail>
     requires { 0 < stride }
@@ -173,7 +179,7 @@ fn level_of(
     let mut carried = 0;
     for index in 0..drawn.entries / stride {
         let entry = index.wrapping_add(1).wrapping_mul(stride).wrapping_sub(1);
-        let (Some(start), Some(place)) = (starts.get(entry as usize), places.get(entry as usize))
+        let (Some(start), Some(place)) = (starts.entries.get(entry as usize), starts.places.get(entry as usize))
         else {
             return Err(Fail::from("no entry"));
         };
@@ -222,6 +228,10 @@ fn entries_of(alloc: Global, drawn: &Drawn, places: &[Place]) -> Result<(Vec<u8>
         }
     }
     let skip = low_len(&bytes);
+    let known = Starts {
+        entries: &starts,
+        places,
+    };
     let mut built: Vec<Vec<u8>> = Vec::new(alloc);
     let mut children: Vec<u64> = Vec::new(alloc);
     let mut stride = drawn.interval;
@@ -234,7 +244,7 @@ fn entries_of(alloc: Global, drawn: &Drawn, places: &[Place]) -> Result<(Vec<u8>
         } else {
             Some(children.as_slice())
         };
-        let made = level_of(alloc, drawn, stride, &starts, places, below)?;
+        let made = level_of(alloc, drawn, stride, &known, below)?;
         built.push(made.bytes)?;
         children = made.children;
         stride = stride.saturating_mul(drawn.interval);

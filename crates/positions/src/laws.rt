@@ -3,6 +3,7 @@ ghost use Rattle.std.specs.Prelude.{◌≡◌, ◌<◌, ◌^◌, ◌+◌, ◌-�
 ghost use Rattle.lu_types.specs.RuleNumbers as number;
 ghost use Rattle.lu_grammar.specs.Bytes.{IsBytes, Cursor, place_in};
 ghost use Rattle.lu_grammar.specs.Meaning.{Reads, ReadsTo, FirstFault};
+ghost use Rattle.lu_types.specs.Occurrences.{Occurrence};
 ghost use Rattle.freq_skips.specs.declared.rules.RuledTerm.{RuledTerm};
 ghost use Rattle.freq_skips.specs.Entries.{no_posting};
 ghost use Rattle.freq_skips.specs.Terms.{TermData, term_plan as frq_term_plan};
@@ -11,9 +12,9 @@ ghost use Rattle.freq_skips.specs.Writing.{IsAsHanded};
 ghost use Rattle.positions.specs.Beside.{IsBeside};
 ghost use Rattle.freq_skips.specs.ProxPlaces.{HasProxPlaces};
 ghost use Rattle.positions.specs.Cursors.{StandsInBoth};
-ghost use Rattle.positions.specs.Occurrences.{Occurrence, PostedTerm};
-ghost use Rattle.positions.specs.Written.{occurrences_bytes, IsDocument, IsHanded};
-ghost use Rattle.positions.specs.Writing.{WriterState, begun, document_begun, added, HoldsTerm, HoldsDocument};
+ghost use Rattle.positions.specs.Occurrences.{PostedTerm};
+ghost use Rattle.positions.specs.Written.{occurrences_bytes, AreGoodOccurrences, IsHanded};
+ghost use Rattle.positions.specs.Writing.{WriterState, occurrences_begun, document_begun, occurrence_added, HoldsTerm, HoldsDocument};
 ghost use Rattle.positions.specs.Terms.{IsTermFault, AreTermsUpTo, term_plan, terms_plan};
 
 /// The terms of a file in turn: where each is good from where the one before ends, and the file ends with the last, the bytes
@@ -39,11 +40,11 @@ pub fn skip_data_lead()
 /// What a writer does: it begins a term with no entry; it begins a document, and answers how many bytes the entries before it have;
 /// with each occurrence it holds what it held and that occurrence at the end of the document.
 pub fn what_is_held()
-    ensures begun { (w : WriterState) (payloads : Bool) → HoldsTerm (begun w payloads) payloads w.bytes [] }
+    ensures begun { (w : WriterState) (payloads : Bool) → HoldsTerm (occurrences_begun w payloads) payloads w.bytes [] }
     ensures document { (w : WriterState) (payloads : Bool) (written : List ℕ) (entries : List (List Occurrence)) → HoldsTerm w payloads written entries → HoldsDocument (document_begun w) payloads written entries [] }
     ensures so_far { (w : WriterState) (payloads : Bool) (written : List ℕ) (entries : List (List Occurrence)) → HoldsTerm w payloads written entries → length w.bytes - w.start ≡ length (occurrences_bytes payloads entries) }
     ensures added { (w : WriterState) (payloads : Bool) (written : List ℕ) (entries : List (List Occurrence)) (now : List Occurrence) (o : Occurrence) → HoldsDocument w payloads written entries now
-        → HoldsDocument (added w o) payloads written entries (now ++ o ∷ []) }
+        → HoldsDocument (occurrence_added w o) payloads written entries (now ++ o ∷ []) }
 {}
 
 /// What is written of the occurrences of a term, of which the skip data tell the places, is read as these, whatever follows.
@@ -65,5 +66,5 @@ pub fn written_together()
 /// not fall and are below 2^31, and their payloads are bytes, fewer than 2^31, and none in a field without payloads.
 pub fn occurrences_are_good()
     ensures { (t : RuledTerm) (value : TermData) (prx : List ℕ) (occurrences : List (List Occurrence)) (k : ℕ) → IsBytes prx → StandsInBoth t value prx occurrences → t.rules.omit_tf ≡ false → k < t.info.doc_freq
-        → IsDocument t.rules.payloads 0 (slice_index_or occurrences k []) × (length (slice_index_or occurrences k []) ≡ (slice_index_or value.postings k no_posting).freq) }
+        → AreGoodOccurrences t.rules.payloads 0 (slice_index_or occurrences k []) × (length (slice_index_or occurrences k []) ≡ (slice_index_or value.postings k no_posting).freq) }
 {}

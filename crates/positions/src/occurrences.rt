@@ -1,11 +1,12 @@
 //! The occurrences of a term, document by document.
 ghost use Rattle.std.specs.Prelude.{◌≡◌, ◌≤◌, ◌<◌, ◌+◌, ℕ, false, List, [], ◌∷◌, length, slice_index_or, MatchOption};
+ghost use Rattle.lu_types.specs.Occurrences.{Occurrence};
 ghost use Rattle.freq_skips.specs.Terms.{TermData, term_of};
 ghost use Rattle.freq_skips.specs.Points.{IsPoint};
-ghost use Rattle.positions.specs.Occurrences.{Occurrence, count_at};
+ghost use Rattle.positions.specs.Occurrences.{count_at};
 ghost use Rattle.positions.specs.Standing.{count_before};
 ghost use Rattle.positions.specs.Cursors.{StandsInBoth, IsPointIn, IsAmong, posted_term};
-ghost use Rattle.positions.specs.Parts.{occurrence_seen};
+ghost use Rattle.positions.specs.Views.{occurrence_seen};
 
 use crate::placing::reading_at;
 use crate::reading::Reading;

@@ -4,12 +4,12 @@ ghost use Rattle.lu_grammar.specs.Bytes.{Cursor};
 ghost use Rattle.lu_grammar.specs.Records.{read_shape, record_at, first_broken};
 ghost use Rattle.freq_skips.specs.Levels.{level_count};
 ghost use Rattle.positions.specs.Records.{OccurrenceRecord, occurrence_shape, position_gap as gap_of, length_after};
-ghost use Rattle.positions.specs.Parts.{record_of};
+ghost use Rattle.positions.specs.Views.{occurrence_record_of};
 ghost use Rattle.positions.specs.Occurrences.{any_below, tells_other_sum, carries_other_length, is_misled as is_misled_at, due_with, occurrence_conditions};
 ghost use Rattle.positions.specs.Walked.{posted_by, HasAnswered};
 
-use crate::due::Due;
-use crate::record::{Parts, is_odd, length_or, occurrence_parts, position_gap};
+use crate::due::DueOccurrence;
+use crate::record::{OccurrenceParts, is_odd, length_or, occurrence_parts, position_gap};
 use freq_skips::Walk;
 use lu_prims::{Bad, Cur};
 use lu_types::TermInfo;
@@ -68,7 +68,7 @@ fn is_other_length(walk: &Walk<'_>, force: u32) -> bool
 }
 
 /// Whether the first occurrence of a term does not start where the dictionary says.
-fn starts_elsewhere(due: &Due, info: &TermInfo) -> bool
+fn starts_elsewhere(due: &DueOccurrence, info: &TermInfo) -> bool
     ensures { result ≡ (due.now.first && (due.now.index == 0) && not (due.now.place == info.now.prox)) }
 {
     due.first && due.index == 0 && due.place != info.prox as usize
@@ -91,7 +91,7 @@ fn is_misled(walk: &Walk<'_>, payloads: bool, force: u32, delta: u32) -> bool
 fn occurrence_broken(
     walk: &Walk<'_>,
     info: &TermInfo,
-    due: &Due,
+    due: &DueOccurrence,
     payloads: bool,
     delta: u32,
 ) -> Option<u16>
@@ -120,10 +120,10 @@ fn occurrence_broken(
 
 impl<'a> Reading<'a> {
     /// Takes the parts of one occurrence. The position stays.
-    pub fn take(&mut self) -> Result<Parts<'a>, Bad>
+    pub fn take(&mut self) -> Result<OccurrenceParts<'a>, Bad>
         ensures taken { MatchResult result
-            (λ parts. (read_shape (occurrence_shape self.old.payloads self.old.force) self.old.cur ≡ Ok (record_of parts, self.new.cur))
-            × (self.new.force ≡ length_after self.old.force (record_of parts)) × (self.new.position ≡ self.old.position))
+            (λ parts. (read_shape (occurrence_shape self.old.payloads self.old.force) self.old.cur ≡ Ok (occurrence_record_of parts, self.new.cur))
+            × (self.new.force ≡ length_after self.old.force (occurrence_record_of parts)) × (self.new.position ≡ self.old.position))
             (λ bad. read_shape (occurrence_shape self.old.payloads self.old.force) self.old.cur ≡ Err bad) }
         ensures payloads { self.new.payloads ≡ self.old.payloads }
     {
@@ -151,7 +151,7 @@ impl<'a> Reading<'a> {
             × (self.new.force ≡ length_after self.old.force r) × (self.new.position ≡ self.old.position + gap_of self.old.payloads r.delta) × (self.new.payloads ≡ self.old.payloads))
             (λ rule. record_at (occurrence_shape self.old.payloads self.old.force) (λ r. occurrence_conditions (posted_by walk.now) (due_with first index self.old.force self.old.position self.old.cur.place) r.delta) self.old.cur ≡ Err rule) }
     {
-        let due = Due {
+        let due = DueOccurrence {
             first,
             index,
             force: self.force,

@@ -5,13 +5,13 @@ ghost use Rattle.lu_grammar.specs.Records.{read_shape};
 ghost use Rattle.freq_skips.specs.Records.{is_odd as is_odd_number};
 ghost use Rattle.freq_skips.specs.Levels.{number_or};
 ghost use Rattle.positions.specs.Records.{occurrence_shape, position_gap as gap_of, states_length, GivesLength};
-ghost use Rattle.positions.specs.Parts.{record_of};
+ghost use Rattle.positions.specs.Views.{occurrence_record_of};
 
 use lu_prims::{Bad, Cur};
 
 /// An occurrence as it stands: its delta, the length of its payload where that is stated, and the payload.
 #[derive(Clone, Copy, Debug, PartialEq, Eq)]
-pub struct Parts<'a> {
+pub struct OccurrenceParts<'a> {
     pub delta: u32,
     pub stated: Option<u32>,
     pub payload: &'a [u8],
@@ -56,8 +56,8 @@ fn stated_length(cur: &mut Cur<'_>, payloads: bool, delta: u32) -> Result<Option
 }
 
 /// The parts of the occurrence that stands here, where this payload length is in force.
-pub fn occurrence_parts<'a>(cur: &mut Cur<'a>, payloads: bool, force: u32) -> Result<Parts<'a>, Bad>
-    ensures { Gives record_of (read_shape (occurrence_shape payloads force) cur.old) cur.new result }
+pub fn occurrence_parts<'a>(cur: &mut Cur<'a>, payloads: bool, force: u32) -> Result<OccurrenceParts<'a>, Bad>
+    ensures { Gives occurrence_record_of (read_shape (occurrence_shape payloads force) cur.old) cur.new result }
 {
     let delta = match cur.vint() {
         Err(bad) => return Err(bad),
@@ -69,7 +69,7 @@ pub fn occurrence_parts<'a>(cur: &mut Cur<'a>, payloads: bool, force: u32) -> Re
     };
     match cur.bytes(length_or(force, stated) as usize) {
         Err(bad) => Err(bad),
-        Ok(payload) => Ok(Parts {
+        Ok(payload) => Ok(OccurrenceParts {
             delta,
             stated,
             payload,

@@ -89,15 +89,16 @@ pub fn occurrences_from<'a>(
     }
 }
 
-/// Whether the occurrences from the last point below a target on are these, and how many entries are before it.
-fn reads(
-    prx: &[u8],
-    frq: &[u8],
-    info: &TermInfo,
-    rules: &TermRules,
+/// What is read from the last point below a target on: so many entries are before it, and these are the occurrences from there.
+#[derive(Clone, Copy)]
+struct Sought<'a> {
     target: u32,
-    wanted: (u32, &[(u32, &[u8])]),
-) -> bool
+    passed: u32,
+    wanted: &'a [(u32, &'a [u8])],
+}
+
+/// Whether that is read of a term.
+fn reads(prx: &[u8], frq: &[u8], info: &TermInfo, rules: &TermRules, sought: &Sought<'_>) -> bool
     requires interval { 2 ≤ rules.now.skip_interval }
     requires some { 0 < info.now.doc_freq }
     requires within { info.now.freq ≤ length frq.now }
@@ -108,7 +109,7 @@ fn reads(
     if check_entries(frq, info.freq as usize, info, rules).is_err() {
         return false;
     }
-    let Some((mut occurrences, passed)) = occurrences_from(prx, frq, info, rules, target) else {
+    let Some((mut occurrences, passed)) = occurrences_from(prx, frq, info, rules, sought.target) else {
         return false;
     };
     let mut steps: Steps<Read> = Steps::new();
@@ -126,7 +127,7 @@ fn reads(
             let Some(occ) = occurrences.next() else {
                 break;
             };
-            match wanted.1.get(read) {
+            match sought.wanted.get(read) {
                 None => return false,
                 Some((position, payload)) => {
                     if occ.position != *position || occ.payload != *payload {
@@ -137,7 +138,7 @@ fn reads(
             }
         }
     }
-    passed == wanted.0 && read == wanted.1.len()
+    passed == sought.passed && read == sought.wanted.len()
 }
 
 /// The payloads of the worked rows.
@@ -200,7 +201,12 @@ fn accepts(rt: &impl Abort) {
     for (prx, wanted, end) in rows {
         assert!(rt; prx.len() < 100);
         assert!(rt; checked(prx, frq, &term, &by) == Ok(end));
-        assert!(rt; reads(prx, frq, &term, &by, 0, (0, &wanted)));
+        let sought = Sought {
+            target: 0,
+            passed: 0,
+            wanted: &wanted,
+        };
+        assert!(rt; reads(prx, frq, &term, &by, &sought));
         for cut in 0..end {
             let starts = [0, 5, end.saturating_sub(2)];
             let start = starts.iter().filter(|start| **start <= cut).last();
@@ -285,7 +291,12 @@ fn jumps(rt: &impl Abort, alloc: Global) -> Result<(), Fail> {
     let term = info(35, 35);
     let by = rules(true, 4, 2);
     assert!(rt; checked(&prx, &frq, &term, &by) == Ok(prx.len()));
-    assert!(rt; reads(&prx, &frq, &term, &by, 35, (31, &wanted)));
+    let sought = Sought {
+        target: 35,
+        passed: 31,
+        wanted: &wanted,
+    };
+    assert!(rt; reads(&prx, &frq, &term, &by, &sought));
     for (target, passed) in [(34, 31), (20, 19), (0, 0)] {
         let found = occurrences_from(&prx, &frq, &term, &by, target);
         let Some((mut occurrences, before)) = found else {

@@ -3,10 +3,10 @@ ghost use Rattle.std.specs.Prelude.{◌≡◌, ◌<◌, ◌≤◌, ◌^◌, ◌-
 ghost use Rattle.lu_grammar.specs.Parts.{num};
 ghost use Rattle.freq_skips.specs.Written.{optional_bytes};
 ghost use Rattle.positions.specs.Written.{restates as is_restated, written_parts, record_bytes};
-ghost use Rattle.positions.specs.Writing.{begun, document_begun, added};
-ghost use Rattle.positions.specs.Parts.{record_of};
+ghost use Rattle.positions.specs.Writing.{occurrences_begun, document_begun, occurrence_added};
+ghost use Rattle.positions.specs.Views.{occurrence_record_of};
 
-use crate::record::Parts;
+use crate::record::OccurrenceParts;
 use lu_prims::{OutOfMemory, put_vint};
 use std::alloc::Global;
 use std::marker::Model;
@@ -22,27 +22,27 @@ fn restates(before: Option<u32>, length: u32) -> bool
 }
 
 /// An occurrence in its written form, so far above the position before, after one with this payload length in its document.
-fn written<'a>(payloads: bool, before: Option<u32>, gap: u32, payload: &'a [u8]) -> Parts<'a>
+fn written<'a>(payloads: bool, before: Option<u32>, gap: u32, payload: &'a [u8]) -> OccurrenceParts<'a>
     requires gap { gap < 2 ^ 31 }
     requires few { length payload.now < 2 ^ 31 }
-    ensures { record_of result ≡ written_parts payloads before gap payload.entry.now }
+    ensures { occurrence_record_of result ≡ written_parts payloads before gap payload.entry.now }
 {
     let length = payload.len() as u32;
     if !payloads {
-        return Parts {
+        return OccurrenceParts {
             delta: gap,
             stated: None,
             payload,
         };
     }
     if restates(before, length) {
-        Parts {
+        OccurrenceParts {
             delta: 2 * gap + 1,
             stated: Some(length),
             payload,
         }
     } else {
-        Parts {
+        OccurrenceParts {
             delta: 2 * gap,
             stated: None,
             payload,
@@ -62,8 +62,8 @@ fn put_optional(out: &mut Vec<u8>, number: Option<u32>) -> Result<(), OutOfMemor
 }
 
 /// Appends an occurrence. On `Err` the list is as before.
-fn put_parts(out: &mut Vec<u8>, parts: &Parts<'_>) -> Result<(), OutOfMemory>
-    ensures ok { OnOk result (out.new.items ≡ out.old.items ++ record_bytes (record_of parts.now)) }
+fn put_parts(out: &mut Vec<u8>, parts: &OccurrenceParts<'_>) -> Result<(), OutOfMemory>
+    ensures ok { OnOk result (out.new.items ≡ out.old.items ++ record_bytes (occurrence_record_of parts.now)) }
     ensures err { OnErr result (out.new.items ≡ out.old.items) }
 {
     let before = out.len();
@@ -135,7 +135,7 @@ impl ProxWriter {
     pub fn start(&mut self, payloads: bool) -> u32
         requires room { length self.old.bytes < 2 ^ 31 }
         ensures place { result ≡ length self.old.bytes }
-        ensures begun { self.new ≡ begun self.old payloads }
+        ensures begun { self.new ≡ occurrences_begun self.old payloads }
     {
         self.payloads = payloads;
         self.start = self.bytes.len();
@@ -161,7 +161,7 @@ impl ProxWriter {
         requires small { position < 2 ^ 31 }
         requires rises { self.old.position ≤ position }
         requires few { length payload.now < 2 ^ 31 }
-        ensures ok { OnOk result (self.new ≡ added self.old (record { position = position; payload = payload.now })) }
+        ensures ok { OnOk result (self.new ≡ occurrence_added self.old (record { position = position; payload = payload.now })) }
         ensures err { OnErr result (self.new ≡ self.old) }
     {
         let parts = written(

@@ -18,19 +18,19 @@ use Rattle.segment_infos.specs.declared.stop.Stop.{Stop}
 use Rattle.segment_infos.specs.declared.stop.Stop.TheVariants as stops
 use Rattle.segment_infos.specs.declared.record.Heading.{Heading}
 use Rattle.segment_infos.specs.declared.record.MapPart.{MapPart}
-use Rattle.segment_infos.specs.declared.record.Line.{Line}
+use Rattle.segment_infos.specs.declared.record.SegmentLine.{SegmentLine}
 use Rattle.segment_infos.specs.declared.reading.Unsealed.{Unsealed}
-use Rattle.segment_infos.specs.Numbers.{count_of}
+use Rattle.segment_infos.specs.Numbers.{count_or_zero}
 use Rattle.segment_infos.specs.Values.{CommitValue}
 use Rattle.segment_infos.specs.Records.{heading, line, user, seal, heading_record, line_record, user_record, seal_record}
 use Rattle.segment_infos.specs.Format.{of_heading, of_line, of_user, of_seal, lines_kind, commit_of, user_plan, after_heading, front_plan, seal_plan, commit_plan}
 use Rattle.lu_types.specs.Judging.{GivesIn, Checks}
 use Rattle.segment_infos.specs.Answers.{GivesOr}
-use Rattle.segment_infos.specs.Unsealed.{unsealed_value, fault_of}
+use Rattle.segment_infos.specs.Unsealed.{unsealed_value, fault_of_stop}
 
 -- segments so far, and then a fault or no memory
 pub lines-stopped : (i n : ℕ) (c d e f : Cursor) (segments : List SegInfo) (stop : Stop ℕ) → i < n → read_plan (times lines_kind i []) c ≡ Ok (segments, d)
-    → GivesOr {X = Line} (λ l. line l) (record_at line_record (of_line segments) d) e (Err stop) → GivesIn {X = List SegInfo} Commit (λ s. s) (read_plan (times lines_kind n []) c) f (Err (fault_of d.place stop))
+    → GivesOr {X = SegmentLine} (λ l. line l) (record_at line_record (of_line segments) d) e (Err stop) → GivesIn {X = List SegInfo} Commit (λ s. s) (read_plan (times lines_kind n []) c) f (Err (fault_of_stop d.place stop))
 lines-stopped i n c d e f segments (stops.Wrong rule) lt before here = (refl, times-fault lines_kind i n [] c segments d rule lt before here)
 lines-stopped i n c d e f segments stops.OutOfMemory lt before here = tt
 
@@ -39,23 +39,23 @@ pub front-heading_broken : (c : Cursor) (rule : ℕ) → record_at heading_recor
 front-heading_broken c rule e = read_due_broken heading_record (λ _ r. of_heading r) (λ _ r. after_heading r) c rule e
 
 module _ (c d : Cursor) (h : Heading) (first : record_at heading_record of_heading c ≡ Ok (heading h, d)) where
-  front-heading : read_plan front_plan c ≡ (read_plan (times lines_kind (count_of h.count) []) d >>= λ x. read_plan (user_plan h x.0) x.1)
+  front-heading : read_plan front_plan c ≡ (read_plan (times lines_kind (count_or_zero h.count) []) d >>= λ x. read_plan (user_plan h x.0) x.1)
   front-heading =
-      read_due heading_record (λ _ r. of_heading r) (λ _ r. after_heading r) c (heading h) d first ∙ read_plan-and_then (times lines_kind (count_of h.count) []) (λ segments. user_plan h segments) d
+      read_due heading_record (λ _ r. of_heading r) (λ _ r. after_heading r) c (heading h) d first ∙ read_plan-and_then (times lines_kind (count_or_zero h.count) []) (λ segments. user_plan h segments) d
 
   -- a fault of its segments, or no memory
-  pub front-lines_fail : (n : ℕ) (e f : Cursor) (found : CodecFault) → n ≡ count_of h.count → GivesIn {X = List SegInfo} Commit (λ s. s) (read_plan (times lines_kind n []) d) e (Err found)
+  pub front-lines_fail : (n : ℕ) (e f : Cursor) (found : CodecFault) → n ≡ count_or_zero h.count → GivesIn {X = List SegInfo} Commit (λ s. s) (read_plan (times lines_kind n []) d) e (Err found)
       → GivesIn {X = Unsealed} Commit unsealed_value (read_plan front_plan c) f (Err found)
   front-lines_fail n e f faults.OutOfMemory same given = tt
   front-lines_fail n e f (faults.Spot spot) same given =
       (given.0, front-heading ∙ ap (λ (r : Result (List SegInfo × Cursor) Broken). r >>= λ x. read_plan (user_plan h x.0) x.1) (ap (λ (k : ℕ). read_plan (times lines_kind k []) d) (sym same) ∙ given.1))
 
-  module _ (n : ℕ) (e : Cursor) (segments : List SegInfo) (same : n ≡ count_of h.count) (second : read_plan (times lines_kind n []) d ≡ Ok (segments, e)) where
+  module _ (n : ℕ) (e : Cursor) (segments : List SegInfo) (same : n ≡ count_or_zero h.count) (second : read_plan (times lines_kind n []) d ≡ Ok (segments, e)) where
     front-lines : read_plan front_plan c ≡ read_plan (user_plan h segments) e
     front-lines = front-heading ∙ ap (λ (r : Result (List SegInfo × Cursor) Broken). r >>= λ x. read_plan (user_plan h x.0) x.1) (ap (λ (k : ℕ). read_plan (times lines_kind k []) d) (sym same) ∙ second)
 
     -- a fault of its user data, or no memory
-    pub front-user_stopped : (f g : Cursor) (stop : Stop ℕ) → GivesOr {X = MapPart} (λ m. user m) (record_at user_record of_user e) f (Err stop) → GivesIn {X = Unsealed} Commit unsealed_value (read_plan front_plan c) g (Err (fault_of e.place stop))
+    pub front-user_stopped : (f g : Cursor) (stop : Stop ℕ) → GivesOr {X = MapPart} (λ m. user m) (record_at user_record of_user e) f (Err stop) → GivesIn {X = Unsealed} Commit unsealed_value (read_plan front_plan c) g (Err (fault_of_stop e.place stop))
     front-user_stopped f g stops.OutOfMemory given = tt
     front-user_stopped f g (stops.Wrong rule) given = (refl, front-lines ∙ read_due_broken user_record (λ _ r. of_user r) (λ _ r. done (commit_of h segments r)) e rule given)
 

@@ -7,11 +7,11 @@ use Rattle.lu_types.specs.RuleNumbers as rules
 use Rattle.segment_infos.specs.declared.infos.SegInfo.{SegInfo}
 use Rattle.segment_infos.specs.declared.record.TheConstants.{MOST_DOCUMENTS}
 use Rattle.segment_infos.specs.declared.record.FrontPart.{FrontPart}
-use Rattle.segment_infos.specs.declared.record.Line.{Line}
-use Rattle.segment_infos.specs.Numbers.{count_of, number_in}
+use Rattle.segment_infos.specs.declared.record.SegmentLine.{SegmentLine}
+use Rattle.segment_infos.specs.Numbers.{count_or_zero, segment_number_in}
 use Rattle.segment_infos.specs.Values.{total_size}
 use Rattle.segment_infos.specs.Conditions.{rule, has_number, is_twice, is_no_size, name_conditions, size_conditions, store_conditions, norm_conditions, flag_conditions, map_conditions, line_conditions}
-use Rattle.segment_infos.specs.Format.{segment_of}
+use Rattle.segment_infos.specs.Format.{segment_of_line}
 use Rattle.segment_infos.proofs.Judged.{first_broken-none}
 
 some_is_none : {n : ℕ} → Some n ≡ None → ⊥
@@ -23,7 +23,7 @@ not_first number true others e = absurd (some_is_none e)
 not_first number false others e = (refl, e)
 
 -- the conditions of a segment, list by list
-pub record AreUnbroken (segments : List SegInfo) (l : Line) : Type 0 where
+pub record AreUnbroken (segments : List SegInfo) (l : SegmentLine) : Type 0 where
   pub names : first_broken (name_conditions segments l.front) ≡ None
   pub sizes : first_broken (size_conditions segments l.front) ≡ None
   pub stores : first_broken (store_conditions l.front) ≡ None
@@ -31,7 +31,7 @@ pub record AreUnbroken (segments : List SegInfo) (l : Line) : Type 0 where
   pub flags : first_broken (flag_conditions l.front l.flags) ≡ None
   pub maps : first_broken (map_conditions l.map) ≡ None
 
-pub line-unbroken : (segments : List SegInfo) (l : Line) → first_broken (line_conditions segments l) ≡ None → AreUnbroken segments l
+pub line-unbroken : (segments : List SegInfo) (l : SegmentLine) → first_broken (line_conditions segments l) ≡ None → AreUnbroken segments l
 line-unbroken segments l e =
     let names = name_conditions segments l.front in
     let sizes = size_conditions segments l.front in
@@ -49,27 +49,27 @@ line-unbroken segments l e =
 -- a name with a number that no segment has
 pub record IsNewName (segments : List SegInfo) (name : List ℕ) : Type 0 where
   pub number : ℕ
-  pub is : number_in name ≡ Some number
+  pub is : segment_number_in name ≡ Some number
   pub new : has_number segments number ≡ false
 
 pub name-new : (segments : List SegInfo) (f : FrontPart) → first_broken (name_conditions segments f) ≡ None → IsNewName segments f.name
-name-new segments f e = go (number_in f.name) refl e
+name-new segments f e = go (segment_number_in f.name) refl e
   where
-    go : (o : Option ℕ) → number_in f.name ≡ o → first_broken (rule rules.seg_name (is_none o) ∷ rule rules.seg_twice (is_twice segments o) ∷ []) ≡ None → IsNewName segments f.name
+    go : (o : Option ℕ) → segment_number_in f.name ≡ o → first_broken (rule rules.seg_name (is_none o) ∷ rule rules.seg_twice (is_twice segments o) ∷ []) ≡ None → IsNewName segments f.name
     go None is h = absurd (some_is_none h)
     go (Some n) is h = record { number = n; is = is; new = (not_first rules.seg_twice (has_number segments n) [] h).0 }
 
 -- the number of a segment is new after those before it
-pub segment_of-new : (segments : List SegInfo) (l : Line) → first_broken (line_conditions segments l) ≡ None → has_number segments (segment_of l).number ≡ false
-unfolding segment_of
-segment_of-new segments l e =
+pub segment_of_line-new : (segments : List SegInfo) (l : SegmentLine) → first_broken (line_conditions segments l) ≡ None → has_number segments (segment_of_line l).number ≡ false
+unfolding segment_of_line
+segment_of_line-new segments l e =
     let named = name-new segments l.front (line-unbroken segments l e).names in
     ap (λ (o : Option ℕ). has_number segments (unwrap_or o 0)) named.is ∙ named.new
 
 -- and there is room for its documents
-pub segment_of-room : (segments : List SegInfo) (l : Line) → first_broken (line_conditions segments l) ≡ None → total_size segments + (segment_of l).size ≤ MOST_DOCUMENTS
-unfolding segment_of
-segment_of-room segments l e =
-    let sizes = not_first rules.seg_size (is_no_size l.front.size) (rule rules.size_sum (ltb MOST_DOCUMENTS (total_size segments + count_of l.front.size)) ∷ []) (line-unbroken segments l e).sizes in
-    let sum = not_first rules.size_sum (ltb MOST_DOCUMENTS (total_size segments + count_of l.front.size)) [] sizes.1 in
-    ltb-false MOST_DOCUMENTS (total_size segments + count_of l.front.size) sum.0
+pub segment_of_line-room : (segments : List SegInfo) (l : SegmentLine) → first_broken (line_conditions segments l) ≡ None → total_size segments + (segment_of_line l).size ≤ MOST_DOCUMENTS
+unfolding segment_of_line
+segment_of_line-room segments l e =
+    let sizes = not_first rules.seg_size (is_no_size l.front.size) (rule rules.size_sum (ltb MOST_DOCUMENTS (total_size segments + count_or_zero l.front.size)) ∷ []) (line-unbroken segments l e).sizes in
+    let sum = not_first rules.size_sum (ltb MOST_DOCUMENTS (total_size segments + count_or_zero l.front.size)) [] sizes.1 in
+    ltb-false MOST_DOCUMENTS (total_size segments + count_or_zero l.front.size) sum.0

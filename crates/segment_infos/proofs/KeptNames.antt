@@ -16,18 +16,18 @@ use Rattle.segment_infos.specs.declared.naming.LuceneName.{LuceneName}
 use Rattle.segment_infos.specs.declared.naming.LuceneName.TheVariants.{Commit, Part, Del, Sep}
 use Rattle.segment_infos.specs.declared.infos.SegInfo.{SegInfo}
 use Rattle.segment_infos.specs.Values.{CommitValue, IsCommit, IsLine, AreNormGens}
-use Rattle.segment_infos.specs.LuceneNames.{name_spelling, name_in, Spells}
-use Rattle.segment_infos.specs.Referring.{document_kinds, index_kinds, parts, own_parts, store_parts, del_names, sep_names_from, norm_names, line_names, referred_names, is_among, KeptValue, names_kept_by, kept_names, is_removable, removable}
+use Rattle.segment_infos.specs.LuceneNames.{name_spelling, lucene_name_in, SpellsName}
+use Rattle.segment_infos.specs.Referring.{document_kinds, index_kinds, names_of_parts, own_part_names, store_part_names, del_names, sep_names_from, norm_names, line_names, referred_names, is_spelled_among, KeptValue, names_kept_by, kept_names, is_removable, removable}
 use Rattle.segment_infos.specs.Keeping.{HasOwnSpelling, HasNames, is_free}
 use Rattle.segment_infos.proofs.NameSpelled.{name_spelling-same, HasOwnSpelling-IsName}
 use Rattle.segment_infos.proofs.ListedNames.{texts-more}
 
 -- ---- each name that a line refers to has its own spelling
 
-all-none : {A : Type 0} (P : A → Type 0) → All P []
+pub all-none : {A : Type 0} (P : A → Type 0) → All P []
 all-none P k d within = absurd (omega arith)
 
-all-one : {A : Type 0} (P : A → Type 0) (x : A) → P x → All P (x ∷ [])
+pub all-one : {A : Type 0} (P : A → Type 0) (x : A) → P x → All P (x ∷ [])
 all-one P x is zero d within = is
 all-one P x is (suc k) d within = absurd (omega arith)
 
@@ -42,9 +42,9 @@ pub all-append : {A : Type 0} (P : A → Type 0) (xs ys : List A) → All P xs �
 all-append P [] ys first second = second
 all-append P (x ∷ xs) ys first second = all-cons P x (xs ++ ys) (first 0 x (omega arith)) (all-append P xs ys (all-rest P x xs first) second)
 
-own-parts : (number : ℕ) (some : List FileKind) → All IsPart some → All HasOwnSpelling (parts number some)
-own-parts number [] are = all-none HasOwnSpelling
-own-parts number (kind ∷ rest) are = all-append HasOwnSpelling (Part number kind ∷ []) (parts number rest) (all-one HasOwnSpelling (Part number kind) (are 0 kind (omega arith))) (own-parts number rest (all-rest IsPart kind rest are))
+own-names_of_parts : (number : ℕ) (some : List FileKind) → All IsPart some → All HasOwnSpelling (names_of_parts number some)
+own-names_of_parts number [] are = all-none HasOwnSpelling
+own-names_of_parts number (kind ∷ rest) are = all-append HasOwnSpelling (Part number kind ∷ []) (names_of_parts number rest) (all-one HasOwnSpelling (Part number kind) (are 0 kind (omega arith))) (own-names_of_parts number rest (all-rest IsPart kind rest are))
 
 are-documents : All IsPart document_kinds
 are-documents zero d within = tt
@@ -63,17 +63,17 @@ are-index (suc (suc (suc (suc zero)))) d within = tt
 are-index (suc (suc (suc (suc (suc zero))))) d within = tt
 are-index (suc (suc (suc (suc (suc (suc k)))))) d within = absurd (omega arith)
 
-own-own_parts : (s : SegInfo) → All HasOwnSpelling (own_parts s)
-own-own_parts s = own-parts s.number _ (by_form s.compound (is_some s.store))
+own-own_part_names : (s : SegInfo) → All HasOwnSpelling (own_part_names s)
+own-own_part_names s = own-names_of_parts s.number _ (by_form s.compound (is_some s.store))
   where
     by_form : (compound shared : Bool) → All IsPart (cond compound (kinds.Cfs ∷ []) (index_kinds ++ cond shared [] document_kinds))
     by_form true shared = all-one IsPart kinds.Cfs tt
     by_form false true = all-append IsPart index_kinds [] are-index (all-none IsPart)
     by_form false false = all-append IsPart index_kinds document_kinds are-index are-documents
 
-own-store_parts : (store : Option SharedStore) → All HasOwnSpelling (store_parts store)
-own-store_parts None = all-none HasOwnSpelling
-own-store_parts (Some store) = own-parts store.number _ (by_form store.compound)
+own-store_part_names : (store : Option SharedStore) → All HasOwnSpelling (store_part_names store)
+own-store_part_names None = all-none HasOwnSpelling
+own-store_part_names (Some store) = own-names_of_parts store.number _ (by_form store.compound)
   where
     by_form : (compound : Bool) → All IsPart (cond compound (kinds.Cfx ∷ []) document_kinds)
     by_form true = all-one IsPart kinds.Cfx tt
@@ -96,8 +96,8 @@ own-norm_names number (Some generations) are = let few : length generations < 2 
 
 own-line_names : (s : SegInfo) → IsLine s → All HasOwnSpelling (line_names s)
 own-line_names s is =
-    all-append HasOwnSpelling (own_parts s) (store_parts s.store ++ (del_names s.number s.del_gen ++ norm_names s.number s.norm_gens)) (own-own_parts s)
-    (all-append HasOwnSpelling (store_parts s.store) (del_names s.number s.del_gen ++ norm_names s.number s.norm_gens) (own-store_parts s.store)
+    all-append HasOwnSpelling (own_part_names s) (store_part_names s.store ++ (del_names s.number s.del_gen ++ norm_names s.number s.norm_gens)) (own-own_part_names s)
+    (all-append HasOwnSpelling (store_part_names s.store) (del_names s.number s.del_gen ++ norm_names s.number s.norm_gens) (own-store_part_names s.store)
     (all-append HasOwnSpelling (del_names s.number s.del_gen) (norm_names s.number s.norm_gens) (own-del_names s.number s.del_gen) (own-norm_names s.number s.norm_gens is.norm_gens)))
 
 own-lines : (lines : List SegInfo) → All IsLine lines → All HasOwnSpelling (flat_map line_names lines)
@@ -116,10 +116,10 @@ own-kept_names (k ∷ rest) are =
 -- ---- which texts are free of names
 
 -- a name is one of some names exactly where its text is the spelling of one
-pub among-Contains : (text : List ℕ) (name : LuceneName) (all : List LuceneName) → Spells text name → All HasOwnSpelling all → (is_among all text ≡ true) ↔ Contains all name
+pub among-Contains : (text : List ℕ) (name : LuceneName) (all : List LuceneName) → SpellsName text name → All HasOwnSpelling all → (is_spelled_among all text ≡ true) ↔ Contains all name
 among-Contains text name all spells own = (forward, back)
   where
-    forward : is_among all text ≡ true → Contains all name
+    forward : is_spelled_among all text ≡ true → Contains all name
     forward found =
         let any = Any-from_list_any (λ n. bytes_eq text (name_spelling n)) all found in
         let at : get_or all any.0 any.1 ≡ any.1 = any.3 in
@@ -128,7 +128,7 @@ among-Contains text name all spells own = (forward, back)
         let one : any.1 ≡ name = name_spelling-same any.1 name its (HasOwnSpelling-IsName name spells.0) (sym same ∙ spells.1) in
         subst (Contains all) one (any.0, any.2, at)
 
-    back : Contains all name → is_among all text ≡ true
+    back : Contains all name → is_spelled_among all text ≡ true
     back (k, within, here) =
         list_any_at (λ n. bytes_eq text (name_spelling n)) all k name within (ap (λ (n : LuceneName). bytes_eq text (name_spelling n)) here ∙ (bytes_decides text (name_spelling name)).1 spells.1)
 
@@ -138,15 +138,15 @@ one_test false true f g = g refl
 one_test false false f g = refl
 
 -- whether a name is free, where a set with these keys is asked
-pub free-named : (text : List ℕ) (name : LuceneName) (has : Bool) (keys all : List LuceneName) → Spells text name → ((has ≡ true) ↔ Contains keys name) → All HasOwnSpelling all → HasNames keys all → name_in text ≡ Some name → not has ≡ is_free all text
+pub free-named : (text : List ℕ) (name : LuceneName) (has : Bool) (keys all : List LuceneName) → SpellsName text name → ((has ≡ true) ↔ Contains keys name) → All HasOwnSpelling all → HasNames keys all → lucene_name_in text ≡ Some name → not has ≡ is_free all text
 free-named text name has keys all spells found own same is =
-    ap not (one_test has (is_among all text) (λ h. both.1 ((same name).0 (found.0 h))) (λ h. found.1 ((same name).1 (both.0 h)))) ∙ ap (λ (o : Option LuceneName). is_some o && not (is_among all text)) (sym is)
+    ap not (one_test has (is_spelled_among all text) (λ h. both.1 ((same name).0 (found.0 h))) (λ h. found.1 ((same name).1 (both.0 h)))) ∙ ap (λ (o : Option LuceneName). is_some o && not (is_spelled_among all text)) (sym is)
   where
-    both : (is_among all text ≡ true) ↔ Contains all name
+    both : (is_spelled_among all text ≡ true) ↔ Contains all name
     both = among-Contains text name all spells own
 
-pub free-unnamed : (text : List ℕ) (all : List LuceneName) → name_in text ≡ None → false ≡ is_free all text
-free-unnamed text all is = ap (λ (o : Option LuceneName). is_some o && not (is_among all text)) (sym is)
+pub free-unnamed : (text : List ℕ) (all : List LuceneName) → lucene_name_in text ≡ None → false ≡ is_free all text
+free-unnamed text all is = ap (λ (o : Option LuceneName). is_some o && not (is_spelled_among all text)) (sym is)
 
 -- ---- a name more
 

@@ -2,7 +2,7 @@ mod NameRows
 mod Rows
 pub mod Pieces
 pub mod LineReads
-pub mod NumberIn
+pub mod SegmentNumberIn
 pub mod Judged
 pub mod GoodLines
 pub mod FrontReads
@@ -23,4 +23,5 @@ pub mod Decimals
 pub mod ListedNames
 pub mod NameSets
 pub mod KeptNames
+pub mod OwnFiles
 pub mod RemovableNames

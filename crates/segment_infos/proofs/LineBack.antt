@@ -12,8 +12,8 @@ use Rattle.segment_infos.specs.declared.record.TheConstants.{MOST_DOCUMENTS, PAC
 use Rattle.segment_infos.specs.Numbers.{is_below_none, is_no_generation, given, number_or_none}
 use Rattle.segment_infos.specs.Values.{IsGeneration, IsStore, IsNormGen, AreNormGens, AreDeleted, IsLine, total_size}
 use Rattle.segment_infos.specs.Conditions.{rule, has_number, is_twice, has_other_store, has_other_flag, name_conditions, size_conditions, store_conditions, norm_conditions, is_no_flag, is_no_deletion, flag_conditions, map_conditions, line_conditions}
-use Rattle.segment_infos.specs.Format.{store_of, norm_gens_of, segment_of}
-use Rattle.segment_infos.proofs.NumberIn.{number_in-segment_name}
+use Rattle.segment_infos.specs.Format.{store_of, norm_gens_of, segment_of_line}
+use Rattle.segment_infos.proofs.SegmentNumberIn.{segment_number_in-segment_name}
 use Rattle.segment_infos.proofs.Judged.{first_broken-append}
 use Rattle.segment_infos.proofs.LineParts.{offset_in, store_in, front_of, norms_in, flags_of, map_of, line_of}
 
@@ -24,7 +24,7 @@ both_none a b e f = first_broken-append a b ∙ ap (λ (o : Option ℕ). option_
 
 module _ (segments : List SegInfo) (s : SegInfo) (is : IsLine s) (new : has_number segments s.number ≡ false) (room : total_size segments + s.size ≤ MOST_DOCUMENTS) where
   names : first_broken (name_conditions segments (front_of s)) ≡ None
-  names = ap (λ (o : Option ℕ). first_broken (rule rules.seg_name (is_none o) ∷ rule rules.seg_twice (is_twice segments o) ∷ [])) (number_in-segment_name s.number is.number)
+  names = ap (λ (o : Option ℕ). first_broken (rule rules.seg_name (is_none o) ∷ rule rules.seg_twice (is_twice segments o) ∷ [])) (segment_number_in-segment_name s.number is.number)
       ∙ ap (λ (b : Bool). first_broken (rule rules.seg_name false ∷ rule rules.seg_twice b ∷ [])) new
 
   sizes : first_broken (size_conditions segments (front_of s)) ≡ None
@@ -44,7 +44,7 @@ offset-good (Some s) = refl
 
 store-good : (store : Option SharedStore) → IsStore store → has_other_store (store_in store) ≡ false
 store-good None is = refl
-store-good (Some s) is = ap is_none (number_in-segment_name s.number is.1)
+store-good (Some s) is = ap is_none (segment_number_in-segment_name s.number is.1)
 
 pack-good : (b : Bool) → ltb PACKED (cond b PACKED 0) ≡ false
 pack-good true = refl
@@ -126,17 +126,17 @@ prox-back false = refl
 store-back : (store : Option SharedStore) → IsStore store → store_of (offset_in store) (store_in store) ≡ store
 store-back None is = refl
 store-back (Some s) is =
-    ap (λ (o : Option ℕ). Some (let t : SharedStore = record { offset = s.offset; number = unwrap_or o 0; compound = eqb (cond s.compound PACKED 0) PACKED } in t)) (number_in-segment_name s.number is.1)
+    ap (λ (o : Option ℕ). Some (let t : SharedStore = record { offset = s.offset; number = unwrap_or o 0; compound = eqb (cond s.compound PACKED 0) PACKED } in t)) (segment_number_in-segment_name s.number is.1)
     ∙ ap (λ (b : Bool). Some (let t : SharedStore = record { offset = s.offset; number = s.number; compound = b } in t)) (pack-back s.compound)
 
 gens-back : (gens : Option (List ℤ)) → norm_gens_of (norms_in gens) ≡ gens
 gens-back None = refl
 gens-back (Some gens) = refl
 
-pub segment_of-line_of : (s : SegInfo) → IsLine s → segment_of (line_of s) ≡ s
-unfolding segment_of line_of
-segment_of-line_of s is =
-    ap (λ (o : Option ℕ). made (unwrap_or o 0) (given (number_or_none s.del_gen)) (store_of (offset_in s.store) (store_in s.store)) (norm_gens_of (norms_in s.norm_gens)) (eqb (cond s.compound PACKED NOT_PACKED) PACKED) (eqb (cond s.has_prox 1 0) 1)) (number_in-segment_name s.number is.number)
+pub segment_of_line-line_of : (s : SegInfo) → IsLine s → segment_of_line (line_of s) ≡ s
+unfolding segment_of_line line_of
+segment_of_line-line_of s is =
+    ap (λ (o : Option ℕ). made (unwrap_or o 0) (given (number_or_none s.del_gen)) (store_of (offset_in s.store) (store_in s.store)) (norm_gens_of (norms_in s.norm_gens)) (eqb (cond s.compound PACKED NOT_PACKED) PACKED) (eqb (cond s.has_prox 1 0) 1)) (segment_number_in-segment_name s.number is.number)
     ∙ ap (λ (g : Option ℕ). made s.number g (store_of (offset_in s.store) (store_in s.store)) (norm_gens_of (norms_in s.norm_gens)) (eqb (cond s.compound PACKED NOT_PACKED) PACKED) (eqb (cond s.has_prox 1 0) 1)) (given-back s.del_gen)
     ∙ ap (λ (t : Option SharedStore). made s.number s.del_gen t (norm_gens_of (norms_in s.norm_gens)) (eqb (cond s.compound PACKED NOT_PACKED) PACKED) (eqb (cond s.has_prox 1 0) 1)) (store-back s.store is.store)
     ∙ ap (λ (g : Option (List ℤ)). made s.number s.del_gen s.store g (eqb (cond s.compound PACKED NOT_PACKED) PACKED) (eqb (cond s.has_prox 1 0) 1)) (gens-back s.norm_gens)

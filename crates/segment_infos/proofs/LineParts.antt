@@ -23,7 +23,7 @@ use Rattle.segment_infos.specs.declared.record.FrontPart.{FrontPart}
 use Rattle.segment_infos.specs.declared.record.NormPart.{NormPart}
 use Rattle.segment_infos.specs.declared.record.FlagPart.{FlagPart}
 use Rattle.segment_infos.specs.declared.record.MapPart.{MapPart}
-use Rattle.segment_infos.specs.declared.record.Line.{Line}
+use Rattle.segment_infos.specs.declared.record.SegmentLine.{SegmentLine}
 use Rattle.segment_infos.specs.Numbers.{is_none_number, number_or_none}
 use Rattle.segment_infos.specs.Values.{IsPair, IsMap, IsGeneration, IsStore, IsNormGen, AreNormGens, AreDeleted, IsLine}
 use Rattle.segment_infos.specs.Records.{many, store_if, front_shape, gen_shape, norm_shape, flag_shape, pair_shape, map_shape, line_shape}
@@ -54,7 +54,7 @@ flags_of s = record { compound = cond s.compound PACKED NOT_PACKED; deleted = po
 abbrev pub map_of : List MapPair → MapPart
 map_of pairs = record { count = pos (length pairs); pairs = pairs }
 
-unfoldable pub line_of : SegInfo → Line
+unfoldable pub line_of : SegInfo → SegmentLine
 line_of s = record { front = front_of s; norms = norms_in s.norm_gens; flags = flags_of s; map = map_of s.diagnostics }
 
 -- ---- their spellings
@@ -196,4 +196,4 @@ line-spells s is =
     Spells-followed front_shape after_front (front_of s) l (front_bytes s) ((spelling byte 1 ++ gens_bytes s.norm_gens) ++ (flag_bytes s ++ map_bytes s.diagnostics)) (front-spells s is)
     (Spells-followed norm_shape (after_norms (front_of s)) (norms_in s.norm_gens) l (spelling byte 1 ++ gens_bytes s.norm_gens) (flag_bytes s ++ map_bytes s.diagnostics) norms
     (Spells-followed flag_shape (after_flags (front_of s) (norms_in s.norm_gens)) (flags_of s) l (flag_bytes s) (map_bytes s.diagnostics) flags
-    (wrapped-spells map_shape (λ (m : MapPart). let k : Line = record { front = front_of s; norms = norms_in s.norm_gens; flags = flags_of s; map = m } in k) (map_of s.diagnostics) (map_bytes s.diagnostics) map)))
+    (wrapped-spells map_shape (λ (m : MapPart). let k : SegmentLine = record { front = front_of s; norms = norms_in s.norm_gens; flags = flags_of s; map = m } in k) (map_of s.diagnostics) (map_bytes s.diagnostics) map)))

@@ -8,7 +8,7 @@ use Rattle.lu_types.specs.Kinds.{extension}
 use Rattle.lu_types.specs.Names.{greatest_segment, segment_name, IsPart}
 use Rattle.segment_infos.specs.declared.naming.LuceneName.{LuceneName}
 use Rattle.segment_infos.specs.declared.naming.LuceneName.TheVariants.{Commit, Part, Del, Sep}
-use Rattle.segment_infos.specs.LuceneNames.{IsGenerationNumber, IsName, with_generation, name_spelling, Spells, IsLuceneName}
+use Rattle.segment_infos.specs.LuceneNames.{IsGenerationNumber, IsName, with_generation, name_spelling, SpellsName, IsLuceneName}
 use Rattle.segment_infos.specs.Parsing.{HasNeither, file_text, generation_text, TellsName, IsFile}
 use Rattle.segment_infos.proofs.Cuts.{IsNoneOf, IsNoneOf-left, IsNoneOf-right, IsNoneOf-rest, IsNoneOf-append, cut-front, cut-rest, no-cut}
 use Rattle.segment_infos.proofs.NameSpelled.{underscored, base36-no_line, part_name-cut, segment_stem-no_dot, generation_stem-no_dot}
@@ -64,7 +64,7 @@ neither-line : (digits : List ℕ) → HasNeither digits → IsNoneOf 95 digits
 neither-line digits neither i within = (neither i within).1
 
 -- what digits alone and an extension name is a part
-part-of : (digits text : List ℕ) (name : LuceneName) → HasNeither digits → Spells (file_text digits text) name → (segment : ℕ) × (kind : FileKind) × (segment ≤ greatest_segment) × IsPart kind × (digits ≡ base36 segment) × (text ≡ extension kind)
+part-of : (digits text : List ℕ) (name : LuceneName) → HasNeither digits → SpellsName (file_text digits text) name → (segment : ℕ) × (kind : FileKind) × (segment ≤ greatest_segment) × IsPart kind × (digits ≡ base36 segment) × (text ≡ extension kind)
 part-of digits text name neither spells = go name spells.0 (AreOf-spelled digits text name (neither-dot digits neither) spells.1)
   where
     go : (name : LuceneName) → IsName name → AreOf digits text name → (segment : ℕ) × (kind : FileKind) × (segment ≤ greatest_segment) × IsPart kind × (digits ≡ base36 segment) × (text ≡ extension kind)
@@ -79,7 +79,7 @@ part-no_segment digits text neither none name = let is = part-of digits text nam
 pub part-no_kind : (digits text : List ℕ) → HasNeither digits → ((kind : FileKind) → IsPart kind → text ≢ extension kind) → IsLuceneName (file_text digits text) → ⊥
 part-no_kind digits text neither none name = let is = part-of digits text name.0 neither name.1 in none is.1 is.3 is.5
 
-pub part-spelled : (digits text : List ℕ) (segment : ℕ) (kind : FileKind) → segment ≤ greatest_segment → digits ≡ base36 segment → IsPart kind → text ≡ extension kind → Spells (file_text digits text) (Part segment kind)
+pub part-spelled : (digits text : List ℕ) (segment : ℕ) (kind : FileKind) → segment ≤ greatest_segment → digits ≡ base36 segment → IsPart kind → text ≡ extension kind → SpellsName (file_text digits text) (Part segment kind)
 part-spelled digits text segment kind most is part ends = ((most, part), spelled-AreOf digits text (Part segment kind) (is, ends))
 
 -- ---- a file of a generation: digits, digits behind a `_`, and an extension
@@ -138,12 +138,12 @@ generation-no_field first second text neither dots other none name = go name.0 n
     go (Del segment generation) valid is = other is.2
     go (Sep segment generation field) valid is = none field valid.2 is.2
 
-pub generation-del : (first second text : List ℕ) (segment generation : ℕ) → segment ≤ greatest_segment → first ≡ base36 segment → IsGenerationNumber generation → second ≡ base36 generation → text ≡ codes "del" → Spells (generation_text first second text) (Del segment generation)
+pub generation-del : (first second text : List ℕ) (segment generation : ℕ) → segment ≤ greatest_segment → first ≡ base36 segment → IsGenerationNumber generation → second ≡ base36 generation → text ≡ codes "del" → SpellsName (generation_text first second text) (Del segment generation)
 generation-del first second text segment generation most one valid two is =
     ((most, valid), generation_text-cut first second text ∙ spelled-AreOf (first ++ 95 ∷ second) text (Del segment generation) (ap (λ (f : List ℕ). f ++ 95 ∷ second) one ∙ ap (λ (g : List ℕ). base36 segment ++ 95 ∷ g) two, is))
 
 pub generation-sep : (first second text : List ℕ) (segment generation field : ℕ) → segment ≤ greatest_segment → first ≡ base36 segment → IsGenerationNumber generation → second ≡ base36 generation → field < 2 ^ 31 → text ≡ extension (kinds.Sep field)
-    → Spells (generation_text first second text) (Sep segment generation field)
+    → SpellsName (generation_text first second text) (Sep segment generation field)
 generation-sep first second text segment generation field most one valid two below is =
     ((most, valid, below), generation_text-cut first second text ∙ spelled-AreOf (first ++ 95 ∷ second) text (Sep segment generation field) (ap (λ (f : List ℕ). f ++ 95 ∷ second) one ∙ ap (λ (g : List ℕ). base36 segment ++ 95 ∷ g) two, is))
 
@@ -156,10 +156,10 @@ file-stem (Part segment kind) file = (base36 segment, extension kind, part_name-
 file-stem (Del segment generation) file = (base36 segment ++ 95 ∷ base36 generation, codes "del", part_name-cut (with_generation segment generation) kinds.Del, generation_stem-no_dot segment generation)
 file-stem (Sep segment generation field) file = (base36 segment ++ 95 ∷ base36 generation, extension (kinds.Sep field), part_name-cut (with_generation segment generation) (kinds.Sep field), generation_stem-no_dot segment generation)
 
-pub file-no_dot : (text : List ℕ) → IsNoneOf 46 text → (name : LuceneName) → IsFile name → Spells text name → ⊥
+pub file-no_dot : (text : List ℕ) → IsNoneOf 46 text → (name : LuceneName) → IsFile name → SpellsName text name → ⊥
 file-no_dot text none name file spells = let cut = file-stem name file in no-cut 46 text (95 ∷ cut.0) cut.1 none (spells.1 ∙ cut.2)
 
-pub file-no_line : (text stem rest : List ℕ) → text ≡ stem ++ 46 ∷ rest → IsNoneOf 46 stem → ((digits : List ℕ) → stem ≢ 95 ∷ digits) → (name : LuceneName) → IsFile name → Spells text name → ⊥
+pub file-no_line : (text stem rest : List ℕ) → text ≡ stem ++ 46 ∷ rest → IsNoneOf 46 stem → ((digits : List ℕ) → stem ≢ 95 ∷ digits) → (name : LuceneName) → IsFile name → SpellsName text name → ⊥
 file-no_line text stem rest split none other name file spells = let cut = file-stem name file in other cut.0 (cut-front 46 stem rest (95 ∷ cut.0) cut.1 none cut.3 (sym split ∙ spells.1 ∙ cut.2))
 
 -- the digits behind a `_` have no dot, where the stem has none
@@ -181,6 +181,6 @@ generation_text-is text stem rest ds first second split is cut =
     split ∙ ap (λ (s : List ℕ). s ++ 46 ∷ rest) (is ∙ ap (λ (d : List ℕ). 95 ∷ d) cut) ∙ sym (generation_text-cut first second rest)
 
 -- what is told of the text whose parts were read
-pub file-tells : (text whole : List ℕ) (found : Option LuceneName) → text ≡ whole → TellsName whole found → MatchOption found ((name : LuceneName) → IsFile name → Spells text name → ⊥) (Spells text)
+pub file-tells : (text whole : List ℕ) (found : Option LuceneName) → text ≡ whole → TellsName whole found → MatchOption found ((name : LuceneName) → IsFile name → SpellsName text name → ⊥) (SpellsName text)
 file-tells text whole None same none = λ name file spells. none (name, (spells.0, sym same ∙ spells.1))
 file-tells text whole (Some name) same spells = (spells.0, same ∙ spells.1)

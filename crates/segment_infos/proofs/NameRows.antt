@@ -7,37 +7,37 @@ use Rattle.segment_infos.specs.declared.naming.LuceneName.{LuceneName}
 use Rattle.segment_infos.specs.declared.naming.LuceneName.TheVariants.{Commit, Part, Del, Sep}
 use Rattle.segment_infos.specs.declared.infos.SegInfo.{SegInfo}
 use Rattle.segment_infos.specs.Values.{CommitValue}
-use Rattle.segment_infos.specs.LuceneNames.{name_in, name_spelling}
+use Rattle.segment_infos.specs.LuceneNames.{lucene_name_in, name_spelling}
 use Rattle.segment_infos.specs.Generations.{listed_generations}
 use Rattle.segment_infos.specs.Referring.{KeptValue, line_names, removable}
 
-a_commit : name_in (codes "segments_1z") ≡ Some (Commit 71)
+a_commit : lucene_name_in (codes "segments_1z") ≡ Some (Commit 71)
 a_commit = refl
 
-past_commit : name_in (codes "segments_1y2p0ij32e8e8") ≡ None
+past_commit : lucene_name_in (codes "segments_1y2p0ij32e8e8") ≡ None
 past_commit = refl
 
-no_commit : map name_in (codes "segments_0" ∷ codes "segments_01" ∷ codes "segments_A" ∷ codes "segments.gen" ∷ codes "segments" ∷ []) ≡ None ∷ None ∷ None ∷ None ∷ None ∷ []
+no_commit : map lucene_name_in (codes "segments_0" ∷ codes "segments_01" ∷ codes "segments_A" ∷ codes "segments.gen" ∷ codes "segments" ∷ []) ≡ None ∷ None ∷ None ∷ None ∷ None ∷ []
 no_commit = refl
 
-a_part : name_in (codes "_1z.fnm") ≡ Some (Part 71 kinds.Fnm)
+a_part : lucene_name_in (codes "_1z.fnm") ≡ Some (Part 71 kinds.Fnm)
 a_part = refl
 
-no_part : map name_in (codes "_zik0zj.fnm" ∷ codes "_0.s1" ∷ codes "_0.segments" ∷ codes "_0.del" ∷ codes "_00.fnm" ∷ codes "_0" ∷ []) ≡ None ∷ None ∷ None ∷ None ∷ None ∷ None ∷ []
+no_part : map lucene_name_in (codes "_zik0zj.fnm" ∷ codes "_0.s1" ∷ codes "_0.segments" ∷ codes "_0.del" ∷ codes "_00.fnm" ∷ codes "_0" ∷ []) ≡ None ∷ None ∷ None ∷ None ∷ None ∷ None ∷ []
 no_part = refl
 
-a_del : name_in (codes "_0_1.del") ≡ Some (Del 0 1)
+a_del : lucene_name_in (codes "_0_1.del") ≡ Some (Del 0 1)
 a_del = refl
 
-a_sep : name_in (codes "_0_1.s0") ≡ Some (Sep 0 1 0)
+a_sep : lucene_name_in (codes "_0_1.s0") ≡ Some (Sep 0 1 0)
 unfolding digits
 a_sep = refl
 
-greatest_sep : name_in (codes "_0_1.s2147483647") ≡ Some (Sep 0 1 2147483647)
+greatest_sep : lucene_name_in (codes "_0_1.s2147483647") ≡ Some (Sep 0 1 2147483647)
 unfolding digits
 greatest_sep = refl
 
-no_file : map name_in (codes "_0_0.del" ∷ codes "_0_1.s01" ∷ codes "_0_1.s2147483648" ∷ codes "_0_1.s" ∷ codes "_0_1.fnm" ∷ []) ≡ None ∷ None ∷ None ∷ None ∷ None ∷ []
+no_file : map lucene_name_in (codes "_0_0.del" ∷ codes "_0_1.s01" ∷ codes "_0_1.s2147483648" ∷ codes "_0_1.s" ∷ codes "_0_1.fnm" ∷ []) ≡ None ∷ None ∷ None ∷ None ∷ None ∷ []
 unfolding digits
 no_file = refl
 

@@ -15,7 +15,7 @@ use Rattle.lu_types.specs.Kinds.{extension}
 use Rattle.lu_types.specs.Names.{greatest_segment, segment_name, part_name, IsPart}
 use Rattle.segment_infos.specs.declared.naming.LuceneName.{LuceneName}
 use Rattle.segment_infos.specs.declared.naming.LuceneName.TheVariants.{Commit, Part, Del, Sep}
-use Rattle.segment_infos.specs.LuceneNames.{IsGenerationNumber, IsName, with_generation, name_spelling, Spells, kind_of, is_generation_number, is_name, segment_digits, generation_digits, file_candidate, candidate, if_spelled_by, name_in}
+use Rattle.segment_infos.specs.LuceneNames.{IsGenerationNumber, IsName, with_generation, name_spelling, SpellsName, part_kind_of, is_generation_number, is_name, segment_digits, generation_digits, file_candidate, candidate, if_spelled_by, lucene_name_in}
 use Rattle.segment_infos.specs.Parsing.{TellsName}
 use Rattle.segment_infos.specs.Keeping.{HasOwnSpelling}
 use Rattle.segment_infos.proofs.Cuts.{IsNoneOf, IsNoneOf-cons, IsNoneOf-append, before-cut, after-cut}
@@ -40,27 +40,27 @@ base36-no_line n = base36-without 95 n (inr refl)
 -- ---- kinds and extensions
 
 -- a part has its extension, and no extension of a file of a generation is that of a part
-pub kind_of-extension : (kind : FileKind) → IsPart kind → kind_of (extension kind) ≡ Some kind
-kind_of-extension kinds.Commit part = absurd part
-kind_of-extension kinds.Cfs part = refl
-kind_of-extension kinds.Cfx part = refl
-kind_of-extension kinds.Fnm part = refl
-kind_of-extension kinds.Fdx part = refl
-kind_of-extension kinds.Fdt part = refl
-kind_of-extension kinds.Tis part = refl
-kind_of-extension kinds.Tii part = refl
-kind_of-extension kinds.Frq part = refl
-kind_of-extension kinds.Prx part = refl
-kind_of-extension kinds.Nrm part = refl
-kind_of-extension (kinds.Sep field) part = absurd part
-kind_of-extension kinds.Del part = absurd part
-kind_of-extension kinds.Tvx part = refl
-kind_of-extension kinds.Tvd part = refl
-kind_of-extension kinds.Tvf part = refl
+pub part_kind_of-extension : (kind : FileKind) → IsPart kind → part_kind_of (extension kind) ≡ Some kind
+part_kind_of-extension kinds.Commit part = absurd part
+part_kind_of-extension kinds.Cfs part = refl
+part_kind_of-extension kinds.Cfx part = refl
+part_kind_of-extension kinds.Fnm part = refl
+part_kind_of-extension kinds.Fdx part = refl
+part_kind_of-extension kinds.Fdt part = refl
+part_kind_of-extension kinds.Tis part = refl
+part_kind_of-extension kinds.Tii part = refl
+part_kind_of-extension kinds.Frq part = refl
+part_kind_of-extension kinds.Prx part = refl
+part_kind_of-extension kinds.Nrm part = refl
+part_kind_of-extension (kinds.Sep field) part = absurd part
+part_kind_of-extension kinds.Del part = absurd part
+part_kind_of-extension kinds.Tvx part = refl
+part_kind_of-extension kinds.Tvd part = refl
+part_kind_of-extension kinds.Tvf part = refl
 
 -- 115 is `s`
-pub kind_of-sep : (rest : List ℕ) → kind_of (115 ∷ rest) ≡ None
-kind_of-sep rest = refl
+pub part_kind_of-sep : (rest : List ℕ) → part_kind_of (115 ∷ rest) ≡ None
+part_kind_of-sep rest = refl
 
 -- ---- the candidate of a spelling is its name
 
@@ -68,10 +68,10 @@ kind_of-sep rest = refl
 pub part_name-cut : (stem : List ℕ) (kind : FileKind) → part_name stem kind ≡ stem ++ 46 ∷ extension kind
 part_name-cut stem kind = append_assoc stem (46 ∷ []) (extension kind)
 
-pub candidate-cut : (stem text : List ℕ) → IsNoneOf 46 (95 ∷ stem) → candidate (95 ∷ (stem ++ 46 ∷ text)) ≡ file_candidate (95 ∷ stem) text (kind_of text)
+pub candidate-cut : (stem text : List ℕ) → IsNoneOf 46 (95 ∷ stem) → candidate (95 ∷ (stem ++ 46 ∷ text)) ≡ file_candidate (95 ∷ stem) text (part_kind_of text)
 candidate-cut stem text none =
-    ap (λ (front : List ℕ). file_candidate front (after_first (λ b. eqb b 46) ((95 ∷ stem) ++ 46 ∷ text)) (kind_of (after_first (λ b. eqb b 46) ((95 ∷ stem) ++ 46 ∷ text)))) (before-cut 46 (95 ∷ stem) text none)
-    ∙ ap (λ (rest : List ℕ). file_candidate (95 ∷ stem) rest (kind_of rest)) (after-cut 46 (95 ∷ stem) text none)
+    ap (λ (front : List ℕ). file_candidate front (after_first (λ b. eqb b 46) ((95 ∷ stem) ++ 46 ∷ text)) (part_kind_of (after_first (λ b. eqb b 46) ((95 ∷ stem) ++ 46 ∷ text)))) (before-cut 46 (95 ∷ stem) text none)
+    ∙ ap (λ (rest : List ℕ). file_candidate (95 ∷ stem) rest (part_kind_of rest)) (after-cut 46 (95 ∷ stem) text none)
 
 -- a stem has no dot: `_`, digits, and another `_` and digits
 pub underscored : (digits : List ℕ) → IsNoneOf 46 digits → IsNoneOf 46 (95 ∷ digits)
@@ -94,7 +94,7 @@ candidate-name_spelling (Commit generation) is = ap Commit (spelled_value genera
 candidate-name_spelling (Part segment kind) is =
     ap candidate (part_name-cut (segment_name segment) kind)
     ∙ candidate-cut (base36 segment) (extension kind) (segment_stem-no_dot segment)
-    ∙ ap (file_candidate (95 ∷ base36 segment) (extension kind)) (kind_of-extension kind is)
+    ∙ ap (file_candidate (95 ∷ base36 segment) (extension kind)) (part_kind_of-extension kind is)
     ∙ ap (λ (n : ℕ). Part n kind) (spelled_value segment)
 candidate-name_spelling (Del segment generation) is =
     ap candidate (part_name-cut (with_generation segment generation) kinds.Del)
@@ -126,7 +126,7 @@ of-is_generation_number generation is =
     let parts = both (ltb 0 generation) (ltb generation (2 ^ 63)) is in
     (ltb-true 0 generation parts.0, ltb-true generation (2 ^ 63) parts.1)
 
-part-known : (kind : FileKind) → is_some (kind_of (extension kind)) ≡ true → IsPart kind
+part-known : (kind : FileKind) → is_some (part_kind_of (extension kind)) ≡ true → IsPart kind
 part-known kinds.Commit is = cc
 part-known kinds.Cfs is = tt
 part-known kinds.Cfx is = tt
@@ -148,7 +148,7 @@ pub is_name-of : (name : LuceneName) → IsName name → is_name name ≡ true
 is_name-of (Commit generation) is = is_generation_number-of generation is
 is_name-of (Part segment kind) is =
     let most : leb segment greatest_segment ≡ true = le-leb segment greatest_segment is.0 in
-    let known : is_some (kind_of (extension kind)) ≡ true = ap (λ (o : Option FileKind). is_some o) (kind_of-extension kind is.1) in
+    let known : is_some (part_kind_of (extension kind)) ≡ true = ap (λ (o : Option FileKind). is_some o) (part_kind_of-extension kind is.1) in
     rw (most, known) refl
 is_name-of (Del segment generation) is =
     let most : leb segment greatest_segment ≡ true = le-leb segment greatest_segment is.0 in
@@ -161,7 +161,7 @@ is_name-of (Sep segment generation field) is =
 pub of-is_name : (name : LuceneName) → is_name name ≡ true → IsName name
 of-is_name (Commit generation) is = of-is_generation_number generation is
 of-is_name (Part segment kind) is =
-    let parts = both (leb segment greatest_segment) (is_some (kind_of (extension kind))) is in
+    let parts = both (leb segment greatest_segment) (is_some (part_kind_of (extension kind))) is in
     (leb-true segment greatest_segment parts.0, part-known kind parts.1)
 of-is_name (Del segment generation) is =
     let parts = both (leb segment greatest_segment) (is_generation_number generation) is in
@@ -183,18 +183,18 @@ HasOwnSpelling-IsName (Sep segment generation field) is = omega arith
 pub name_spelling-same : (name other : LuceneName) → HasOwnSpelling name → HasOwnSpelling other → name_spelling name ≡ name_spelling other → name ≡ other
 name_spelling-same name other first second same = sym (candidate-name_spelling name first) ∙ ap candidate same ∙ candidate-name_spelling other second
 
-name_in-spelling : (name : LuceneName) → IsName name → name_in (name_spelling name) ≡ Some name
-name_in-spelling name is =
+lucene_name_in-spelling : (name : LuceneName) → IsName name → lucene_name_in (name_spelling name) ≡ Some name
+lucene_name_in-spelling name is =
     let same : bytes_eq (name_spelling name) (name_spelling name) ≡ true = (bytes_decides (name_spelling name) (name_spelling name)).1 refl in
     ap (if_spelled_by (name_spelling name)) (candidate-name_spelling name (HasOwnSpelling-IsName name is)) ∙ rw (is_name-of name is, same) refl
 
-pub name_in-Spells : (text : List ℕ) (name : LuceneName) → Spells text name → name_in text ≡ Some name
-name_in-Spells text name spells = ap name_in spells.1 ∙ name_in-spelling name spells.0
+pub lucene_name_in-SpellsName : (text : List ℕ) (name : LuceneName) → SpellsName text name → lucene_name_in text ≡ Some name
+lucene_name_in-SpellsName text name spells = ap lucene_name_in spells.1 ∙ lucene_name_in-spelling name spells.0
 
-pub Spells-name_in : (text : List ℕ) (name : LuceneName) → name_in text ≡ Some name → Spells text name
-Spells-name_in text name e = go (candidate text) e
+pub SpellsName-lucene_name_in : (text : List ℕ) (name : LuceneName) → lucene_name_in text ≡ Some name → SpellsName text name
+SpellsName-lucene_name_in text name e = go (candidate text) e
   where
-    go : (found : LuceneName) → if_spelled_by text found ≡ Some name → Spells text name
+    go : (found : LuceneName) → if_spelled_by text found ≡ Some name → SpellsName text name
     go found h = elim (cases_Bool (is_name found)) [
       | inr other ↦ absurd (let bad : None ≡ Some name = rw other at h in cc)
       | inl valid ↦ elim (cases_Bool (bytes_eq text (name_spelling found))) [
@@ -202,19 +202,19 @@ Spells-name_in text name e = go (candidate text) e
         | inl same ↦
             let is : Some found ≡ Some name = rw (valid, same) at h in
             let one : found ≡ name = cc in
-            subst (Spells text) one (of-is_name found valid, (bytes_decides text (name_spelling found)).0 same)
+            subst (SpellsName text) one (of-is_name found valid, (bytes_decides text (name_spelling found)).0 same)
       ]
     ]
 
 -- what is found of a text is the name that it spells
-pub TellsName-name_in : (text : List ℕ) (found : Option LuceneName) → TellsName text found → found ≡ name_in text
-TellsName-name_in text None none = go (name_in text) refl
+pub TellsName-lucene_name_in : (text : List ℕ) (found : Option LuceneName) → TellsName text found → found ≡ lucene_name_in text
+TellsName-lucene_name_in text None none = go (lucene_name_in text) refl
   where
-    go : (o : Option LuceneName) → name_in text ≡ o → None ≡ o
+    go : (o : Option LuceneName) → lucene_name_in text ≡ o → None ≡ o
     go None e = refl
-    go (Some name) e = absurd (none (name, Spells-name_in text name e))
-TellsName-name_in text (Some name) spells = sym (name_in-Spells text name spells)
+    go (Some name) e = absurd (none (name, SpellsName-lucene_name_in text name e))
+TellsName-lucene_name_in text (Some name) spells = sym (lucene_name_in-SpellsName text name spells)
 
 -- a text spells one name
-pub Spells-one : (text : List ℕ) (name other : LuceneName) → Spells text name → Spells text other → name ≡ other
-Spells-one text name other first second = name_spelling-same name other (HasOwnSpelling-IsName name first.0) (HasOwnSpelling-IsName other second.0) (sym first.1 ∙ second.1)
+pub SpellsName-one : (text : List ℕ) (name other : LuceneName) → SpellsName text name → SpellsName text other → name ≡ other
+SpellsName-one text name other first second = name_spelling-same name other (HasOwnSpelling-IsName name first.0) (HasOwnSpelling-IsName other second.0) (sym first.1 ∙ second.1)

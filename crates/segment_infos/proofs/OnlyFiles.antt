@@ -1,18 +1,19 @@
 -- The records of a commit, one after another.
-use Rattle.std.proofs.Common.{◌≡◌, ℕ, ◌+◌, ◌<◌, ◌^◌, pos, not, List, [], ◌∷◌, ◌++◌, length, flat_map, take, None, refl, sym, ap, subst, ◌∙◌, append_assoc, arith}
+use Rattle.std.proofs.Common.{◌≡◌, ℕ, ◌+◌, ◌<◌, ◌^◌, pos, not, List, [], ◌∷◌, ◌++◌, length, flat_map, take, None, refl, sym, ap, subst, ◌∙◌, arith}
 use Rattle.std.specs.Ordering.{int_eq}
 use mathlib.Core.Bool.{true≢false}
-use Rattle.std.proofs.lemmas.List.{append-nil, length-append, take_at}
+use Rattle.std.proofs.lemmas.List.{append-nil, take_at}
 use Rattle.lu_grammar.specs.Parts.{int32, int64, spelling}
 use Rattle.lu_grammar.specs.Records.{whole, Spells, first_broken}
-use Rattle.lu_grammar.specs.Plans.{Plan, done, due, and_then, times}
+use Rattle.lu_grammar.specs.Plans.{done, times}
 use Rattle.lu_grammar.specs.Meaning.{Spelled, bytes_of, AreGood, due_after, Reads}
+use Rattle.lu_grammar.proofs.Codecs.{ends, value_of, split_records}
 use Rattle.lu_prims.specs.Checksum.{checksum}
 use Rattle.lu_types.specs.RuleNumbers as rules
 use Rattle.segment_infos.specs.declared.infos.SegInfo.{SegInfo}
 use Rattle.segment_infos.specs.declared.record.TheConstants.{FORMAT_NUMBER}
 use Rattle.segment_infos.specs.declared.record.Heading.{Heading}
-use Rattle.segment_infos.specs.Numbers.{is_negative, count_of}
+use Rattle.segment_infos.specs.Numbers.{is_negative, count_or_zero}
 use Rattle.segment_infos.specs.Values.{CommitValue, IsMap, AreLines, IsCommit}
 use Rattle.segment_infos.specs.Records.{CommitRecord, heading, user, seal, heading_shape, map_shape, seal_record}
 use Rattle.segment_infos.specs.Conditions.{heading_conditions, map_conditions}
@@ -21,50 +22,7 @@ use Rattle.segment_infos.specs.Spelling.{line_bytes, map_bytes, heading_bytes, u
 use Rattle.segment_infos.proofs.SpelledPieces.{followed-spelled}
 use Rattle.segment_infos.proofs.GoodLines.{not_first}
 use Rattle.segment_infos.proofs.OnlyParts.{map-is}
-use Rattle.segment_infos.proofs.OnlyCommits.{ends, value_of, same_number, heading-is, lines-only}
-
--- ---- one plan and then another
-
--- what was read by the first, and then by the second
-pub record SplitRecords {V W : Type 0} (plan : Plan V CommitRecord) (next : V → Plan W CommitRecord) (place : ℕ) (ss : List (Spelled CommitRecord)) (w : W) : Type 0 where
-  pub value : V
-  pub first : List (Spelled CommitRecord)
-  pub second : List (Spelled CommitRecord)
-  pub all : bytes_of ss ≡ bytes_of first ++ bytes_of second
-  pub good : AreGood plan place first
-  pub none : due_after plan place first ≡ done value
-  pub others_good : AreGood (next value) (place + length (bytes_of first)) second
-  pub others_none : due_after (next value) (place + length (bytes_of first)) second ≡ done w
-
-pub split_records : {V W : Type 0} (plan : Plan V CommitRecord) (next : V → Plan W CommitRecord) (place : ℕ) (ss : List (Spelled CommitRecord)) (w : W) → AreGood (and_then plan next) place ss → due_after (and_then plan next) place ss ≡ done w
-    → SplitRecords plan next place ss w
-split_records (done v) next place ss w good none =
-    let same : place ≡ place + 0 = omega arith in
-    record {
-      value = v;
-      first = [];
-      second = ss;
-      all = refl;
-      good = tt;
-      none = refl;
-      others_good = subst (λ (p : ℕ). AreGood (next v) p ss) same good;
-      others_none = subst (λ (p : ℕ). due_after (next v) p ss ≡ done w) same none;
-    }
-split_records (due shape conditions after) next place [] w good none = absurd (true≢false (sym (ap ends none)))
-split_records {V} {W} (due shape conditions after) next place (s ∷ ss) w good none =
-    let there = place + length s.front in
-    let rest = split_records (after place s.it) next there ss w good.1 none in
-    let long : there + length (bytes_of rest.first) ≡ place + length (s.front ++ bytes_of rest.first) = omega (arith, length-append s.front (bytes_of rest.first)) in
-    record {
-      value = rest.value;
-      first = s ∷ rest.first;
-      second = rest.second;
-      all = ap (λ (t : List ℕ). s.front ++ t) rest.all ∙ sym (append_assoc s.front (bytes_of rest.first) (bytes_of rest.second));
-      good = (good.0, rest.good);
-      none = rest.none;
-      others_good = subst (λ (p : ℕ). AreGood (next rest.value) p rest.second) long rest.others_good;
-      others_none = subst (λ (p : ℕ). due_after (next rest.value) p rest.second ≡ done w) long rest.others_none;
-    }
+use Rattle.segment_infos.proofs.OnlyCommits.{same_number, heading-is, lines-only}
 
 -- ---- user data
 
@@ -75,8 +33,8 @@ pub record IsFront (v : CommitValue) (a : List ℕ) : Type 0 where
 -- the user data, and what they say besides the header and the segments
 pub record IsUser (h : Heading) (segments : List SegInfo) (v : CommitValue) (a : List ℕ) : Type 0 where
   pub is : IsMap v.user
-  pub version : v.version ≡ count_of h.version
-  pub counter : v.counter ≡ count_of h.counter
+  pub version : v.version ≡ count_or_zero h.version
+  pub counter : v.counter ≡ count_or_zero h.counter
   pub segments_are : v.segments ≡ segments
   pub spelled : a ≡ map_bytes v.user
 
@@ -104,13 +62,13 @@ front-only (s ∷ ss) v good none =
     let unbroken : first_broken (heading_conditions h) ≡ None = subst (λ (q : CommitRecord). first_broken (of_heading q) ≡ None) (sym is) good.0.1 in
     let head = heading-is h then.bytes then.first unbroken in
     let there = 0 + length s.front in
-    let split = split_records (times lines_kind (count_of h.count) []) (λ segments. user_plan h segments) there ss v
+    let split = split_records (times lines_kind (count_or_zero h.count) []) (λ segments. user_plan h segments) there ss v
     (subst (λ (q : CommitRecord). AreGood (after_heading q) there ss) (sym is) good.1) (subst (λ (q : CommitRecord). due_after (after_heading q) there ss ≡ done v) (sym is) none) in
     let no_lines : AreLines [] = record { lines = λ k d lt. absurd (omega arith); apart = λ i j d lt inside. absurd (omega arith); sizes = omega arith } in
-    let lines = lines-only (count_of h.count) [] there split.first split.value no_lines split.good split.none in
+    let lines = lines-only (count_or_zero h.count) [] there split.first split.value no_lines split.good split.none in
     let said = user-only h split.value (there + length (bytes_of split.first)) split.second v split.others_good split.others_none in
     let same : v.segments ≡ lines.more = said.segments_are ∙ lines.all in
-    let number : length v.segments ≡ count_of h.count = ap length same ∙ lines.count in
+    let number : length v.segments ≡ count_or_zero h.count = ap length same ∙ lines.count in
     record {
       is = record {
         version = subst (λ (n : ℕ). n < 2 ^ 63) (sym said.version) head.version;
@@ -123,11 +81,11 @@ front-only (s ∷ ss) v good none =
           ∙ ap (λ (t : List ℕ). heading_bytes v ++ t) (split.all ∙ ap (λ (t : List ℕ). t ++ bytes_of split.second) (lines.spelled ∙ ap (flat_map line_bytes) (sym same)) ∙ ap (λ (t : List ℕ). flat_map line_bytes v.segments ++ t) said.spelled);
     }
   where
-    heading_same : (h : Heading) (w : CommitValue) → w.version ≡ count_of h.version → w.counter ≡ count_of h.counter → length w.segments ≡ count_of h.count
-        → spelling int32 FORMAT_NUMBER ++ (spelling int64 (pos (count_of h.version)) ++ (spelling int32 (pos (count_of h.counter)) ++ spelling int32 (pos (count_of h.count)))) ≡ heading_bytes w
+    heading_same : (h : Heading) (w : CommitValue) → w.version ≡ count_or_zero h.version → w.counter ≡ count_or_zero h.counter → length w.segments ≡ count_or_zero h.count
+        → spelling int32 FORMAT_NUMBER ++ (spelling int64 (pos (count_or_zero h.version)) ++ (spelling int32 (pos (count_or_zero h.counter)) ++ spelling int32 (pos (count_or_zero h.count)))) ≡ heading_bytes w
     heading_same h w version counter number =
-        ap (λ (n : ℕ). spelling int32 FORMAT_NUMBER ++ (spelling int64 (pos n) ++ (spelling int32 (pos (count_of h.counter)) ++ spelling int32 (pos (count_of h.count))))) (sym version)
-        ∙ ap (λ (n : ℕ). spelling int32 FORMAT_NUMBER ++ (spelling int64 (pos w.version) ++ (spelling int32 (pos n) ++ spelling int32 (pos (count_of h.count))))) (sym counter)
+        ap (λ (n : ℕ). spelling int32 FORMAT_NUMBER ++ (spelling int64 (pos n) ++ (spelling int32 (pos (count_or_zero h.counter)) ++ spelling int32 (pos (count_or_zero h.count))))) (sym version)
+        ∙ ap (λ (n : ℕ). spelling int32 FORMAT_NUMBER ++ (spelling int64 (pos w.version) ++ (spelling int32 (pos n) ++ spelling int32 (pos (count_or_zero h.count))))) (sym counter)
         ∙ ap (λ (n : ℕ). spelling int32 FORMAT_NUMBER ++ (spelling int64 (pos w.version) ++ (spelling int32 (pos w.counter) ++ spelling int32 (pos n)))) (sym number)
 
 -- ---- the checksum

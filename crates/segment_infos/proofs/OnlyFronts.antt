@@ -11,7 +11,7 @@ use Rattle.segment_infos.specs.declared.infos.SegInfo.{SegInfo}
 use Rattle.segment_infos.specs.declared.record.TheConstants.{MOST_DOCUMENTS, PACKED}
 use Rattle.segment_infos.specs.declared.record.SharedStorePart.{SharedStorePart}
 use Rattle.segment_infos.specs.declared.record.FrontPart.{FrontPart}
-use Rattle.segment_infos.specs.Numbers.{is_negative, is_below_none, is_none_number, is_no_generation, count_of, given, number_or_none, number_in}
+use Rattle.segment_infos.specs.Numbers.{is_negative, is_below_none, is_none_number, is_no_generation, count_or_zero, given, number_or_none, segment_number_in}
 use Rattle.segment_infos.specs.Values.{IsGeneration, IsStore, total_size}
 use Rattle.segment_infos.specs.Records.{store_if, front_shape}
 use Rattle.segment_infos.specs.Conditions.{rule, is_no_size, has_other_store, has_other_flag, name_conditions, size_conditions, store_conditions}
@@ -20,7 +20,7 @@ use Rattle.segment_infos.specs.Spelling.{store_bytes}
 use Rattle.segment_infos.proofs.SpelledPieces.{followed-spelled}
 use Rattle.segment_infos.proofs.OnlyParts.{none_number, or_false, not_negative}
 use Rattle.segment_infos.proofs.GoodLines.{not_first, name-new}
-use Rattle.segment_infos.proofs.NumberIn.{Names-number_in}
+use Rattle.segment_infos.proofs.SegmentNumberIn.{Names-segment_number_in}
 
 -- ---- a generation
 
@@ -33,12 +33,12 @@ gen-made (negsuc n) fits h = (tt, ap (λ (k : ℕ). negsuc k) (none_number n h))
 -- ---- a store
 
 -- a name that is one has its number
-named : (name : List ℕ) → is_none (number_in name) ≡ false → (unwrap_or (number_in name) 0 ≤ greatest_segment) × (name ≡ segment_name (unwrap_or (number_in name) 0))
-named name h = go (number_in name) refl h
+named : (name : List ℕ) → is_none (segment_number_in name) ≡ false → (unwrap_or (segment_number_in name) 0 ≤ greatest_segment) × (name ≡ segment_name (unwrap_or (segment_number_in name) 0))
+named name h = go (segment_number_in name) refl h
   where
-    go : (o : Option ℕ) → number_in name ≡ o → is_none o ≡ false → (unwrap_or o 0 ≤ greatest_segment) × (name ≡ segment_name (unwrap_or o 0))
+    go : (o : Option ℕ) → segment_number_in name ≡ o → is_none o ≡ false → (unwrap_or o 0 ≤ greatest_segment) × (name ≡ segment_name (unwrap_or o 0))
     go None is e = absurd (let bad : true ≡ false = e in cc)
-    go (Some n) is e = Names-number_in name n is
+    go (Some n) is e = Names-segment_number_in name n is
 
 same_pack : (flag : ℕ) → ltb PACKED flag ≡ false → cond (eqb flag PACKED) PACKED 0 ≡ flag
 same_pack flag h =
@@ -61,7 +61,7 @@ store-there n store a fits (name, b, text_fits, is, (flag, c, byte_fits, is_2, (
       is = (omega (arith, fits), number.0);
       spelled = ap (λ (t : List ℕ). spelling int32 (pos n) ++ t)
           (bytes ∙ ap (λ (t : List ℕ). spelling text t ++ spelling byte flag) number.1
-          ∙ ap (λ (k : ℕ). spelling text (segment_name (unwrap_or (number_in name) 0)) ++ spelling byte k) (sym (same_pack flag has_flag)));
+          ∙ ap (λ (k : ℕ). spelling text (segment_name (unwrap_or (segment_number_in name) 0)) ++ spelling byte k) (sym (same_pack flag has_flag)));
     }) good_name good_flag
 
 store-absent : (offset : ℤ) (store : Option SharedStorePart) (a : List ℕ) → offset ≡ negsuc 0 → Spells (store_if false) store a → IsStorePart offset store a
@@ -80,11 +80,11 @@ store-is (negsuc n) store a fits spells good good_name good_flag =
 -- ---- the first parts
 
 pub record IsFrontPart (f : FrontPart) (a : List ℕ) : Type 0 where
-  pub number : unwrap_or (number_in f.name) 0 ≤ greatest_segment
-  pub size : count_of f.size ≤ MOST_DOCUMENTS
+  pub number : unwrap_or (segment_number_in f.name) 0 ≤ greatest_segment
+  pub size : count_or_zero f.size ≤ MOST_DOCUMENTS
   pub del_gen : IsGeneration (given f.del_gen)
   pub store : IsStore (store_of f.offset f.store)
-  pub spelled : a ≡ spelling text (segment_name (unwrap_or (number_in f.name) 0)) ++ (spelling int32 (pos (count_of f.size)) ++ (spelling int64 (number_or_none (given f.del_gen)) ++ store_bytes (store_of f.offset f.store)))
+  pub spelled : a ≡ spelling text (segment_name (unwrap_or (segment_number_in f.name) 0)) ++ (spelling int32 (pos (count_or_zero f.size)) ++ (spelling int64 (number_or_none (given f.del_gen)) ++ store_bytes (store_of f.offset f.store)))
 
 pub front-is : (segments : List SegInfo) (f : FrontPart) (a : List ℕ) → Spells front_shape f a → first_broken (name_conditions segments f) ≡ None → first_broken (size_conditions segments f) ≡ None → first_broken (store_conditions f) ≡ None
     → IsFrontPart f a
@@ -102,10 +102,10 @@ front-is segments f a (name, b, fits, is, (size, c, fits_2, is_2, (del_gen, d, f
     go store bs spelled bytes names sizes stores =
         let g : FrontPart = record { name = name; size = size; del_gen = del_gen; offset = offset; store = store } in
         let new = name-new segments g names in
-        let number = Names-number_in name new.number new.is in
-        let is_number : unwrap_or (number_in name) 0 ≡ new.number = ap (λ (o : Option ℕ). unwrap_or o 0) new.is in
-        let one = not_first rules.seg_size (is_no_size size) (rule rules.size_sum (ltb MOST_DOCUMENTS (total_size segments + count_of size)) ∷ []) sizes in
-        let two = or_false (is_negative size) (ltb MOST_DOCUMENTS (count_of size)) one.0 in
+        let number = Names-segment_number_in name new.number new.is in
+        let is_number : unwrap_or (segment_number_in name) 0 ≡ new.number = ap (λ (o : Option ℕ). unwrap_or o 0) new.is in
+        let one = not_first rules.seg_size (is_no_size size) (rule rules.size_sum (ltb MOST_DOCUMENTS (total_size segments + count_or_zero size)) ∷ []) sizes in
+        let two = or_false (is_negative size) (ltb MOST_DOCUMENTS (count_or_zero size)) one.0 in
         let three = not_first rules.del_gen (is_no_generation del_gen) (rule rules.shared_store (is_below_none offset) ∷ rule rules.store_name (has_other_store store) ∷ rule rules.store_flag (has_other_flag store) ∷ []) stores in
         let four = not_first rules.shared_store (is_below_none offset) (rule rules.store_name (has_other_store store) ∷ rule rules.store_flag (has_other_flag store) ∷ []) three.1 in
         let five = not_first rules.store_name (has_other_store store) (rule rules.store_flag (has_other_flag store) ∷ []) four.1 in
@@ -114,11 +114,11 @@ front-is segments f a (name, b, fits, is, (size, c, fits_2, is_2, (del_gen, d, f
         let shared = store-is offset store bs fits_4 spelled four.0 five.0 six.0 in
         record {
           number = subst (λ (k : ℕ). k ≤ greatest_segment) (sym is_number) number.0;
-          size = ltb-false MOST_DOCUMENTS (count_of size) two.1;
+          size = ltb-false MOST_DOCUMENTS (count_or_zero size) two.1;
           del_gen = gen.0;
           store = shared.is;
           spelled = bytes ∙ ap (λ (t : List ℕ). spelling text t ++ (spelling int32 size ++ (spelling int64 del_gen ++ (spelling int32 offset ++ bs)))) (number.1 ∙ ap segment_name (sym is_number))
-              ∙ ap (λ (t : List ℕ). spelling text (segment_name (unwrap_or (number_in name) 0)) ++ t)
+              ∙ ap (λ (t : List ℕ). spelling text (segment_name (unwrap_or (segment_number_in name) 0)) ++ t)
               (ap (λ (z : ℤ). spelling int32 z ++ (spelling int64 del_gen ++ (spelling int32 offset ++ bs))) (not_negative size two.0)
-              ∙ ap (λ (t : List ℕ). spelling int32 (pos (count_of size)) ++ t) (ap (λ (z : ℤ). spelling int64 z ++ (spelling int32 offset ++ bs)) gen.1 ∙ ap (λ (t : List ℕ). spelling int64 (number_or_none (given del_gen)) ++ t) shared.spelled));
+              ∙ ap (λ (t : List ℕ). spelling int32 (pos (count_or_zero size)) ++ t) (ap (λ (z : ℤ). spelling int64 z ++ (spelling int32 offset ++ bs)) gen.1 ∙ ap (λ (t : List ℕ). spelling int64 (number_or_none (given del_gen)) ++ t) shared.spelled));
         }

@@ -13,7 +13,7 @@ use Rattle.segment_infos.specs.declared.record.FrontPart.{FrontPart}
 use Rattle.segment_infos.specs.declared.record.NormPart.{NormPart}
 use Rattle.segment_infos.specs.declared.record.FlagPart.{FlagPart}
 use Rattle.segment_infos.specs.declared.record.MapPart.{MapPart}
-use Rattle.segment_infos.specs.Numbers.{is_negative, is_no_generation, count_of, given}
+use Rattle.segment_infos.specs.Numbers.{is_negative, is_no_generation, count_or_zero, given}
 use Rattle.segment_infos.specs.Values.{IsPair, IsMap, IsNormGen, AreNormGens, AreDeleted}
 use Rattle.segment_infos.specs.Records.{many, gen_shape, norm_shape, flag_shape, pair_shape, map_shape}
 use Rattle.segment_infos.specs.Conditions.{rule, is_no_flag, is_no_deletion, norm_conditions, flag_conditions}
@@ -37,14 +37,14 @@ pub record IsMapPart (m : MapPart) (a : List ℕ) : Type 0 where
 pub map-is : (m : MapPart) (a : List ℕ) → Spells map_shape m a → is_negative m.count ≡ false → IsMapPart m a
 map-is m a (count, back, fits, is, spells) good =
     let next = λ (pairs : List MapPair). whole (let made : MapPart = record { count = count; pairs = pairs } in made) in
-    let then = followed-spelled (many pair_shape (count_of count)) next m back spells in
-    let pairs = many-are pair_shape IsPair pair_bytes pair-is (count_of count) then.it then.bytes then.first in
+    let then = followed-spelled (many pair_shape (count_or_zero count)) next m back spells in
+    let pairs = many-are pair_shape IsPair pair_bytes pair-is (count_or_zero count) then.it then.bytes then.first in
     let made : record { count = count; pairs = then.it } ≡ m = then.second.0 in
     let bytes : a ≡ spelling int32 count ++ flat_map pair_bytes then.it =
     is ∙ ap (λ (t : List ℕ). spelling int32 count ++ t) (then.split ∙ ap (λ (t : List ℕ). then.bytes ++ t) then.second.1 ∙ append-nil then.bytes ∙ pairs.spelled) in
     subst (λ (n : MapPart). is_negative n.count ≡ false → IsMapPart n a) made (go count fits then.it pairs.each pairs.count bytes) good
   where
-    go : (count : ℤ) → FitsSigned w32 count → (pairs : List MapPair) → All IsPair pairs → length pairs ≡ count_of count → a ≡ spelling int32 count ++ flat_map pair_bytes pairs → is_negative count ≡ false
+    go : (count : ℤ) → FitsSigned w32 count → (pairs : List MapPair) → All IsPair pairs → length pairs ≡ count_or_zero count → a ≡ spelling int32 count ++ flat_map pair_bytes pairs → is_negative count ≡ false
         → IsMapPart (record { count = count; pairs = pairs }) a
     go (pos n) fits pairs each number bytes good = record { is = (omega (arith, number, fits), each); spelled = bytes ∙ ap (λ (k : ℕ). spelling int32 (pos k) ++ flat_map pair_bytes pairs) (sym number) }
     go (negsuc n) fits pairs each number bytes good = absurd cc
@@ -82,7 +82,7 @@ pub record IsNormPart (n : NormPart) (a : List ℕ) : Type 0 where
   pub is : AreNormGens (norm_gens_of n)
   pub spelled : a ≡ spelling byte 1 ++ gens_bytes (norm_gens_of n)
 
-norm-made : (single : ℕ) (count : ℤ) (gens : List ℤ) (a : List ℕ) → FitsSigned w32 count → All (FitsSigned w64) gens → length gens ≡ count_of count → a ≡ spelling byte single ++ (spelling int32 count ++ flat_map (spelling int64) gens)
+norm-made : (single : ℕ) (count : ℤ) (gens : List ℤ) (a : List ℕ) → FitsSigned w32 count → All (FitsSigned w64) gens → length gens ≡ count_or_zero count → a ≡ spelling byte single ++ (spelling int32 count ++ flat_map (spelling int64) gens)
     → first_broken (norm_conditions (record { single = single; count = count; gens = gens })) ≡ None → IsNormPart (record { single = single; count = count; gens = gens }) a
 norm-made single (pos k) gens a fits each number bytes good =
     let one = not_first rules.old_norms (not (eqb single 1)) (rule rules.num_field false ∷ rule rules.separate_norms (list_any is_no_generation gens) ∷ []) good in
@@ -122,8 +122,8 @@ norm-made single (negsuc k) gens a fits each number bytes good =
 pub norm-is : (n : NormPart) (a : List ℕ) → Spells norm_shape n a → first_broken (norm_conditions n) ≡ None → IsNormPart n a
 norm-is n a (single, back, one_byte, is, (count, end, fits, more, spells)) good =
     let next = λ (gens : List ℤ). whole (let made : NormPart = record { single = single; count = count; gens = gens } in made) in
-    let then = followed-spelled (many gen_shape (count_of count)) next n end spells in
-    let gens = many-are gen_shape (FitsSigned w64) (spelling int64) gen-is (count_of count) then.it then.bytes then.first in
+    let then = followed-spelled (many gen_shape (count_or_zero count)) next n end spells in
+    let gens = many-are gen_shape (FitsSigned w64) (spelling int64) gen-is (count_or_zero count) then.it then.bytes then.first in
     let made : record { single = single; count = count; gens = then.it } ≡ n = then.second.0 in
     let bytes : a ≡ spelling byte single ++ (spelling int32 count ++ flat_map (spelling int64) then.it) =
     is ∙ ap (λ (t : List ℕ). spelling byte single ++ t) (more ∙ ap (λ (t : List ℕ). spelling int32 count ++ t) (then.split ∙ ap (λ (t : List ℕ). then.bytes ++ t) then.second.1 ∙ append-nil then.bytes ∙ gens.spelled)) in
@@ -132,8 +132,8 @@ norm-is n a (single, back, one_byte, is, (count, end, fits, more, spells)) good 
 -- ---- flags
 
 pub record IsFlagPart (front : FrontPart) (f : FlagPart) (a : List ℕ) : Type 0 where
-  pub deleted : AreDeleted (given front.del_gen) (count_of front.size) (count_of f.deleted)
-  pub spelled : a ≡ spelling byte (cond (eqb f.compound PACKED) PACKED NOT_PACKED) ++ (spelling int32 (pos (count_of f.deleted)) ++ spelling byte (cond (eqb f.prox 1) 1 0))
+  pub deleted : AreDeleted (given front.del_gen) (count_or_zero front.size) (count_or_zero f.deleted)
+  pub spelled : a ≡ spelling byte (cond (eqb f.compound PACKED) PACKED NOT_PACKED) ++ (spelling int32 (pos (count_or_zero f.deleted)) ++ spelling byte (cond (eqb f.prox 1) 1 0))
 
 same_flag : (flag : ℕ) → is_no_flag flag ≡ false → cond (eqb flag PACKED) PACKED NOT_PACKED ≡ flag
 same_flag flag h = elim (cases_Bool (eqb flag PACKED)) [
@@ -156,20 +156,20 @@ pub or_false : (a b : Bool) → (a || b) ≡ false → (a ≡ false) × (b ≡ f
 or_false true b h = absurd (let bad : true ≡ false = h in cc)
 or_false false b h = (refl, h)
 
-pub not_negative : (z : ℤ) → is_negative z ≡ false → z ≡ pos (count_of z)
+pub not_negative : (z : ℤ) → is_negative z ≡ false → z ≡ pos (count_or_zero z)
 not_negative (pos n) h = refl
 not_negative (negsuc n) h = absurd (let bad : true ≡ false = h in cc)
 
-deleted-are : (front : FrontPart) (deleted : ℤ) → is_no_deletion front deleted ≡ false → AreDeleted (given front.del_gen) (count_of front.size) (count_of deleted) × (deleted ≡ pos (count_of deleted))
+deleted-are : (front : FrontPart) (deleted : ℤ) → is_no_deletion front deleted ≡ false → AreDeleted (given front.del_gen) (count_or_zero front.size) (count_or_zero deleted) × (deleted ≡ pos (count_or_zero deleted))
 deleted-are front deleted h =
-    let one = or_false (is_negative deleted) (ltb (count_of front.size) (count_of deleted) || (is_negative front.del_gen && not (eqb (count_of deleted) 0))) h in
-    let two = or_false (ltb (count_of front.size) (count_of deleted)) (is_negative front.del_gen && not (eqb (count_of deleted) 0)) one.1 in
+    let one = or_false (is_negative deleted) (ltb (count_or_zero front.size) (count_or_zero deleted) || (is_negative front.del_gen && not (eqb (count_or_zero deleted) 0))) h in
+    let two = or_false (ltb (count_or_zero front.size) (count_or_zero deleted)) (is_negative front.del_gen && not (eqb (count_or_zero deleted) 0)) one.1 in
     (go front.del_gen two.1, not_negative deleted one.0)
   where
-    go : (gen : ℤ) → (is_negative gen && not (eqb (count_of deleted) 0)) ≡ false → AreDeleted (given gen) (count_of front.size) (count_of deleted)
-    go (pos n) e = let two = or_false (is_negative deleted) (ltb (count_of front.size) (count_of deleted) || (is_negative front.del_gen && not (eqb (count_of deleted) 0))) h in
-        ltb-false (count_of front.size) (count_of deleted) (or_false (ltb (count_of front.size) (count_of deleted)) (is_negative front.del_gen && not (eqb (count_of deleted) 0)) two.1).0
-    go (negsuc n) e = none_number (count_of deleted) e
+    go : (gen : ℤ) → (is_negative gen && not (eqb (count_or_zero deleted) 0)) ≡ false → AreDeleted (given gen) (count_or_zero front.size) (count_or_zero deleted)
+    go (pos n) e = let two = or_false (is_negative deleted) (ltb (count_or_zero front.size) (count_or_zero deleted) || (is_negative front.del_gen && not (eqb (count_or_zero deleted) 0))) h in
+        ltb-false (count_or_zero front.size) (count_or_zero deleted) (or_false (ltb (count_or_zero front.size) (count_or_zero deleted)) (is_negative front.del_gen && not (eqb (count_or_zero deleted) 0)) two.1).0
+    go (negsuc n) e = none_number (count_or_zero deleted) e
 
 pub flag-is : (front : FrontPart) (f : FlagPart) (a : List ℕ) → Spells flag_shape f a → first_broken (flag_conditions front f) ≡ None → IsFlagPart front f a
 flag-is front f a (compound, b, fits, is, (deleted, c, fits_2, is_2, (prox, d, fits_3, is_3, (made, none)))) good =
@@ -184,5 +184,5 @@ flag-is front f a (compound, b, fits, is, (deleted, c, fits_2, is_2, (prox, d, f
       deleted = count.0;
       spelled = bytes ∙ ap (λ (n : ℕ). spelling byte n ++ (spelling int32 deleted ++ spelling byte prox)) (sym (same_flag compound one.0))
           ∙ ap (λ (z : ℤ). spelling byte (cond (eqb compound PACKED) PACKED NOT_PACKED) ++ (spelling int32 z ++ spelling byte prox)) count.1
-          ∙ ap (λ (n : ℕ). spelling byte (cond (eqb compound PACKED) PACKED NOT_PACKED) ++ (spelling int32 (pos (count_of deleted)) ++ spelling byte n)) (sym (same_bit prox three.0));
+          ∙ ap (λ (n : ℕ). spelling byte (cond (eqb compound PACKED) PACKED NOT_PACKED) ++ (spelling int32 (pos (count_or_zero deleted)) ++ spelling byte n)) (sym (same_bit prox three.0));
     }) good

@@ -10,7 +10,7 @@ use Rattle.lu_prims.specs.Checksum.{lowest_bits, number_of_bits, add_front, divi
 use Rattle.segment_infos.specs.declared.infos.MapPair.{MapPair}
 use Rattle.segment_infos.specs.declared.infos.SegInfo.{SegInfo}
 use Rattle.segment_infos.specs.Values.{CommitValue}
-use Rattle.segment_infos.specs.Format.{segment_of, commit_plan}
+use Rattle.segment_infos.specs.Format.{segment_of_line, commit_plan}
 use Rattle.segment_infos.specs.Spelling.{line_bytes, commit_bytes, pending}
 
 tried : List ℕ → Result CommitValue Broken
@@ -79,20 +79,20 @@ unfolding one pair one_line one_bytes header front flags map_of_one groups check
 one_spelled = refl
 
 one_read : tried one_bytes ≡ Ok one
-unfolding tried one pair one_line one_bytes header front flags map_of_one segment_of read read_groups each read_plan record_at repeated is_utf8 chars lib.Utf8.encode checksum message lowest_bits number_of_bits add_front divisor remainder
+unfolding tried one pair one_line one_bytes header front flags map_of_one segment_of_line read read_groups each read_plan record_at repeated is_utf8 chars lib.Utf8.encode checksum message lowest_bits number_of_bits add_front divisor remainder
 one_read = refl
 
 -- cut by one byte, and with another last byte
 one_cut : tried (take 78 one_bytes) ≡ fault 71 1
-unfolding tried fault one_bytes header front flags map_of_one segment_of read read_groups each read_plan record_at repeated is_utf8 chars lib.Utf8.encode checksum message lowest_bits number_of_bits add_front divisor remainder
+unfolding tried fault one_bytes header front flags map_of_one segment_of_line read read_groups each read_plan record_at repeated is_utf8 chars lib.Utf8.encode checksum message lowest_bits number_of_bits add_front divisor remainder
 one_cut = refl
 
 one_changed : tried (set one_bytes 78 0x61) ≡ fault 71 27
-unfolding tried fault one_bytes header front flags map_of_one segment_of read read_groups each read_plan record_at repeated is_utf8 chars lib.Utf8.encode checksum message lowest_bits number_of_bits add_front divisor remainder
+unfolding tried fault one_bytes header front flags map_of_one segment_of_line read read_groups each read_plan record_at repeated is_utf8 chars lib.Utf8.encode checksum message lowest_bits number_of_bits add_front divisor remainder
 one_changed = refl
 
 one_pending : tried (pending one_bytes) ≡ fault 71 27
-unfolding tried fault one_bytes header front flags map_of_one segment_of read read_groups each read_plan record_at repeated is_utf8 chars lib.Utf8.encode checksum message lowest_bits number_of_bits add_front divisor remainder
+unfolding tried fault one_bytes header front flags map_of_one segment_of_line read read_groups each read_plan record_at repeated is_utf8 chars lib.Utf8.encode checksum message lowest_bits number_of_bits add_front divisor remainder
 one_pending = refl
 
 -- a segment with a shared store

@@ -23,7 +23,7 @@ use Rattle.segment_infos.specs.Conditions.{has_number}
 use Rattle.segment_infos.specs.Format.{of_heading, of_line, of_user, of_seal, with_line, lines_kind, commit_of, user_plan, after_heading, front_plan, seal_plan, commit_plan}
 use Rattle.segment_infos.specs.Spelling.{line_bytes, map_bytes, heading_bytes, unsealed_bytes, commit_bytes, pending}
 use Rattle.segment_infos.proofs.LineParts.{map_of, line_of, map-spells, line-spells}
-use Rattle.segment_infos.proofs.LineBack.{line_of-good, segment_of-line_of}
+use Rattle.segment_infos.proofs.LineBack.{line_of-good, segment_of_line-line_of}
 use Rattle.segment_infos.proofs.OnlyFiles.{commit-only}
 use Rattle.segment_infos.proofs.WrittenPlans.{Written, written-done, written-due, written-then, written-Reads, written-read, wrapped-spells}
 
@@ -68,7 +68,7 @@ lines-written before (s ∷ segments) place are =
     let l = line_of s in
     let spelled : Spells line_record (line l) (line_bytes s) = wrapped-spells line_shape (λ k. line k) l (line_bytes s) (line-spells s next.is) in
     let good : first_broken (of_line before (line l)) ≡ None = line_of-good before s next.is next.new next.room in
-    let made : before ++ s ∷ [] ≡ with_line before (line l) = ap (λ (t : SegInfo). before ++ t ∷ []) (sym (segment_of-line_of s next.is)) in
+    let made : before ++ s ∷ [] ≡ with_line before (line l) = ap (λ (t : SegInfo). before ++ t ∷ []) (sym (segment_of_line-line_of s next.is)) in
     let others = lines-written (before ++ s ∷ []) segments (place + length (line_bytes s)) (tail-lines before s segments are) in
     let rest : Written (times lines_kind (length segments) (with_line before (line l))) (place + length (line_bytes s)) (flat_map line_bytes segments) (before ++ s ∷ segments) =
     subst (λ (ls : List SegInfo). Written (times lines_kind (length segments) ls) (place + length (line_bytes s)) (flat_map line_bytes segments) (before ++ s ∷ segments)) made

@@ -13,8 +13,8 @@ use Rattle.segment_infos.specs.declared.record.FrontPart.{FrontPart}
 use Rattle.segment_infos.specs.declared.record.NormPart.{NormPart}
 use Rattle.segment_infos.specs.declared.record.FlagPart.{FlagPart}
 use Rattle.segment_infos.specs.declared.record.MapPart.{MapPart}
-use Rattle.segment_infos.specs.declared.record.Line.{Line}
-use Rattle.segment_infos.specs.Numbers.{is_negative, is_below_none, is_no_generation, count_of, number_in}
+use Rattle.segment_infos.specs.declared.record.SegmentLine.{SegmentLine}
+use Rattle.segment_infos.specs.Numbers.{is_negative, is_below_none, is_no_generation, count_or_zero, segment_number_in}
 use Rattle.segment_infos.specs.Values.{total_size}
 
 -- a rule, and whether it is broken
@@ -41,12 +41,12 @@ is_twice segments (Some number) = has_number segments number
 
 -- the number is below 0, or there are more documents than may be
 abbrev pub is_no_size : ℤ → Bool
-is_no_size size = is_negative size || nat_lt MOST_DOCUMENTS (count_of size)
+is_no_size size = is_negative size || nat_lt MOST_DOCUMENTS (count_or_zero size)
 
 -- the store is there, and its name is no segment name
 abbrev pub has_other_store : Option SharedStorePart → Bool
 has_other_store None = false
-has_other_store (Some store) = is_none (number_in store.name)
+has_other_store (Some store) = is_none (segment_number_in store.name)
 
 -- the store is there, and its flag is neither 0 nor 1
 abbrev pub has_other_flag : Option SharedStorePart → Bool
@@ -55,11 +55,11 @@ has_other_flag (Some store) = nat_lt PACKED store.flag
 
 -- what the name of a segment must not be after the segments before it
 abbrev pub name_conditions : List SegInfo → FrontPart → List Condition
-name_conditions segments f = rule rules.seg_name (is_none (number_in f.name)) ∷ rule rules.seg_twice (is_twice segments (number_in f.name)) ∷ []
+name_conditions segments f = rule rules.seg_name (is_none (segment_number_in f.name)) ∷ rule rules.seg_twice (is_twice segments (segment_number_in f.name)) ∷ []
 
 -- what its size must not be after the segments before it
 abbrev pub size_conditions : List SegInfo → FrontPart → List Condition
-size_conditions segments f = rule rules.seg_size (is_no_size f.size) ∷ rule rules.size_sum (nat_lt MOST_DOCUMENTS (total_size segments + count_of f.size)) ∷ []
+size_conditions segments f = rule rules.seg_size (is_no_size f.size) ∷ rule rules.size_sum (nat_lt MOST_DOCUMENTS (total_size segments + count_or_zero f.size)) ∷ []
 
 -- what its generation and its store must not be
 abbrev pub store_conditions : FrontPart → List Condition
@@ -84,7 +84,7 @@ is_no_flag flag = not (flag == PACKED) && not (flag == NOT_PACKED)
 
 -- the number is below 0, or over the size, or not 0 where there is no file of deleted documents
 abbrev pub is_no_deletion : FrontPart → ℤ → Bool
-is_no_deletion f deleted = is_negative deleted || (nat_lt (count_of f.size) (count_of deleted) || (is_negative f.del_gen && not (count_of deleted == 0)))
+is_no_deletion f deleted = is_negative deleted || (nat_lt (count_or_zero f.size) (count_or_zero deleted) || (is_negative f.del_gen && not (count_or_zero deleted == 0)))
 
 -- what the flags must not be
 abbrev pub flag_conditions : FrontPart → FlagPart → List Condition
@@ -99,7 +99,7 @@ abbrev pub map_conditions : MapPart → List Condition
 map_conditions m = rule rules.map_count (is_negative m.count) ∷ []
 
 -- what a segment must not be after the segments before it
-abbrev pub line_conditions : List SegInfo → Line → List Condition
+abbrev pub line_conditions : List SegInfo → SegmentLine → List Condition
 line_conditions segments l =
     name_conditions segments l.front ++ (size_conditions segments l.front ++ (store_conditions l.front ++ (norm_conditions l.norms ++ (flag_conditions l.front l.flags ++ map_conditions l.map))))
 

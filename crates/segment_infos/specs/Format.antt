@@ -8,8 +8,8 @@ use Rattle.segment_infos.specs.declared.record.TheConstants.{PACKED}
 use Rattle.segment_infos.specs.declared.record.Heading.{Heading}
 use Rattle.segment_infos.specs.declared.record.SharedStorePart.{SharedStorePart}
 use Rattle.segment_infos.specs.declared.record.NormPart.{NormPart}
-use Rattle.segment_infos.specs.declared.record.Line.{Line}
-use Rattle.segment_infos.specs.Numbers.{is_negative, count_of, given, number_in}
+use Rattle.segment_infos.specs.declared.record.SegmentLine.{SegmentLine}
+use Rattle.segment_infos.specs.Numbers.{is_negative, count_or_zero, given, segment_number_in}
 use Rattle.segment_infos.specs.Values.{CommitValue}
 use Rattle.segment_infos.specs.Records.{CommitRecord, heading, line, user, seal, heading_record, line_record, user_record, seal_record}
 use Rattle.segment_infos.specs.Conditions.{heading_conditions, line_conditions, map_conditions, seal_conditions}
@@ -19,22 +19,22 @@ use Rattle.segment_infos.specs.Conditions.{heading_conditions, line_conditions, 
 -- the store from its place on
 abbrev pub store_of : ℤ → Option SharedStorePart → Option SharedStore
 store_of offset None = None
-store_of offset (Some store) = Some (record { offset = count_of offset; number = unwrap_or (number_in store.name) 0; compound = store.flag == PACKED })
+store_of offset (Some store) = Some (record { offset = count_or_zero offset; number = unwrap_or (segment_number_in store.name) 0; compound = store.flag == PACKED })
 
 -- the norm generations, where they are counted
 abbrev pub norm_gens_of : NormPart → Option (List ℤ)
 norm_gens_of n = if is_negative n.count then None else Some n.gens
 
 -- the segment
-unfoldable pub segment_of : Line → SegInfo
-segment_of l = record {
-  number = unwrap_or (number_in l.front.name) 0;
-  size = count_of l.front.size;
+unfoldable pub segment_of_line : SegmentLine → SegInfo
+segment_of_line l = record {
+  number = unwrap_or (segment_number_in l.front.name) 0;
+  size = count_or_zero l.front.size;
   del_gen = given l.front.del_gen;
   store = store_of l.front.offset l.front.store;
   norm_gens = norm_gens_of l.norms;
   compound = l.flags.compound == PACKED;
-  deleted = count_of l.flags.deleted;
+  deleted = count_or_zero l.flags.deleted;
   has_prox = l.flags.prox == 1;
   diagnostics = l.map.pairs;
 }
@@ -60,7 +60,7 @@ of_seal before _ = []
 
 -- the segments and this one
 abbrev pub with_line : List SegInfo → CommitRecord → List SegInfo
-with_line segments (line l) = segments ++ segment_of l ∷ []
+with_line segments (line l) = segments ++ segment_of_line l ∷ []
 with_line segments _ = segments
 
 -- a segment after those before it
@@ -73,7 +73,7 @@ no_commit = record { version = 0; counter = 0; segments = []; user = [] }
 
 -- what a header, the segments and the user data say
 abbrev pub commit_of : Heading → List SegInfo → CommitRecord → CommitValue
-commit_of h segments (user m) = record { version = count_of h.version; counter = count_of h.counter; segments = segments; user = m.pairs }
+commit_of h segments (user m) = record { version = count_or_zero h.version; counter = count_or_zero h.counter; segments = segments; user = m.pairs }
 commit_of h segments _ = no_commit
 
 -- the user data after a header and the segments
@@ -82,7 +82,7 @@ user_plan h segments = due user_record (λ _ r. of_user r) (λ _ r. done (commit
 
 -- as many segments as the header says, and the user data
 abbrev pub after_heading : CommitRecord → Plan CommitValue CommitRecord
-after_heading (heading h) = and_then (times lines_kind (count_of h.count) []) (λ segments. user_plan h segments)
+after_heading (heading h) = and_then (times lines_kind (count_or_zero h.count) []) (λ segments. user_plan h segments)
 after_heading _ = done no_commit
 
 -- all but the checksum

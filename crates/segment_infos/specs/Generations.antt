@@ -2,7 +2,7 @@
 use Rattle.std.specs.Prelude.{ℕ, ◌≤◌, List, Option, Some, None, filter_map, AllPairs, IsPermutation}
 use Rattle.segment_infos.specs.declared.naming.LuceneName.{LuceneName}
 use Rattle.segment_infos.specs.declared.naming.LuceneName.TheVariants.{Commit, Part, Del, Sep}
-use Rattle.segment_infos.specs.LuceneNames.{name_in}
+use Rattle.segment_infos.specs.LuceneNames.{lucene_name_in}
 
 -- the generation of the commit; none where the name is that of none
 abbrev pub generation_of : LuceneName → Option ℕ
@@ -18,7 +18,7 @@ generation_named (Some name) = generation_of name
 
 -- the generation of the commit that a text names; none where it names none
 abbrev pub generation_in : List ℕ → Option ℕ
-generation_in text = generation_named (name_in text)
+generation_in text = generation_named (lucene_name_in text)
 
 -- the generations of all names of commits, as the names stand
 abbrev pub listed_generations : List (List ℕ) → List ℕ

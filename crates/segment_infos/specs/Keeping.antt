@@ -4,8 +4,8 @@ use Rattle.lu_types.specs.Names.{IsPart}
 use Rattle.segment_infos.specs.declared.removing.Kept.{Kept}
 use Rattle.segment_infos.specs.declared.naming.LuceneName.{LuceneName}
 use Rattle.segment_infos.specs.declared.naming.LuceneName.TheVariants.{Commit, Part, Del, Sep}
-use Rattle.segment_infos.specs.LuceneNames.{name_in}
-use Rattle.segment_infos.specs.Referring.{KeptValue, is_among}
+use Rattle.segment_infos.specs.LuceneNames.{lucene_name_in}
+use Rattle.segment_infos.specs.Referring.{KeptValue, is_spelled_among}
 
 -- the generation, and the commit that is lent
 abbrev pub kept_value : Kept → KeptValue
@@ -24,4 +24,4 @@ HasNames keys names = (name : LuceneName) → Contains keys name ↔ Contains na
 
 -- the text is a Lucene name that is none of these
 abbrev pub is_free : List LuceneName → List ℕ → Bool
-is_free names text = is_some (name_in text) && not (is_among names text)
+is_free names text = is_some (lucene_name_in text) && not (is_spelled_among names text)

@@ -1,11 +1,11 @@
 -- Lucene names: what they say, their one spelling, and the name that a text spells (docs/FORMAT.md, "Names of files").
-use Rattle.std.specs.Prelude.{◌≡◌, ℕ, ◌^◌, ◌<◌, ◌≤◌, Bool, ◌&&◌, ◌==◌, List, [], ◌∷◌, ◌++◌, drop, find, Option, Some, None, codes, nat_lt, nat_le, is_some, if◌then◌else◌, bytes_eq, slice_index}
+use Rattle.std.specs.Prelude.{◌≡◌, ℕ, ◌^◌, ◌<◌, ◌≤◌, Bool, ◌&&◌, ◌==◌, List, ◌++◌, drop, find, Option, Some, None, codes, nat_lt, nat_le, is_some, if◌then◌else◌, bytes_eq, slice_index}
 use Rattle.std.specs.List.{before_first, after_first}
 use Rattle.std.specs.Str.Parse.{digits_value}
 use Rattle.lu_prims.specs.Base36.{base36}
 use Rattle.lu_types.specs.declared.kind.FileKind.{FileKind}
 use Rattle.lu_types.specs.declared.kind.FileKind.TheVariants as kinds
-use Rattle.lu_types.specs.Kinds.{extension}
+use Rattle.lu_types.specs.Kinds.{extension, part_kinds}
 use Rattle.lu_types.specs.Names.{greatest_segment, segment_name, part_name, IsPart}
 use Rattle.segment_infos.specs.declared.naming.LuceneName.{LuceneName}
 use Rattle.segment_infos.specs.declared.naming.LuceneName.TheVariants.{Commit, Part, Del, Sep}
@@ -35,22 +35,18 @@ name_spelling (Del segment generation) = part_name (with_generation segment gene
 name_spelling (Sep segment generation field) = part_name (with_generation segment generation) (kinds.Sep field)
 
 -- the text is the spelling of the name
-abbrev pub Spells : List ℕ → LuceneName → Type 0
-Spells text name = IsName name × (text ≡ name_spelling name)
+abbrev pub SpellsName : List ℕ → LuceneName → Type 0
+SpellsName text name = IsName name × (text ≡ name_spelling name)
 
 -- the text is a Lucene name
 abbrev pub IsLuceneName : List ℕ → Type 0
-IsLuceneName text = (name : LuceneName) × Spells text name
+IsLuceneName text = (name : LuceneName) × SpellsName text name
 
 -- ---- the name that a text spells
 
--- the kinds of which a segment has one file that is named by its extension
-abbrev pub part_kinds : List FileKind
-part_kinds = kinds.Cfs ∷ kinds.Cfx ∷ kinds.Fnm ∷ kinds.Fdx ∷ kinds.Fdt ∷ kinds.Tis ∷ kinds.Tii ∷ kinds.Frq ∷ kinds.Prx ∷ kinds.Nrm ∷ kinds.Tvx ∷ kinds.Tvd ∷ kinds.Tvf ∷ []
-
 -- the kind of a part by its extension; none where it is that of no part
-abbrev pub kind_of : List ℕ → Option FileKind
-kind_of text = find (λ kind. bytes_eq text (extension kind)) part_kinds
+abbrev pub part_kind_of : List ℕ → Option FileKind
+part_kind_of text = find (λ kind. bytes_eq text (extension kind)) part_kinds
 
 -- the number is that of a generation
 abbrev pub is_generation_number : ℕ → Bool
@@ -59,7 +55,7 @@ is_generation_number generation = nat_lt 0 generation && nat_lt generation (2 ^ 
 -- the numbers of the name are such as a name can have
 abbrev pub is_name : LuceneName → Bool
 is_name (Commit generation) = is_generation_number generation
-is_name (Part segment kind) = nat_le segment greatest_segment && is_some (kind_of (extension kind))
+is_name (Part segment kind) = nat_le segment greatest_segment && is_some (part_kind_of (extension kind))
 is_name (Del segment generation) = nat_le segment greatest_segment && is_generation_number generation
 is_name (Sep segment generation field) = nat_le segment greatest_segment && (is_generation_number generation && nat_lt field (2 ^ 31))
 
@@ -84,7 +80,7 @@ file_candidate stem text None = generation_candidate stem text
 -- the one name that a text can spell
 abbrev pub candidate : List ℕ → LuceneName
 candidate text =
-    if slice_index text 0 == 95 then file_candidate (before_first (λ b. b == 46) text) (after_first (λ b. b == 46) text) (kind_of (after_first (λ b. b == 46) text))
+    if slice_index text 0 == 95 then file_candidate (before_first (λ b. b == 46) text) (after_first (λ b. b == 46) text) (part_kind_of (after_first (λ b. b == 46) text))
     else Commit (digits_value 36 (drop 9 text))
 
 -- the name, if it is one that the text spells
@@ -92,5 +88,5 @@ abbrev pub if_spelled_by : List ℕ → LuceneName → Option LuceneName
 if_spelled_by text name = if is_name name && bytes_eq text (name_spelling name) then Some name else None
 
 -- the name that a text spells; none where it spells none
-abbrev pub name_in : List ℕ → Option LuceneName
-name_in text = if_spelled_by text (candidate text)
+abbrev pub lucene_name_in : List ℕ → Option LuceneName
+lucene_name_in text = if_spelled_by text (candidate text)

@@ -24,9 +24,9 @@ is_no_generation (pos n) = n == 0
 is_no_generation (negsuc n) = not (n == 0)
 
 -- how many, where the number is not below 0
-abbrev pub count_of : ℤ → ℕ
-count_of (pos n) = n
-count_of (negsuc n) = 0
+abbrev pub count_or_zero : ℤ → ℕ
+count_or_zero (pos n) = n
+count_or_zero (negsuc n) = 0
 
 -- the number, where it is not below 0
 abbrev pub given : ℤ → Option ℕ
@@ -43,5 +43,5 @@ abbrev pub if_spelled : List ℕ → ℕ → Option ℕ
 if_spelled name n = if nat_le n greatest_segment && bytes_eq name (segment_name n) then Some n else None
 
 -- the number of the segment that has the name; none where it is no segment name
-abbrev pub number_in : List ℕ → Option ℕ
-number_in name = if_spelled name (digits_value 36 (drop 1 name))
+abbrev pub segment_number_in : List ℕ → Option ℕ
+segment_number_in name = if_spelled name (digits_value 36 (drop 1 name))

@@ -3,7 +3,7 @@ use Rattle.std.specs.Prelude.{◌≢◌, ℕ, ◌<◌, List, ◌∷◌, ◌++◌
 use Rattle.std.specs.Int.{IsInRange}
 use Rattle.segment_infos.specs.declared.naming.LuceneName.{LuceneName}
 use Rattle.segment_infos.specs.declared.naming.LuceneName.TheVariants.{Commit, Part, Del, Sep}
-use Rattle.segment_infos.specs.LuceneNames.{Spells, IsLuceneName}
+use Rattle.segment_infos.specs.LuceneNames.{SpellsName, IsLuceneName}
 
 -- the text has no `.`
 abbrev pub HasNoDot : List ℕ → Type 0
@@ -23,7 +23,7 @@ generation_text segment generation extension = 95 ∷ (segment ++ (95 ∷ (gener
 
 -- the name that the text spells; or none, where it spells none
 abbrev pub TellsName : List ℕ → Option LuceneName → Type 0
-TellsName text found = MatchOption found (¬ IsLuceneName text) (Spells text)
+TellsName text found = MatchOption found (¬ IsLuceneName text) (SpellsName text)
 
 -- the name is that of a file of a segment
 abbrev pub IsFile : LuceneName → Type 0

@@ -9,13 +9,13 @@ use Rattle.segment_infos.specs.declared.record.FrontPart.{FrontPart}
 use Rattle.segment_infos.specs.declared.record.NormPart.{NormPart}
 use Rattle.segment_infos.specs.declared.record.FlagPart.{FlagPart}
 use Rattle.segment_infos.specs.declared.record.MapPart.{MapPart}
-use Rattle.segment_infos.specs.declared.record.Line.{Line}
-use Rattle.segment_infos.specs.Numbers.{is_none_number, count_of}
+use Rattle.segment_infos.specs.declared.record.SegmentLine.{SegmentLine}
+use Rattle.segment_infos.specs.Numbers.{is_none_number, count_or_zero}
 
 -- a record of the file
 pub data CommitRecord : Type 0 where
   heading : Heading → CommitRecord
-  line : Line → CommitRecord
+  line : SegmentLine → CommitRecord
   user : MapPart → CommitRecord
   seal : ℤ → CommitRecord
 
@@ -46,7 +46,7 @@ gen_shape = part int64 (λ g. whole g)
 
 -- HasSingleNormFile and NumField, and so many NormGen
 abbrev pub norm_shape : Shape NormPart
-norm_shape = part byte (λ single. part int32 (λ count. followed (many gen_shape (count_of count)) (λ gens. whole (record { single = single; count = count; gens = gens }))))
+norm_shape = part byte (λ single. part int32 (λ count. followed (many gen_shape (count_or_zero count)) (λ gens. whole (record { single = single; count = count; gens = gens }))))
 
 -- IsCompoundFile, DeletionCount and HasProx
 abbrev pub flag_shape : Shape FlagPart
@@ -58,10 +58,10 @@ pair_shape = part text (λ key. part text (λ value. whole (record { key = key; 
 
 -- a Map: the count, and so many pairs
 abbrev pub map_shape : Shape MapPart
-map_shape = part int32 (λ count. followed (many pair_shape (count_of count)) (λ pairs. whole (record { count = count; pairs = pairs })))
+map_shape = part int32 (λ count. followed (many pair_shape (count_or_zero count)) (λ pairs. whole (record { count = count; pairs = pairs })))
 
 -- a segment
-abbrev pub line_shape : Shape Line
+abbrev pub line_shape : Shape SegmentLine
 line_shape = followed front_shape (λ front. followed norm_shape (λ norms. followed flag_shape (λ flags. followed map_shape (λ map. whole (record { front = front; norms = norms; flags = flags; map = map })))))
 
 -- the same as records of the file

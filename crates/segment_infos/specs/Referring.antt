@@ -8,7 +8,7 @@ use Rattle.segment_infos.specs.declared.naming.LuceneName.{LuceneName}
 use Rattle.segment_infos.specs.declared.naming.LuceneName.TheVariants.{Commit, Part, Del, Sep}
 use Rattle.segment_infos.specs.declared.infos.SegInfo.{SegInfo}
 use Rattle.segment_infos.specs.Values.{CommitValue}
-use Rattle.segment_infos.specs.LuceneNames.{name_spelling, name_in}
+use Rattle.segment_infos.specs.LuceneNames.{name_spelling, lucene_name_in}
 
 -- the five files that hold documents: stored values, and vectors
 abbrev pub document_kinds : List FileKind
@@ -19,17 +19,17 @@ abbrev pub index_kinds : List FileKind
 index_kinds = kinds.Fnm ∷ kinds.Tis ∷ kinds.Tii ∷ kinds.Frq ∷ kinds.Prx ∷ kinds.Nrm ∷ []
 
 -- the parts of a segment of these kinds
-abbrev pub parts : ℕ → List FileKind → List LuceneName
-parts number some = map (Part number) some
+abbrev pub names_of_parts : ℕ → List FileKind → List LuceneName
+names_of_parts number some = map (Part number) some
 
 -- the parts of a segment's own number: its `.cfs` where it is compound; else all that hold parts of none, without the files of documents where its store is shared
-abbrev pub own_parts : SegInfo → List LuceneName
-own_parts s = parts s.number (if s.compound then kinds.Cfs ∷ [] else index_kinds ++ (if is_some s.store then [] else document_kinds))
+abbrev pub own_part_names : SegInfo → List LuceneName
+own_part_names s = names_of_parts s.number (if s.compound then kinds.Cfs ∷ [] else index_kinds ++ (if is_some s.store then [] else document_kinds))
 
 -- the files of a shared store: its `.cfx` where it is compound, else the five that hold documents
-abbrev pub store_parts : Option SharedStore → List LuceneName
-store_parts None = []
-store_parts (Some store) = parts store.number (if store.compound then kinds.Cfx ∷ [] else document_kinds)
+abbrev pub store_part_names : Option SharedStore → List LuceneName
+store_part_names None = []
+store_part_names (Some store) = names_of_parts store.number (if store.compound then kinds.Cfx ∷ [] else document_kinds)
 
 -- the file of deleted documents, where there is one
 abbrev pub del_names : ℕ → Option ℕ → List LuceneName
@@ -54,7 +54,7 @@ norm_names number (Some generations) = sep_names_from number 0 generations
 
 -- the names that the line of a segment refers to
 abbrev pub line_names : SegInfo → List LuceneName
-line_names s = own_parts s ++ (store_parts s.store ++ (del_names s.number s.del_gen ++ norm_names s.number s.norm_gens))
+line_names s = own_part_names s ++ (store_part_names s.store ++ (del_names s.number s.del_gen ++ norm_names s.number s.norm_gens))
 
 -- the names that a commit refers to
 abbrev pub referred_names : CommitValue → List LuceneName
@@ -78,12 +78,12 @@ abbrev pub kept_names : List KeptValue → List LuceneName
 kept_names kept = flat_map names_kept_by kept
 
 -- the text spells one of the names
-abbrev pub is_among : List LuceneName → List ℕ → Bool
-is_among names text = list_any (λ name. bytes_eq text (name_spelling name)) names
+abbrev pub is_spelled_among : List LuceneName → List ℕ → Bool
+is_spelled_among names text = list_any (λ name. bytes_eq text (name_spelling name)) names
 
 -- the text is a Lucene name that no commit keeps
 abbrev pub is_removable : List KeptValue → List ℕ → Bool
-is_removable kept text = is_some (name_in text) && not (is_among (kept_names kept) text)
+is_removable kept text = is_some (lucene_name_in text) && not (is_spelled_among (kept_names kept) text)
 
 -- the names that may be removed, in order, where these commits are kept
 abbrev pub removable : List KeptValue → List (List ℕ) → List (List ℕ)

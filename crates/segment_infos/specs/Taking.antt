@@ -8,8 +8,8 @@ use Rattle.segment_infos.specs.Values.{total_size}
 use Rattle.segment_infos.specs.Conditions.{has_number}
 
 -- the set has the numbers of the segments
-abbrev pub HasNumbers : BTreeSet ℕ → List SegInfo → Type 0
-HasNumbers numbers segments = (q : ℕ) → contains nat_cmp numbers q ≡ has_number segments q
+abbrev pub HasSegmentNumbers : BTreeSet ℕ → List SegInfo → Type 0
+HasSegmentNumbers numbers segments = (q : ℕ) → contains nat_cmp numbers q ≡ has_number segments q
 
 -- the number is that of all documents, which are no more than may be
 abbrev pub IsTotal : ℕ → List SegInfo → Type 0

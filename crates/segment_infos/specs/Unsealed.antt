@@ -18,9 +18,9 @@ abbrev pub unsealed_value : Unsealed → CommitValue
 unsealed_value u = record { version = u.version; counter = u.counter; segments = u.segments; user = u.user }
 
 -- the fault of a commit at a place where reading stopped
-abbrev pub fault_of : ℕ → Stop ℕ → CodecFault
-fault_of place (stops.Wrong rule) = faults.Spot (record { kind = Commit; offset = place; rule = rule })
-fault_of place stops.OutOfMemory = faults.OutOfMemory
+abbrev pub fault_of_stop : ℕ → Stop ℕ → CodecFault
+fault_of_stop place (stops.Wrong rule) = faults.Spot (record { kind = Commit; offset = place; rule = rule })
+fault_of_stop place stops.OutOfMemory = faults.OutOfMemory
 
 -- the rule that an unread part breaks
 abbrev pub rule_of_stop : Stop Bad → Stop ℕ

@@ -1,5 +1,5 @@
 //! A commit.
-use crate::lists::{Pairs, Segments};
+use crate::lists::{MapPairs, Segments};
 use std::marker::Model;
 
 /// A commit: what a good `segments_N` stands for (format page, "segments_N").
@@ -10,7 +10,7 @@ pub struct Commit {
     /// Segment names from this number on are free, where the writer that counted it is asked; below 2^31.
     pub counter: u32,
     pub segments: Segments,
-    pub user: Pairs,
+    pub user: MapPairs,
 }
 
 impl Model for Commit {

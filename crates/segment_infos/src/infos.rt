@@ -1,5 +1,5 @@
 //! What a commit says of one segment.
-use crate::lists::{NormGens, Pairs};
+use crate::lists::{MapPairs, NormGens};
 use lu_types::{SharedStore, Text};
 
 /// A key and its value in a Map (format page, "Numbers and texts").
@@ -28,5 +28,5 @@ pub struct SegInfo {
     pub deleted: u32,
     /// Some indexed field has positions.
     pub has_prox: bool,
-    pub diagnostics: Pairs,
+    pub diagnostics: MapPairs,
 }

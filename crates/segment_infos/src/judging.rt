@@ -8,11 +8,12 @@ ghost use Rattle.segment_infos.specs.Numbers.{is_no_generation};
 ghost use Rattle.segment_infos.specs.Conditions.{heading_conditions, name_conditions, is_no_size, size_conditions, has_other_store, has_other_flag, store_conditions, norm_conditions, is_no_flag, is_no_deletion, flag_conditions, map_conditions, line_conditions};
 
 use crate::numbers::{
-    count_of, is_below_none, is_long_negative, is_negative, is_no_generation, number_in,
+    count_or_zero, is_below_none, is_long_negative, is_negative, is_no_generation,
+    segment_number_in,
 };
 use crate::record::{
-    FORMAT_NUMBER, FlagPart, FrontPart, Heading, Line, MOST_DOCUMENTS, MapPart, NOT_PACKED,
-    NormPart, PACKED, SharedStorePart,
+    FORMAT_NUMBER, FlagPart, FrontPart, Heading, MOST_DOCUMENTS, MapPart, NOT_PACKED, NormPart,
+    PACKED, SegmentLine, SharedStorePart,
 };
 use crate::taking::Taking;
 use lu_types::rules::{
@@ -51,7 +52,7 @@ pub fn heading_broken(heading: &Heading) -> Option<u16>
 fn name_broken(front: &FrontPart<'_>, taking: &Taking) -> Option<u16>
     ensures { result ≡ first_broken (name_conditions taking.now front.now) }
 {
-    match number_in(front.name.as_str()) {
+    match segment_number_in(front.name.as_str()) {
         None => Some(SEG_NAME),
         Some(number) => {
             if taking.has(number) {
@@ -66,7 +67,7 @@ fn name_broken(front: &FrontPart<'_>, taking: &Taking) -> Option<u16>
 fn is_no_size(size: i32) -> bool
     ensures { result ≡ is_no_size size }
 {
-    is_negative(size) || count_of(size) > MOST_DOCUMENTS
+    is_negative(size) || count_or_zero(size) > MOST_DOCUMENTS
 }
 
 /// The first rule that the size of a segment breaks after the segments before it.
@@ -76,7 +77,7 @@ fn size_broken(front: &FrontPart<'_>, taking: &Taking) -> Option<u16>
     if is_no_size(front.size) {
         return Some(SEG_SIZE);
     }
-    if taking.total() + count_of(front.size) > MOST_DOCUMENTS {
+    if taking.total() + count_or_zero(front.size) > MOST_DOCUMENTS {
         return Some(SIZE_SUM);
     }
     None
@@ -88,7 +89,7 @@ fn has_other_store(store: &Option<SharedStorePart<'_>>) -> bool
 {
     match store {
         None => false,
-        Some(store) => number_in(store.name.as_str()).is_none(),
+        Some(store) => segment_number_in(store.name.as_str()).is_none(),
     }
 }
 
@@ -156,8 +157,8 @@ fn is_no_deletion(front: &FrontPart<'_>, deleted: i32) -> bool
     ensures { result ≡ is_no_deletion front.now deleted }
 {
     is_negative(deleted)
-        || count_of(front.size) < count_of(deleted)
-        || (is_long_negative(front.del_gen) && count_of(deleted) != 0)
+        || count_or_zero(front.size) < count_or_zero(deleted)
+        || (is_long_negative(front.del_gen) && count_or_zero(deleted) != 0)
 }
 
 /// The first rule that the flags of a segment break.
@@ -187,7 +188,7 @@ pub fn map_broken(map: &MapPart) -> Option<u16>
 }
 
 /// The first rule that a segment breaks after the segments before it.
-pub fn line_broken(line: &Line<'_>, taking: &Taking) -> Option<u16>
+pub fn line_broken(line: &SegmentLine<'_>, taking: &Taking) -> Option<u16>
     ensures { result ≡ first_broken (line_conditions taking.now line.now) }
 {
     name_broken(&line.front, taking)

@@ -1,12 +1,14 @@
 //! The laws of commits: each stands on a function that does nothing.
 ghost use Rattle.std.specs.Prelude.{◌≡◌, ◌-◌, ◌<◌, ◌↔◌, ℕ, true, List, length, take, All, Contains, Some};
+ghost use Rattle.segment_infos.specs.declared.infos.SegInfo.{SegInfo};
+ghost use Rattle.segment_infos.specs.declared.naming.LuceneName.TheVariants.{Del, Sep};
 ghost use Rattle.lu_grammar.specs.Meaning.{Reads};
 ghost use Rattle.segment_infos.specs.Values.{CommitValue, IsCommit};
 ghost use Rattle.segment_infos.specs.Format.{commit_plan};
 ghost use Rattle.segment_infos.specs.Spelling.{commit_bytes, pending};
 ghost use Rattle.segment_infos.specs.declared.naming.LuceneName.{LuceneName};
-ghost use Rattle.segment_infos.specs.LuceneNames.{Spells, IsLuceneName, name_in};
-ghost use Rattle.segment_infos.specs.Referring.{KeptValue, kept_names, is_removable};
+ghost use Rattle.segment_infos.specs.LuceneNames.{SpellsName, IsLuceneName, lucene_name_in};
+ghost use Rattle.segment_infos.specs.Referring.{KeptValue, line_names, kept_names, is_removable};
 
 /// What is written reads as exactly this commit.
 pub fn written_is_read()
@@ -34,13 +36,20 @@ pub fn pending_is_not_good()
 
 /// A text spells one name at most, and that is the one that is found in it.
 pub fn one_name()
-    ensures one { (text : List ℕ) (name other : LuceneName) → Spells text name → Spells text other → name ≡ other }
-    ensures found { (text : List ℕ) (name : LuceneName) → (name_in text ≡ Some name) ↔ Spells text name }
+    ensures one { (text : List ℕ) (name other : LuceneName) → SpellsName text name → SpellsName text other → name ≡ other }
+    ensures found { (text : List ℕ) (name : LuceneName) → (lucene_name_in text ≡ Some name) ↔ SpellsName text name }
 {}
 
 /// A Lucene name may be removed exactly where no commit that is kept has it as its own name or refers to it; no other name may.
 pub fn removable_is_unkept()
-    ensures unkept { (kept : List KeptValue) (text : List ℕ) (name : LuceneName) → All (λ k. IsCommit k.commit) kept → Spells text name
+    ensures unkept { (kept : List KeptValue) (text : List ℕ) (name : LuceneName) → All (λ k. IsCommit k.commit) kept → SpellsName text name
         → (is_removable kept text ≡ true) ↔ ¬ Contains (kept_names kept) name }
     ensures names { (kept : List KeptValue) (text : List ℕ) → is_removable kept text ≡ true → IsLuceneName text }
+{}
+
+/// The line of a segment refers to a file of deleted documents exactly where this is the segment's own, of the generation that the
+/// line says; and to files of norms of its own segment alone.
+pub fn files_are_own()
+    ensures deletions { (s : SegInfo) (number generation : ℕ) → Contains (line_names s) (Del number generation) ↔ ((number ≡ s.number) × (s.del_gen ≡ Some generation)) }
+    ensures norms { (s : SegInfo) (number generation field : ℕ) → Contains (line_names s) (Sep number generation field) → number ≡ s.number }
 {}

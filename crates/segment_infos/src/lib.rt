@@ -23,11 +23,15 @@ mod writing;
 pub use commit::Commit;
 pub use infos::{MapPair, SegInfo};
 pub use listing::generations;
-pub use lists::{NormGens, Pairs, Segments};
+pub use lists::{MapPairs, NormGens, Segments};
 pub use naming::{LuceneName, name_text, name_value};
 pub use reading::read;
 pub use removing::{Kept, removable, removable_all};
 pub use writing::{write, write_pending};
 
+#[cfg(test)]
+mod drawn_tests;
+#[cfg(test)]
+mod name_tests;
 #[cfg(test)]
 mod tests;

@@ -3,7 +3,7 @@ use crate::infos::{MapPair, SegInfo};
 use lu_types::Items;
 
 /// The pairs of a Map.
-pub type Pairs = Items<MapPair>;
+pub type MapPairs = Items<MapPair>;
 
 /// The norm generations of the fields of a segment.
 pub type NormGens = Items<i64>;

@@ -4,7 +4,7 @@ ghost use Rattle.lu_prims.specs.Base36.{base36};
 ghost use Rattle.lu_types.specs.declared.kind.FileKind.TheVariants.{Sep as sep_kind};
 ghost use Rattle.lu_types.specs.Kinds.{extension as extension_of};
 ghost use Rattle.lu_types.specs.Names.{IsPart, greatest_segment, part_name as name_of_part};
-ghost use Rattle.segment_infos.specs.LuceneNames.{IsGenerationNumber, IsName, Spells, IsLuceneName, name_spelling, with_generation};
+ghost use Rattle.segment_infos.specs.LuceneNames.{IsGenerationNumber, IsName, SpellsName, IsLuceneName, name_spelling, with_generation};
 ghost use Rattle.segment_infos.specs.Parsing.{HasNoDot, HasNeither, file_text, generation_text, TellsName, IsDecimal, IsFile};
 
 use lu_prims::{OutOfMemory, base36_text, base36_value};
@@ -185,7 +185,7 @@ fn generation_value(segment: &str, generation: &str, extension: &str) -> Option<
 
 /// The file of a segment whose name the text is; `None` where it is that of none.
 fn file_value(text: &str) -> Option<LuceneName>
-    ensures { MatchOption result ((name : LuceneName) → IsFile name → Spells text.now name → ⊥) (Spells text.now) }
+    ensures { MatchOption result ((name : LuceneName) → IsFile name → SpellsName text.now name → ⊥) (SpellsName text.now) }
 {
     let (stem, extension) = text.split_once('.')?;
     let digits = stem.strip_prefix('_')?;
@@ -197,7 +197,7 @@ fn file_value(text: &str) -> Option<LuceneName>
 
 /// The name that a text spells; `None` exactly where it spells none (format page, "Names of files"). Takes no memory.
 pub fn name_value(text: &str) -> Option<LuceneName>
-    ensures { MatchOption result (¬ IsLuceneName text.now) (Spells text.now) }
+    ensures { MatchOption result (¬ IsLuceneName text.now) (SpellsName text.now) }
 {
     match text.strip_prefix("segments_") {
         None => file_value(text),

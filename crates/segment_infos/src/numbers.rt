@@ -1,6 +1,6 @@
 //! Numbers with a sign that stand for numbers, for generations or for nothing (format page, "segments_N").
 ghost use Rattle.std.specs.Prelude.{◌≡◌, ◌<◌, ◌^◌};
-ghost use Rattle.segment_infos.specs.Numbers.{is_negative, is_below_none, is_none_number, is_no_generation, count_of, given, number_in};
+ghost use Rattle.segment_infos.specs.Numbers.{is_negative, is_below_none, is_none_number, is_no_generation, count_or_zero, given, segment_number_in};
 
 use lu_types::segment_number;
 
@@ -40,16 +40,16 @@ pub fn is_no_generation(number: i64) -> bool
 }
 
 /// How many, where the number is not below 0, and 0 where it is.
-pub fn count_of(number: i32) -> u32
-    ensures count { result ≡ count_of number }
+pub fn count_or_zero(number: i32) -> u32
+    ensures count { result ≡ count_or_zero number }
     ensures below { result < 2 ^ 31 }
 {
     if number < 0 { 0 } else { number as u32 }
 }
 
 /// The same of a greater number.
-pub fn long_count_of(number: i64) -> u64
-    ensures count { result ≡ count_of number }
+pub fn long_count_or_zero(number: i64) -> u64
+    ensures count { result ≡ count_or_zero number }
     ensures below { result < 2 ^ 63 }
 {
     if number < 0 { 0 } else { number as u64 }
@@ -67,8 +67,8 @@ pub fn given(number: i64) -> Option<u64>
 }
 
 /// The number of the segment that has the name; `None` where it is no segment name.
-pub fn number_in(name: &str) -> Option<u32>
-    ensures { result ≡ number_in name.now }
+pub fn segment_number_in(name: &str) -> Option<u32>
+    ensures { result ≡ segment_number_in name.now }
 {
     segment_number(name)
 }

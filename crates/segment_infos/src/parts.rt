@@ -8,9 +8,11 @@ ghost use Rattle.lu_grammar.specs.Answers.{Gives};
 ghost use Rattle.segment_infos.specs.Answers.{GivesOr};
 
 use crate::infos::MapPair;
-use crate::lists::{NormGens, Pairs};
-use crate::numbers::{count_of, is_none_number};
-use crate::record::{FlagPart, FrontPart, Heading, Lent, Line, MapPart, NormPart, SharedStorePart};
+use crate::lists::{MapPairs, NormGens};
+use crate::numbers::{count_or_zero, is_none_number};
+use crate::record::{
+    FlagPart, FrontPart, Heading, Lent, MapPart, NormPart, SegmentLine, SharedStorePart,
+};
 use crate::stop::Stop;
 use lu_prims::{Bad, Cur};
 use lu_types::Text;
@@ -94,7 +96,7 @@ fn norm_parts(alloc: Global, cur: &mut Cur<'_>) -> Result<NormPart, Stop<Bad>>
 {
     let single = cur.u8()?;
     let count = cur.i32()?;
-    let gens = match gens(alloc, cur, count_of(count)) {
+    let gens = match gens(alloc, cur, count_or_zero(count)) {
         Err(stop) => return Err(stop),
         Ok(gens) => gens,
     };
@@ -138,7 +140,7 @@ fn pair_parts(alloc: Global, cur: &mut Cur<'_>) -> Result<MapPair, Stop<Bad>>
 }
 
 /// So many pairs.
-fn pairs(alloc: Global, cur: &mut Cur<'_>, count: u32) -> Result<Pairs, Stop<Bad>>
+fn pairs(alloc: Global, cur: &mut Cur<'_>, count: u32) -> Result<MapPairs, Stop<Bad>>
     ensures { GivesOr (λ x. x) (read_shape (many pair_shape count) cur.old) cur.new result }
 {
     let mut pairs = Vec::new(alloc);
@@ -148,7 +150,7 @@ fn pairs(alloc: Global, cur: &mut Cur<'_>, count: u32) -> Result<Pairs, Stop<Bad
             Ok(pair) => pairs.push(pair)?,
         }
     }
-    Ok(Pairs::new(pairs))
+    Ok(MapPairs::new(pairs))
 }
 
 /// A Map.
@@ -156,14 +158,14 @@ pub fn map_parts(alloc: Global, cur: &mut Cur<'_>) -> Result<MapPart, Stop<Bad>>
     ensures { GivesOr (λ x. x) (read_shape map_shape cur.old) cur.new result }
 {
     let count = cur.i32()?;
-    match pairs(alloc, cur, count_of(count)) {
+    match pairs(alloc, cur, count_or_zero(count)) {
         Err(stop) => Err(stop),
         Ok(pairs) => Ok(MapPart { count, pairs }),
     }
 }
 
 /// A segment.
-pub fn line_parts<'a>(alloc: Global, cur: &mut Cur<'a>) -> Result<Line<'a>, Stop<Bad>>
+pub fn line_parts<'a>(alloc: Global, cur: &mut Cur<'a>) -> Result<SegmentLine<'a>, Stop<Bad>>
     ensures { GivesOr (λ x. x) (read_shape line_shape cur.old) cur.new result }
 {
     let front = match front_parts(cur) {
@@ -182,7 +184,7 @@ pub fn line_parts<'a>(alloc: Global, cur: &mut Cur<'a>) -> Result<Line<'a>, Stop
         Err(stop) => return Err(stop),
         Ok(map) => map,
     };
-    Ok(Line {
+    Ok(SegmentLine {
         front,
         norms,
         flags,

@@ -10,14 +10,14 @@ ghost use Rattle.segment_infos.specs.Format.{of_heading, of_line, of_user, lines
 ghost use Rattle.lu_grammar.specs.Answers.{Gives};
 ghost use Rattle.lu_types.specs.Judging.{GivesIn, Checks};
 ghost use Rattle.segment_infos.specs.Answers.{GivesOr};
-ghost use Rattle.segment_infos.specs.Unsealed.{unsealed_value, fault_of, rule_of_stop, Seals};
+ghost use Rattle.segment_infos.specs.Unsealed.{unsealed_value, fault_of_stop, rule_of_stop, Seals};
 
 use crate::commit::Commit;
 use crate::judging::{heading_broken, line_broken, map_broken};
-use crate::lists::{Pairs, Segments};
-use crate::numbers::{count_of, long_count_of};
+use crate::lists::{MapPairs, Segments};
+use crate::numbers::{count_or_zero, long_count_or_zero};
 use crate::parts::{heading_parts, line_parts, map_parts};
-use crate::record::{Heading, Line, MapPart};
+use crate::record::{Heading, MapPart, SegmentLine};
 use crate::segment::segment;
 use crate::stop::Stop;
 use crate::taking::Taking;
@@ -32,7 +32,7 @@ pub struct Unsealed {
     pub version: u64,
     pub counter: u32,
     pub segments: Segments,
-    pub user: Pairs,
+    pub user: MapPairs,
 }
 
 /// The fault of a commit that breaks the rule at a place.
@@ -44,7 +44,7 @@ fn fault(place: usize, rule: u16) -> CodecFault
 
 /// The same where there may have been no memory.
 fn stopped(place: usize, stop: Stop<u16>) -> CodecFault
-    ensures { result ≡ fault_of place stop }
+    ensures { result ≡ fault_of_stop place stop }
 {
     match stop {
         Stop::Wrong(rule) => fault(place, rule),
@@ -77,7 +77,7 @@ fn heading(cur: &mut Cur<'_>) -> Result<Heading, u16>
 }
 
 /// The segment at the cursor after those before it, or the rule that it breaks.
-fn line<'a>(alloc: Global, cur: &mut Cur<'a>, taking: &Taking) -> Result<Line<'a>, Stop<u16>>
+fn line<'a>(alloc: Global, cur: &mut Cur<'a>, taking: &Taking) -> Result<SegmentLine<'a>, Stop<u16>>
     ensures gives { GivesOr line_of (record_at line_record (of_line taking.now) cur.old) cur.new result }
     ensures good { IfOk result (λ line. first_broken (line_conditions taking.now line) ≡ None) }
 {
@@ -150,7 +150,7 @@ fn all_but_seal(alloc: Global, cur: &mut Cur<'_>) -> Result<Unsealed, CodecFault
         Err(rule) => return Err(fault(start, rule)),
         Ok(heading) => heading,
     };
-    let segments = match lines(alloc, cur, count_of(heading.count)) {
+    let segments = match lines(alloc, cur, count_or_zero(heading.count)) {
         Err(found) => return Err(found),
         Ok(segments) => segments,
     };
@@ -160,8 +160,8 @@ fn all_but_seal(alloc: Global, cur: &mut Cur<'_>) -> Result<Unsealed, CodecFault
         Ok(user) => user,
     };
     Ok(Unsealed {
-        version: long_count_of(heading.version),
-        counter: count_of(heading.counter),
+        version: long_count_or_zero(heading.version),
+        counter: count_or_zero(heading.counter),
         segments,
         user: user.pairs,
     })

@@ -1,7 +1,7 @@
 //! The records of `segments_N` as they stand in the file, before anything is asked of them.
 ghost use Rattle.std.specs.Prelude.{◌≡◌};
 
-use crate::lists::{NormGens, Pairs};
+use crate::lists::{MapPairs, NormGens};
 use std::marker::Model;
 
 /// The format number of a commit.
@@ -92,12 +92,12 @@ pub struct FlagPart {
 #[derive(Drop)]
 pub struct MapPart {
     pub count: i32,
-    pub pairs: Pairs,
+    pub pairs: MapPairs,
 }
 
 /// A segment.
 #[derive(Drop)]
-pub struct Line<'a> {
+pub struct SegmentLine<'a> {
     pub front: FrontPart<'a>,
     pub norms: NormPart,
     pub flags: FlagPart,

@@ -2,7 +2,7 @@
 ghost use Rattle.std.specs.Prelude.{◌≡◌, ◌++◌, [], ◌∷◌, ◌<◌, ◌^◌, List, length, map, filter, flat_map, All, IfOk, OnOk, string_bytes};
 ghost use Rattle.segment_infos.specs.declared.naming.LuceneName.{LuceneName};
 ghost use Rattle.segment_infos.specs.Values.{IsLine, AreNormGens};
-ghost use Rattle.segment_infos.specs.Referring.{parts, own_parts, store_parts, del_names, sep_names_from, norm_names, line_names, referred_names, names_kept_by, kept_names as names_kept, removable as removable_names};
+ghost use Rattle.segment_infos.specs.Referring.{names_of_parts, own_part_names, store_part_names, del_names, sep_names_from, norm_names, line_names, referred_names, names_kept_by, kept_names as names_kept, removable as removable_names};
 ghost use Rattle.segment_infos.specs.Keeping.{kept_value, HasOwnSpelling, HasNames, is_free as is_free_of};
 
 use crate::commit::Commit;
@@ -46,7 +46,7 @@ fn push_parts(
     number: u32,
     kinds: &[FileKind],
 ) -> Result<(), OutOfMemory>
-    ensures { OnOk result (names.new.items ≡ names.old.items ++ parts number kinds.now) }
+    ensures { OnOk result (names.new.items ≡ names.old.items ++ names_of_parts number kinds.now) }
 {
     for kind in kinds {
         names.push(LuceneName::Part(number, *kind))?;
@@ -56,7 +56,7 @@ fn push_parts(
 
 /// Adds the parts of a segment's own number that its line refers to.
 fn push_own_parts(names: &mut Vec<LuceneName>, line: &SegInfo) -> Result<(), OutOfMemory>
-    ensures { OnOk result (names.new.items ≡ names.old.items ++ own_parts line.now) }
+    ensures { OnOk result (names.new.items ≡ names.old.items ++ own_part_names line.now) }
 {
     if line.compound {
         return push_parts(names, line.number, &[FileKind::Cfs]);
@@ -73,7 +73,7 @@ fn push_store_parts(
     names: &mut Vec<LuceneName>,
     store: &Option<SharedStore>,
 ) -> Result<(), OutOfMemory>
-    ensures { OnOk result (names.new.items ≡ names.old.items ++ store_parts store.now) }
+    ensures { OnOk result (names.new.items ≡ names.old.items ++ store_part_names store.now) }
 {
     match store {
         None => Ok(()),

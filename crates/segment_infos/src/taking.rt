@@ -23,13 +23,13 @@ pub struct Taking {
 impl Model for Taking {
     ghost use Rattle.std.specs.Prelude.{List};
     ghost use Rattle.segment_infos.specs.declared.infos.SegInfo.{SegInfo};
-    ghost use Rattle.segment_infos.specs.Taking.{HasNumbers, IsTotal};
+    ghost use Rattle.segment_infos.specs.Taking.{HasSegmentNumbers, IsTotal};
 
     ghost Value = { List SegInfo };
 
     ghost view = { λ t. t.segments.items };
 
-    ghost invariant = { λ t. HasNumbers t.numbers t.segments.items × IsTotal t.total t.segments.items };
+    ghost invariant = { λ t. HasSegmentNumbers t.numbers t.segments.items × IsTotal t.total t.segments.items };
 }
 
 impl Taking {

@@ -14,7 +14,7 @@ use Rattle.lu_grammar.specs.Plans.{Plan, done, times, one, each, Broken, read_pl
 use Rattle.lu_grammar.proofs.Codecs.{ok_pair, record_at-read, record_at-breaks, record_at-unread, read_due, read_due_broken, read_plan-and_then, times-more, times-fault, each-none, each-more, each-fault, alone_read, alone_breaks, nothing_left, trailing}
 use Rattle.lu_grammar.proofs.Loops.{read_shape-followed}
 use Rattle.stored_fields.specs.Format.{store_format, is_other_store_format}
-use Rattle.stored_fields.specs.Values.{Document, StoredEntry, stored_entry_shape}
+use Rattle.stored_fields.specs.Values.{StoredDocument, StoredEntry, stored_entry_shape}
 use Rattle.stored_fields.specs.Documents.{FdtRecord, format, count, value, header_shape, format_conditions, count_shape, is_elsewhere, start_conditions, value_shape, stored_entry_conditions, value_conditions, with_value, values_kind, count_of, is_within, document_plan, document_at, next_document, fdt_plan}
 use Rattle.stored_fields.specs.Stores.{document_here}
 use Rattle.stored_fields.proofs.SpotLemmas.{same_format}
@@ -60,7 +60,7 @@ value_unread asked fields c bad rule e is =
 
 -- from this cursor on so many values are good, and the cursor stands behind them
 pub record PassedValues (asked : Bool) (fields : ℕ) (from : Cursor) (number : ℕ) (here : Cursor) : Type 0 where
-  pub values : Document
+  pub values : StoredDocument
   pub reads : read_plan (times (values_kind asked fields) number []) from ≡ Ok (values, here)
 
 pub passed_no_value : (asked : Bool) (fields : ℕ) (from : Cursor) → PassedValues asked fields from 0 from
@@ -79,9 +79,9 @@ document_from : (asked : Bool) (fields : ℕ) (wanted : ℤ) (c from : Cursor) (
 document_from asked fields wanted c from n e = read_due count_shape (λ place _. start_conditions wanted place) (λ _ r. times (values_kind asked fields) (count_of r) []) c (count n) from e
 
 -- a document that was read is the one here
-document_is : (asked : Bool) (fields : ℕ) (wanted : ℤ) (c : Cursor) (values : Document) (here : Cursor) → read_plan (document_plan asked fields wanted) c ≡ Ok (values, here)
+document_is : (asked : Bool) (fields : ℕ) (wanted : ℤ) (c : Cursor) (values : StoredDocument) (here : Cursor) → read_plan (document_plan asked fields wanted) c ≡ Ok (values, here)
     → read_plan (document_plan asked fields wanted) c ≡ Ok (document_here asked fields wanted c, here)
-document_is asked fields wanted c values here e = e ∙ ap (λ (d : Document). ok_pair d here) (sym (ap (λ (r : Result (Document × Cursor) Broken). (value_or ([], c) r).0) e))
+document_is asked fields wanted c values here e = e ∙ ap (λ (d : StoredDocument). ok_pair d here) (sym (ap (λ (r : Result (StoredDocument × Cursor) Broken). (value_or ([], c) r).0) e))
 
 pub document_read : (asked : Bool) (fields : ℕ) (wanted : ℤ) (c from : Cursor) (n number : ℕ) (here : Cursor) → record_at count_shape (λ _. start_conditions wanted c.place) c ≡ Ok (count n, from)
     → PassedValues asked fields from number here → number ≡ n → read_plan (document_plan asked fields wanted) c ≡ Ok (document_here asked fields wanted c, here)
@@ -102,7 +102,7 @@ document_value_fault asked fields wanted c from n number here rule e passed lt b
 
 -- from this cursor on so many documents are good, and the cursor stands behind them
 pub record PassedDocuments (window : Window) (fields : ℕ) (places : List ℤ) (from : Cursor) (number : ℕ) (here : Cursor) : Type 0 where
-  pub documents : List Document
+  pub documents : List StoredDocument
   pub many : length documents ≡ number
   pub reads : read_plan (each (next_document window fields places) number []) from ≡ Ok (documents, here)
 
@@ -110,25 +110,25 @@ pub passed_no_document : (window : Window) (fields : ℕ) (places : List ℤ) (f
 passed_no_document window fields places from = record { documents = []; many = refl; reads = each-none (next_document window fields places) [] from }
 
 -- the plan of the next document, by its number, its place and whether the window has it
-next_is : (window : Window) (fields : ℕ) (places : List ℤ) (documents : List Document) (number : ℕ) (asked : Bool) (wanted : ℤ) → length documents ≡ number → asked ≡ is_within window number → get_or places number (pos 0) ≡ wanted
+next_is : (window : Window) (fields : ℕ) (places : List ℤ) (documents : List StoredDocument) (number : ℕ) (asked : Bool) (wanted : ℤ) → length documents ≡ number → asked ≡ is_within window number → get_or places number (pos 0) ≡ wanted
     → next_document window fields places documents ≡ document_at asked fields wanted documents
 next_is window fields places documents number asked wanted many within place =
     ap (λ (n : ℕ). document_at (is_within window n) fields (get_or places n (pos 0)) documents) many
     ∙ ap (λ (b : Bool). document_at b fields (get_or places number (pos 0)) documents) (sym within) ∙ ap (λ (z : ℤ). document_at asked fields z documents) place
 
 -- a document, after those so far
-document_after : (asked : Bool) (fields : ℕ) (wanted : ℤ) (documents : List Document) (c : Cursor) → read_plan (document_at asked fields wanted documents) c ≡ read_plan (document_plan asked fields wanted) c >>= (λ x. Ok (documents ++ x.0 ∷ [], x.1))
+document_after : (asked : Bool) (fields : ℕ) (wanted : ℤ) (documents : List StoredDocument) (c : Cursor) → read_plan (document_at asked fields wanted documents) c ≡ read_plan (document_plan asked fields wanted) c >>= (λ x. Ok (documents ++ x.0 ∷ [], x.1))
 unfolding read_plan
 document_after asked fields wanted documents c = read_plan-and_then (document_plan asked fields wanted) (λ values. done (documents ++ values ∷ [])) c
 
-pub passed_document : (window : Window) (fields : ℕ) (places : List ℤ) (from : Cursor) (number : ℕ) (here next : Cursor) (asked : Bool) (wanted : ℤ) (values : Document) → PassedDocuments window fields places from number here
+pub passed_document : (window : Window) (fields : ℕ) (places : List ℤ) (from : Cursor) (number : ℕ) (here next : Cursor) (asked : Bool) (wanted : ℤ) (values : StoredDocument) → PassedDocuments window fields places from number here
     → asked ≡ is_within window number → get_or places number (pos 0) ≡ wanted → read_plan (document_plan asked fields wanted) here ≡ Ok (values, next) → PassedDocuments window fields places from (number + 1) next
 passed_document window fields places from number here next asked wanted values before within place e = record {
   documents = before.documents ++ values ∷ [];
   many = omega (arith, length-append before.documents (values ∷ []), before.many);
   reads = each-more (next_document window fields places) number [] from before.documents here (before.documents ++ values ∷ []) next before.reads
-      (ap (λ (p : Plan (List Document) FdtRecord). read_plan p here) (next_is window fields places before.documents number asked wanted before.many within place)
-      ∙ document_after asked fields wanted before.documents here ∙ ap (λ (r : Result (Document × Cursor) Broken). r >>= λ x. ok_pair (before.documents ++ x.0 ∷ []) x.1) e);
+      (ap (λ (p : Plan (List StoredDocument) FdtRecord). read_plan p here) (next_is window fields places before.documents number asked wanted before.many within place)
+      ∙ document_after asked fields wanted before.documents here ∙ ap (λ (r : Result (StoredDocument × Cursor) Broken). r >>= λ x. ok_pair (before.documents ++ x.0 ∷ []) x.1) e);
 }
 
 -- ---- the file
@@ -144,7 +144,7 @@ fdt_from window fields places bytes from e = read_due header_shape (λ _ r. form
 pub fdt_header_fault : (window : Window) (fields : ℕ) (places : List ℤ) (bytes : List ℕ) (rule : ℕ) → record_at header_shape format_conditions (start_of bytes) ≡ Err rule
     → read_file (fdt_plan window fields places) bytes ≡ Err (record { offset = 0; rule = rule })
 fdt_header_fault window fields places bytes rule e =
-    ap (λ (r : Result (List Document × Cursor) Broken). r >>= ended)
+    ap (λ (r : Result (List StoredDocument × Cursor) Broken). r >>= ended)
     (read_due_broken header_shape (λ _ r. format_conditions r) (λ _ _. each (next_document window fields places) (length places) []) (start_of bytes) rule e)
 
 pub fdt_document_fault : (window : Window) (fields : ℕ) (places : List ℤ) (bytes : List ℕ) (from : Cursor) (number : ℕ) (here : Cursor) (asked : Bool) (wanted : ℤ) (s : Spot) → IsBehindFormat bytes from
@@ -152,23 +152,23 @@ pub fdt_document_fault : (window : Window) (fields : ℕ) (places : List ℤ) (b
     → IsBroken Fdt (read_plan (document_plan asked fields wanted) here) s → IsBroken Fdt (read_file (fdt_plan window fields places) bytes) s
 fdt_document_fault window fields places bytes from number here asked wanted s header before lt within place (kind, broken) = (
   kind,
-  ap (λ (r : Result (List Document × Cursor) Broken). r >>= ended)
+  ap (λ (r : Result (List StoredDocument × Cursor) Broken). r >>= ended)
       (fdt_from window fields places bytes from header
       ∙ each-fault (next_document window fields places) number (length places) [] from before.documents here (record { offset = s.offset; rule = s.rule }) lt before.reads
-      (ap (λ (p : Plan (List Document) FdtRecord). read_plan p here) (next_is window fields places before.documents number asked wanted before.many within place)
-      ∙ document_after asked fields wanted before.documents here ∙ ap (λ (r : Result (Document × Cursor) Broken). r >>= λ x. ok_pair (before.documents ++ x.0 ∷ []) x.1) broken)),
+      (ap (λ (p : Plan (List StoredDocument) FdtRecord). read_plan p here) (next_is window fields places before.documents number asked wanted before.many within place)
+      ∙ document_after asked fields wanted before.documents here ∙ ap (λ (r : Result (StoredDocument × Cursor) Broken). r >>= λ x. ok_pair (before.documents ++ x.0 ∷ []) x.1) broken)),
 )
 
 pub fdt_trailing : (window : Window) (fields : ℕ) (places : List ℤ) (bytes : List ℕ) (from : Cursor) (number : ℕ) (here : Cursor) → IsBehindFormat bytes from → PassedDocuments window fields places from number here
     → number ≡ length places → 0 < length here.rest → read_file (fdt_plan window fields places) bytes ≡ Err (record { offset = here.place; rule = 6 })
 fdt_trailing window fields places bytes from number here header before all some =
-    ap (λ (r : Result (List Document × Cursor) Broken). r >>= ended)
+    ap (λ (r : Result (List StoredDocument × Cursor) Broken). r >>= ended)
     (fdt_from window fields places bytes from header ∙ ap (λ (n : ℕ). read_plan (each (next_document window fields places) n []) from) (sym all) ∙ before.reads)
     ∙ trailing before.documents here some
 
 pub fdt_read : (window : Window) (fields : ℕ) (places : List ℤ) (bytes : List ℕ) (from : Cursor) (number : ℕ) (here : Cursor) → IsBehindFormat bytes from → (before : PassedDocuments window fields places from number here)
     → number ≡ length places → length here.rest ≡ 0 → read_file (fdt_plan window fields places) bytes ≡ Ok before.documents
 fdt_read window fields places bytes from number here header before all none =
-    ap (λ (r : Result (List Document × Cursor) Broken). r >>= ended)
+    ap (λ (r : Result (List StoredDocument × Cursor) Broken). r >>= ended)
     (fdt_from window fields places bytes from header ∙ ap (λ (n : ℕ). read_plan (each (next_document window fields places) n []) from) (sym all) ∙ before.reads)
     ∙ nothing_left before.documents here none

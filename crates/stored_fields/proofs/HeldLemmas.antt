@@ -10,12 +10,13 @@ use Rattle.lu_grammar.specs.Parts.{int32, num, IsValue, spelling}
 use Rattle.lu_grammar.specs.Reading.{value_or}
 use Rattle.lu_grammar.specs.Plans.{Plan, done, and_then, each, Broken, read_file}
 use Rattle.lu_grammar.proofs.Codecs.{ok_of, Writes, read_file-Writes, Writes-due, Writes-done, Writes-and_then}
-use Rattle.stored_fields.specs.Format.{store_format, header_length}
+use Rattle.stored_fields.specs.Format.{store_format}
 use Rattle.lu_types.specs.StoredFields.{StoredField}
-use Rattle.stored_fields.specs.Values.{Document}
+use Rattle.lu_types.specs.Stores.{header_length}
+use Rattle.stored_fields.specs.Values.{StoredDocument}
 use Rattle.stored_fields.specs.Documents.{FdtRecord, format, header_shape}
 use Rattle.stored_fields.specs.Stores.{total_of}
-use Rattle.stored_fields.specs.Writing.{IsStorable, IsStorableDocument, AreStorable, value_bytes, document_bytes, fdt_bytes, places_from, place_bytes, fdx_bytes, OpenDocument, HeldDocuments, with_document, with_begun, one_longer, with_longer, with_stored}
+use Rattle.stored_fields.specs.Writing.{IsStorableField, IsStorableDocument, AreStorable, value_bytes, document_bytes, fdt_bytes, places_from, place_bytes, fdx_bytes, OpenDocument, HeldDocuments, with_document, with_begun, one_longer, with_longer, with_stored}
 use Rattle.stored_fields.specs.InnerWriting.{open_plan, finished_plan, held_documents, held_plan, held_in, open_bytes, AreSpelled, IsStorableSoFar, AreHeld}
 use Rattle.stored_fields.proofs.WriteLemmas.{writes_open, writes_finished}
 
@@ -28,20 +29,20 @@ places_long (p ∷ ps) = omega (arith, length-append (place_bytes p) (flat_map p
     eight : (p : ℕ) → length (place_bytes p) ≡ 8
     eight p = refl
 
-pub places_many : (place : ℕ) (documents : List Document) → length (places_from place documents) ≡ length documents
+pub places_many : (place : ℕ) (documents : List StoredDocument) → length (places_from place documents) ≡ length documents
 places_many place [] = refl
 places_many place (d ∷ ds) = ap suc (places_many (place + length (document_bytes d)) ds)
 
-fdx_long : (documents : List Document) → length (fdx_bytes documents) ≡ 4 + 8 * length documents
+fdx_long : (documents : List StoredDocument) → length (fdx_bytes documents) ≡ 4 + 8 * length documents
 fdx_long documents = omega (arith, length-append (spelling int32 store_format) (flat_map place_bytes (places_from header_length documents)), places_long (places_from header_length documents), places_many header_length documents, four)
   where
     four : length (spelling int32 store_format) ≡ 4
     four = refl
 
-total_is : (documents : List Document) → total_of (fdx_bytes documents) ≡ length documents
+total_is : (documents : List StoredDocument) → total_of (fdx_bytes documents) ≡ length documents
 total_is documents = omega (arith, fdx_long documents)
 
-total_more : (documents : List Document) (place : ℕ) → total_of (fdx_bytes documents ++ place_bytes place) ≡ suc (length documents)
+total_more : (documents : List StoredDocument) (place : ℕ) → total_of (fdx_bytes documents ++ place_bytes place) ≡ suc (length documents)
 total_more documents place = let eight : length (place_bytes place) ≡ 8 = refl in omega (arith, fdx_long documents, length-append (fdx_bytes documents) (place_bytes place), eight)
 
 -- ---- what is read of the two files
@@ -54,17 +55,17 @@ writes_head total lacks bytes held body =
     (Writes-due header_shape (λ _ _. []) (λ _ _. held_documents total lacks) 0 (format store_format) (spelling int32 store_format) bytes held (store_format, [], fits, sym (append-nil (spelling int32 store_format)), (refl, refl)) refl body)
 
 -- finished documents alone
-reads_finished : (finished : List Document) → AreStorable finished → read_file (held_plan (length finished) 0) (fdt_bytes finished) ≡ ok_of (record { finished = finished; opened = None })
+reads_finished : (finished : List StoredDocument) → AreStorable finished → read_file (held_plan (length finished) 0) (fdt_bytes finished) ≡ ok_of (record { finished = finished; opened = None })
 reads_finished finished storable =
     let bytes = flat_map document_bytes finished in
     let held : HeldDocuments = record { finished = finished; opened = None } in
-    let next : List Document → Plan HeldDocuments FdtRecord = λ documents. done (record { finished = documents; opened = None }) in
+    let next : List StoredDocument → Plan HeldDocuments FdtRecord = λ documents. done (record { finished = documents; opened = None }) in
     writes_head (length finished) 0 bytes held
     (subst (λ (t : List ℕ). Writes (and_then (each finished_plan (length finished) []) next) header_length t held) (append-nil bytes)
     (Writes-and_then (each finished_plan (length finished) []) next header_length bytes [] finished held (writes_finished finished [] header_length storable) (Writes-done (header_length + length bytes) held)))
 
 -- and an open one
-reads_open : (finished : List Document) (d : OpenDocument) (n : ℕ) → AreStorable finished → length d.values + suc n ≡ d.announced → IsValue num d.announced → All IsStorable d.values
+reads_open : (finished : List StoredDocument) (d : OpenDocument) (n : ℕ) → AreStorable finished → length d.values + suc n ≡ d.announced → IsValue num d.announced → All IsStorableField d.values
     → read_file (held_plan (suc (length finished)) (suc n)) (fdt_bytes finished ++ open_bytes d) ≡ ok_of (record { finished = finished; opened = Some d })
 reads_open finished d n storable many few values =
     let bytes = flat_map document_bytes finished in
@@ -90,7 +91,7 @@ read_as fdx fdt lacks total n bytes held many values few e =
     none_held = record { finished = []; opened = None }
 
 -- both files hold what they spell
-held_is : (fdx fdt : List ℕ) (lacks : ℕ) (finished : List Document) (opened : Option OpenDocument) → AreStorable finished → IsStorableSoFar opened → AreSpelled fdx fdt lacks finished opened
+held_is : (fdx fdt : List ℕ) (lacks : ℕ) (finished : List StoredDocument) (opened : Option OpenDocument) → AreStorable finished → IsStorableSoFar opened → AreSpelled fdx fdt lacks finished opened
     → held_in fdx fdt lacks ≡ record { finished = finished; opened = opened }
 held_is fdx fdt lacks finished None storable so_far (places, values, none) =
     read_as fdx fdt lacks (length finished) 0 (fdt_bytes finished) (record { finished = finished; opened = None }) (ap total_of places ∙ total_is finished) values none (reads_finished finished storable)
@@ -105,16 +106,16 @@ flat_push : {A : Type 0} (f : A → List ℕ) (xs : List A) (x : A) → flat_map
 flat_push f [] x = append-nil (f x)
 flat_push f (y ∷ ys) x = ap (λ (t : List ℕ). f y ++ t) (flat_push f ys x) ∙ sym (append_assoc (f y) (flat_map f ys) (f x))
 
-places_push : (place : ℕ) (documents : List Document) (d : Document) → places_from place (documents ++ d ∷ []) ≡ places_from place documents ++ (place + length (flat_map document_bytes documents)) ∷ []
+places_push : (place : ℕ) (documents : List StoredDocument) (d : StoredDocument) → places_from place (documents ++ d ∷ []) ≡ places_from place documents ++ (place + length (flat_map document_bytes documents)) ∷ []
 places_push place [] d = ap (λ (n : ℕ). n ∷ []) (let e : place ≡ place + 0 = omega arith in e)
 places_push place (x ∷ xs) d =
     ap (λ (t : List ℕ). place ∷ t) (places_push (place + length (document_bytes x)) xs d
     ∙ ap (λ (n : ℕ). places_from (place + length (document_bytes x)) xs ++ n ∷ []) (omega (arith, length-append (document_bytes x) (flat_map document_bytes xs))))
 
-fdt_push : (documents : List Document) (d : Document) → fdt_bytes documents ++ document_bytes d ≡ fdt_bytes (documents ++ d ∷ [])
+fdt_push : (documents : List StoredDocument) (d : StoredDocument) → fdt_bytes documents ++ document_bytes d ≡ fdt_bytes (documents ++ d ∷ [])
 fdt_push documents d = append_assoc (spelling int32 store_format) (flat_map document_bytes documents) (document_bytes d) ∙ ap (λ (t : List ℕ). spelling int32 store_format ++ t) (sym (flat_push document_bytes documents d))
 
-fdx_push : (documents : List Document) (d : Document) → fdx_bytes documents ++ place_bytes (length (fdt_bytes documents)) ≡ fdx_bytes (documents ++ d ∷ [])
+fdx_push : (documents : List StoredDocument) (d : StoredDocument) → fdx_bytes documents ++ place_bytes (length (fdt_bytes documents)) ≡ fdx_bytes (documents ++ d ∷ [])
 fdx_push documents d =
     let four : length (spelling int32 store_format) ≡ 4 = refl in
     let here : length (fdt_bytes documents) ≡ header_length + length (flat_map document_bytes documents) = omega (arith, four, length-append (spelling int32 store_format) (flat_map document_bytes documents)) in
@@ -125,7 +126,7 @@ fdx_push documents d =
     ∙ ap (λ (ps : List ℕ). spelling int32 store_format ++ flat_map place_bytes ps) (sym (places_push header_length documents d))
 
 -- a document behind the others, open or with all of its values
-held_with : (fdx fdt : List ℕ) (lacks : ℕ) (finished : List Document) (d : OpenDocument) → AreStorable finished → IsValue num d.announced → All IsStorable d.values
+held_with : (fdx fdt : List ℕ) (lacks : ℕ) (finished : List StoredDocument) (d : OpenDocument) → AreStorable finished → IsValue num d.announced → All IsStorableField d.values
     → fdx ≡ fdx_bytes finished ++ place_bytes (length (fdt_bytes finished)) → fdt ≡ fdt_bytes finished ++ open_bytes d → length d.values + lacks ≡ d.announced → AreHeld fdx fdt lacks (with_document finished d)
 held_with fdx fdt lacks finished d storable few values places bytes many = elim (cases_eq (length d.values) d.announced) [
   | inl all ↦
@@ -170,7 +171,7 @@ begun_held fdx fdt fdx_new fdt_new lacks count held h none few places values =
     (values ∙ ap (λ (t : List ℕ). t ++ spelling num count) s.1 ∙ ap (λ (t : List ℕ). fdt_bytes held.finished ++ t) (sym (append-nil (spelling num count)))) (omega arith))
 
 -- a value was added
-pub stored_held : (fdx fdt fdt_new : List ℕ) (lacks : ℕ) (v : StoredField) (held : HeldDocuments) → AreHeld fdx fdt lacks held → IsSome held.opened → IsStorable v → fdt_new ≡ fdt ++ value_bytes v
+pub stored_held : (fdx fdt fdt_new : List ℕ) (lacks : ℕ) (v : StoredField) (held : HeldDocuments) → AreHeld fdx fdt lacks held → IsSome held.opened → IsStorableField v → fdt_new ≡ fdt ++ value_bytes v
     → (0 < lacks) × Holds fdx fdt_new (lacks - 1) (with_stored v held)
 stored_held fdx fdt fdt_new lacks v held h some new values = let more = go held.opened h.1 h.2 some in (more.0, holds fdx fdt_new (lacks - 1) (with_stored v held) more.1)
   where
@@ -181,7 +182,7 @@ stored_held fdx fdt fdt_new lacks v held h some new values = let more = go held.
     go None so_far s some = cc
     go (Some d) so_far s some = (
       s.3,
-      held_with fdx fdt_new (lacks - 1) held.finished (one_longer v d) h.0 so_far.0 (All-push IsStorable d.values v so_far.1 new) s.0
+      held_with fdx fdt_new (lacks - 1) held.finished (one_longer v d) h.0 so_far.0 (All-push IsStorableField d.values v so_far.1 new) s.0
           (values ∙ ap (λ (t : List ℕ). t ++ value_bytes v) s.1 ∙ append_assoc (fdt_bytes held.finished) (open_bytes d) (value_bytes v) ∙ ap (λ (t : List ℕ). fdt_bytes held.finished ++ t) (open_longer d))
           (omega (arith, s.2, s.3, length-append d.values (v ∷ []))),
     )

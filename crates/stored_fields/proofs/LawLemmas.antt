@@ -3,15 +3,16 @@ use Rattle.std.proofs.Common.{List, ℕ, length, Some, refl}
 use Rattle.lu_types.specs.declared.stored.Window.{Window}
 use Rattle.lu_types.specs.FilePlans.{StandFor}
 use Rattle.lu_grammar.proofs.Codecs.{Reads-from}
-use Rattle.stored_fields.specs.Values.{Document}
+use Rattle.lu_types.specs.Stores.{windowed}
+use Rattle.stored_fields.specs.Values.{StoredDocument}
 use Rattle.stored_fields.specs.Places.{fdx_plan}
 use Rattle.stored_fields.specs.Documents.{fdt_plan}
-use Rattle.stored_fields.specs.Stores.{windowed, store_files}
+use Rattle.stored_fields.specs.Stores.{store_files}
 use Rattle.stored_fields.specs.Writing.{AreStorable, fdt_bytes, fdx_bytes, IsCheckable}
 use Rattle.stored_fields.proofs.ReadBackLemmas.{places_of, read_back}
 use Rattle.stored_fields.proofs.ByteLemmas.{of_fdx, of_fdt}
 
-pub written_store : (fields : ℕ) (window : Window) (documents : List Document) → AreStorable documents → IsCheckable fields window documents
+pub written_store : (fields : ℕ) (window : Window) (documents : List StoredDocument) → AreStorable documents → IsCheckable fields window documents
     → StandFor (store_files (λ _. length documents) (λ _. window) fields (Some (fdx_bytes documents)) (Some (fdt_bytes documents))) (windowed window documents)
 written_store fields window documents storable h =
     let read = read_back fields window documents storable h in (

@@ -2,7 +2,6 @@ pub mod Rows
 pub mod SpotLemmas
 pub mod PlaceLemmas
 pub mod DocumentLemmas
-pub mod FixedLemmas
 pub mod ValueLemmas
 pub mod StandsLemmas
 pub mod StoreLemmas

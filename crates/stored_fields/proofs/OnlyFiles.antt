@@ -13,13 +13,14 @@ use Rattle.lu_grammar.specs.Plans.{one, times, each, read_plan, read_file}
 use Rattle.lu_grammar.specs.Meaning.{bytes_of}
 use Rattle.lu_grammar.proofs.Codecs.{ok_pair, same_pair, ok_of, reads-read_plan, read_file-Reads, read_plan-and_then, then_ok, record_at-was, due_was, file_was}
 use Rattle.lu_grammar.proofs.Loops.{one-was}
-use Rattle.stored_fields.specs.Format.{store_format, header_length, format_shape, is_other_store_format}
-use Rattle.stored_fields.specs.Values.{Document, HasFields}
+use Rattle.stored_fields.specs.Format.{store_format, format_shape, is_other_store_format}
+use Rattle.stored_fields.specs.Values.{StoredDocument, HasFields}
 use Rattle.stored_fields.specs.Places.{fdx_header_conditions, place_shape, fdx_place_conditions, places_kind, fdx_plan}
 use Rattle.stored_fields.specs.Documents.{FdtRecord, header_shape, format_conditions, is_within, next_document, fdt_plan}
-use Rattle.stored_fields.specs.Stores.{store_files, windowed}
+use Rattle.stored_fields.specs.Stores.{store_files}
 use Rattle.stored_fields.specs.Writing.{IsStorableDocument, AreStorable, document_bytes, fdt_bytes, places_from, place_bytes, fdx_bytes}
 use Rattle.std.specs.Prelude.{All}
+use Rattle.lu_types.specs.Stores.{windowed, header_length}
 use Rattle.stored_fields.proofs.SpotLemmas.{same_format}
 use Rattle.stored_fields.proofs.PlaceLemmas.{header_format, has_places}
 use Rattle.stored_fields.proofs.HeldLemmas.{places_many}
@@ -61,15 +62,15 @@ spells_places (suc n) front c d all fits e =
 
 -- ---- the documents
 
-record SpellsDocuments (window : Window) (fields : ℕ) (rest : List ℤ) (front all : List Document) (c d : Cursor) : Type 0 where
-  more : List Document
-  named : (i : ℕ) (o : Document) → i < length more → is_within window (length front + i) ≡ true → HasFields fields (get_or more i o)
+record SpellsDocuments (window : Window) (fields : ℕ) (rest : List ℤ) (front all : List StoredDocument) (c d : Cursor) : Type 0 where
+  more : List StoredDocument
+  named : (i : ℕ) (o : StoredDocument) → i < length more → is_within window (length front + i) ≡ true → HasFields fields (get_or more i o)
   all_is : all ≡ front ++ more
   storable : AreStorable more
   is : c.rest ≡ flat_map document_bytes more ++ d.rest
   placed : rest ≡ map pos (places_from c.place more)
 
-spells_documents : (window : Window) (fields : ℕ) (places passed rest : List ℤ) (front : List Document) (c d : Cursor) (all : List Document) → places ≡ passed ++ rest → length passed ≡ length front → IsBytes c.rest
+spells_documents : (window : Window) (fields : ℕ) (places passed rest : List ℤ) (front : List StoredDocument) (c d : Cursor) (all : List StoredDocument) → places ≡ passed ++ rest → length passed ≡ length front → IsBytes c.rest
     → read_plan (each (next_document window fields places) (length rest) front) c ≡ ok_pair all d → SpellsDocuments window fields rest front all c d
 unfolding each read_plan
 spells_documents window fields places passed [] front c d all split long fits e =
@@ -88,14 +89,14 @@ spells_documents window fields places passed (z ∷ zs) front c d all split long
     record {
       more = one.it ∷ rest.more;
       named = named_each (length front) (length first.0.0) (omega (arith, ap length one.all_is, length-append front (one.it ∷ []))) one.it rest.more one.named rest.named;
-      all_is = rest.all_is ∙ ap (λ (ds : List Document). ds ++ rest.more) one.all_is ∙ append_assoc front (one.it ∷ []) rest.more;
+      all_is = rest.all_is ∙ ap (λ (ds : List StoredDocument). ds ++ rest.more) one.all_is ∙ append_assoc front (one.it ∷ []) rest.more;
       storable = all_cons IsStorableDocument one.it rest.more one.storable rest.storable;
       is = one.is ∙ ap (λ (t : List ℕ). document_bytes one.it ++ t) rest.is ∙ sym (append_assoc (document_bytes one.it) (flat_map document_bytes rest.more) d.rest);
       placed = ap (λ (w : ℤ). w ∷ zs) (sym (one.wanted_is ∙ wanted_is)) ∙ ap (λ (ys : List ℤ). pos c.place ∷ ys) (rest.placed ∙ ap (λ (n : ℕ). map pos (places_from n rest.more)) behind);
     }
   where
-    named_each : (k m : ℕ) → m ≡ k + 1 → (it : Document) (more : List Document) → All (IsField (is_within window k) fields) it → ((i : ℕ) (o : Document) → i < length more → is_within window (m + i) ≡ true → HasFields fields (get_or more i o))
-        → (i : ℕ) (o : Document) → i < suc (length more) → is_within window (k + i) ≡ true → HasFields fields (get_or (it ∷ more) i o)
+    named_each : (k m : ℕ) → m ≡ k + 1 → (it : StoredDocument) (more : List StoredDocument) → All (IsField (is_within window k) fields) it → ((i : ℕ) (o : StoredDocument) → i < length more → is_within window (m + i) ≡ true → HasFields fields (get_or more i o))
+        → (i : ℕ) (o : StoredDocument) → i < suc (length more) → is_within window (k + i) ≡ true → HasFields fields (get_or (it ∷ more) i o)
     named_each k m next it more here later zero o lt holds = λ j v within. here j v within (ap (is_within window) (let e : k ≡ k + 0 = omega arith in e) ∙ holds)
     named_each k m next it more here later (suc i) o lt holds = later i o (omega arith) (ap (is_within window) (let e : m + i ≡ k + suc i = omega arith in e) ∙ holds)
 
@@ -114,13 +115,13 @@ spells_fdx total window fdx places fits e =
     ∙ ap (λ (zs : List ℤ). flat_map (λ z. spelling int64 z) zs) (sym body.all_is))
 
 -- `.fdt` that was read is the writer's, and its documents stand at the places
-pub record SpellsFdt (window : Window) (fields : ℕ) (places : List ℤ) (fdt : List ℕ) (documents : List Document) : Type 0 where
+pub record SpellsFdt (window : Window) (fields : ℕ) (places : List ℤ) (fdt : List ℕ) (documents : List StoredDocument) : Type 0 where
   storable : AreStorable documents
-  pub named : (i : ℕ) (o : Document) → i < length documents → is_within window i ≡ true → HasFields fields (get_or documents i o)
+  pub named : (i : ℕ) (o : StoredDocument) → i < length documents → is_within window i ≡ true → HasFields fields (get_or documents i o)
   is : fdt ≡ fdt_bytes documents
   placed : places ≡ places_of documents
 
-pub spells_fdt : (window : Window) (fields : ℕ) (places : List ℤ) (fdt : List ℕ) (documents : List Document) → IsBytes fdt → read_file (fdt_plan window fields places) fdt ≡ ok_of documents → SpellsFdt window fields places fdt documents
+pub spells_fdt : (window : Window) (fields : ℕ) (places : List ℤ) (fdt : List ℕ) (documents : List StoredDocument) → IsBytes fdt → read_file (fdt_plan window fields places) fdt ≡ ok_of documents → SpellsFdt window fields places fdt documents
 spells_fdt window fields places fdt documents fits e =
     let file = file_was (fdt_plan window fields places) fdt documents e in
     let head = due_was header_shape (λ _ r. format_conditions r) (λ _ _. each (next_document window fields places) (length places) []) (start_of fdt) (documents, file.0) file.1 in
@@ -133,10 +134,10 @@ spells_fdt window fields places fdt documents fits e =
     record {
       storable = subst AreStorable (sym body.all_is) body.storable;
       named = λ i o lt holds.
-          subst (λ (ds : List Document). HasFields fields (get_or ds i o)) (sym body.all_is)
+          subst (λ (ds : List StoredDocument). HasFields fields (get_or ds i o)) (sym body.all_is)
           (body.named i o (omega (arith, lt, ap length body.all_is)) (ap (is_within window) (let e : 0 + i ≡ i = omega arith in e) ∙ holds));
       is = took.rest ∙ ap (λ (t : List ℕ). t ++ head.0.1.rest) front_is
-          ∙ ap (λ (t : List ℕ). spelling int32 store_format ++ t) (body.is ∙ ap (λ (t : List ℕ). flat_map document_bytes body.more ++ t) (nil_from_length file.0.rest file.2) ∙ append-nil (flat_map document_bytes body.more) ∙ ap (λ (ds : List Document). flat_map document_bytes ds) (sym body.all_is));
+          ∙ ap (λ (t : List ℕ). spelling int32 store_format ++ t) (body.is ∙ ap (λ (t : List ℕ). flat_map document_bytes body.more ++ t) (nil_from_length file.0.rest file.2) ∙ append-nil (flat_map document_bytes body.more) ∙ ap (λ (ds : List StoredDocument). flat_map document_bytes ds) (sym body.all_is));
       placed = body.placed ∙ ap (λ (n : ℕ). map pos (places_from n body.more)) place ∙ ap places_of (sym body.all_is);
     }
   where
@@ -148,8 +149,8 @@ spells_fdt window fields places fdt documents fits e =
         same true i h = cc
         same false i h = i
 
-pub only_written : (fdx fdt : List ℕ) (fields total : ℕ) (window : Window) (seen : List Document) → IsBytes fdx → IsBytes fdt → StandFor (store_files (λ _. total) (λ _. window) fields (Some fdx) (Some fdt)) seen
-    → (documents : List Document) × (fdx ≡ fdx_bytes documents) × (fdt ≡ fdt_bytes documents) × AreStorable documents × (length documents ≡ total) × (seen ≡ windowed window documents)
+pub only_written : (fdx fdt : List ℕ) (fields total : ℕ) (window : Window) (seen : List StoredDocument) → IsBytes fdx → IsBytes fdt → StandFor (store_files (λ _. total) (λ _. window) fields (Some fdx) (Some fdt)) seen
+    → (documents : List StoredDocument) × (fdx ≡ fdx_bytes documents) × (fdt ≡ fdt_bytes documents) × AreStorable documents × (length documents ≡ total) × (seen ≡ windowed window documents)
 only_written fdx fdt fields total window seen fdx_fits fdt_fits (places, fdx_reads, (documents, fdt_reads, seen_is)) =
     let read = read_file-Reads (fdx_plan total window) fdx places fdx_reads in
     let values = spells_fdt window fields places fdt documents fdt_fits (read_file-Reads (fdt_plan window fields places) fdt documents fdt_reads) in
@@ -171,7 +172,7 @@ only_written fdx fdt fields total window seen fdx_fits fdt_fits (places, fdx_rea
     map_long (p ∷ ps) = ap suc (map_long ps)
 
 -- the documents in a window of a store have the fields that were asked of them
-pub windowed_named : (window : Window) (fields : ℕ) (places : List ℤ) (fdt : List ℕ) (documents : List Document) → IsBytes fdt → read_file (fdt_plan window fields places) fdt ≡ ok_of documents
+pub windowed_named : (window : Window) (fields : ℕ) (places : List ℤ) (fdt : List ℕ) (documents : List StoredDocument) → IsBytes fdt → read_file (fdt_plan window fields places) fdt ≡ ok_of documents
     → window.offset + window.count ≤ length documents → All (HasFields fields) (windowed window documents)
 windowed_named window fields places fdt documents fits e within k o lt =
     let spelled = spells_fdt window fields places fdt documents fits e in

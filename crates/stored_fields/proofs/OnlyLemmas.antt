@@ -17,9 +17,9 @@ use Rattle.lu_grammar.proofs.Loops.{one-was}
 use Rattle.stored_fields.specs.Format.{bit_tokenized, bit_binary}
 use Rattle.lu_types.specs.Bits.{has_bit}
 use Rattle.lu_types.specs.StoredFields.{StoredField}
-use Rattle.stored_fields.specs.Values.{Document, StoredEntry, content_shape, stored}
+use Rattle.stored_fields.specs.Values.{StoredDocument, StoredEntry, content_shape, stored}
 use Rattle.stored_fields.specs.Documents.{FdtRecord, value, value_shape, has_other_bit, stored_entry_conditions, value_conditions, with_value, values_kind, count_of, count_shape, start_conditions, document_at}
-use Rattle.stored_fields.specs.Writing.{IsStorable, IsStorableDocument, value_bits, value_bytes, document_bytes}
+use Rattle.stored_fields.specs.Writing.{IsStorableField, IsStorableDocument, value_bits, value_bytes, document_bytes}
 use Rattle.stored_fields.proofs.WriteLemmas.{IsField}
 use Rattle.stored_fields.proofs.StandsLemmas.{not_elsewhere}
 
@@ -48,9 +48,9 @@ binary_bits (suc (suc (suc (suc n)))) bs few binary = absurd (omega (arith, ltb-
 record SpellsValue (asked : Bool) (fields : ℕ) (r : FdtRecord) (front : List ℕ) : Type 0 where
   it : StoredField
   named : IsField asked fields it
-  storable : IsStorable it
+  storable : IsStorableField it
   is : front ≡ value_bytes it
-  adds : (values : Document) → with_value values r ≡ values ++ it ∷ []
+  adds : (values : StoredDocument) → with_value values r ≡ values ++ it ∷ []
 
 abbrev entry_with : ℕ → ℕ → Stored → StoredEntry
 entry_with field bits v = record { field = field; bits = bits; value = v }
@@ -103,12 +103,12 @@ spells_value asked fields r front (field, back, is_field, front_is, (bits, rest,
 -- ---- so many values
 
 -- the values that were read, after those in front, are spelled as the writer does
-pub record SpellsValues (asked : Bool) (fields number : ℕ) (front all : Document) (c d : Cursor) : Type 0 where
-  pub more : Document
+pub record SpellsValues (asked : Bool) (fields number : ℕ) (front all : StoredDocument) (c d : Cursor) : Type 0 where
+  pub more : StoredDocument
   pub named : All (IsField asked fields) more
   pub all_is : all ≡ front ++ more
   pub many : length more ≡ number
-  pub storable : All IsStorable more
+  pub storable : All IsStorableField more
   pub is : c.rest ≡ flat_map value_bytes more ++ d.rest
   pub fits : IsBytes d.rest
 
@@ -116,7 +116,7 @@ pub all_cons : {A : Type 0} (P : A → Type 0) (x : A) (xs : List A) → P x →
 all_cons P x xs h t zero d lt = h
 all_cons P x xs h t (suc k) d lt = t k d (omega arith)
 
-pub spells_values : (asked : Bool) (fields number : ℕ) (front : Document) (c d : Cursor) (all : Document) → IsBytes c.rest → read_plan (times (values_kind asked fields) number front) c ≡ ok_pair all d → SpellsValues asked fields number front all c d
+pub spells_values : (asked : Bool) (fields number : ℕ) (front : StoredDocument) (c d : Cursor) (all : StoredDocument) → IsBytes c.rest → read_plan (times (values_kind asked fields) number front) c ≡ ok_pair all d → SpellsValues asked fields number front all c d
 unfolding each read_plan
 spells_values asked fields zero front c d all fits e =
     let p = same_pair front all c d e in
@@ -132,9 +132,9 @@ spells_values asked fields (suc n) front c d all fits e =
     let state : first.0.0 ≡ front ++ one.it ∷ [] = sym was.2 ∙ one.adds front in
     record {
       more = one.it ∷ rest.more;
-      all_is = rest.all_is ∙ ap (λ (vs : Document). vs ++ rest.more) state ∙ append_assoc front (one.it ∷ []) rest.more;
+      all_is = rest.all_is ∙ ap (λ (vs : StoredDocument). vs ++ rest.more) state ∙ append_assoc front (one.it ∷ []) rest.more;
       many = ap suc rest.many;
-      storable = all_cons IsStorable one.it rest.more one.storable rest.storable;
+      storable = all_cons IsStorableField one.it rest.more one.storable rest.storable;
       named = all_cons (IsField asked fields) one.it rest.more one.named rest.named;
       is = took.rest ∙ ap (λ (t : List ℕ). t ++ first.0.1.rest) one.is ∙ ap (λ (t : List ℕ). value_bytes one.it ++ t) rest.is ∙ sym (append_assoc (value_bytes one.it) (flat_map value_bytes rest.more) d.rest);
       fits = rest.fits;
@@ -143,8 +143,8 @@ spells_values asked fields (suc n) front c d all fits e =
 -- ---- one document
 
 -- a document that was read is spelled as the writer does, and stands where it is wanted
-pub record SpellsDocument (asked : Bool) (fields : ℕ) (wanted : ℤ) (documents all : List Document) (c d : Cursor) : Type 0 where
-  pub it : Document
+pub record SpellsDocument (asked : Bool) (fields : ℕ) (wanted : ℤ) (documents all : List StoredDocument) (c d : Cursor) : Type 0 where
+  pub it : StoredDocument
   pub named : All (IsField asked fields) it
   pub all_is : all ≡ documents ++ it ∷ []
   pub storable : IsStorableDocument it
@@ -152,7 +152,7 @@ pub record SpellsDocument (asked : Bool) (fields : ℕ) (wanted : ℤ) (document
   pub wanted_is : pos c.place ≡ wanted
   pub fits : IsBytes d.rest
 
-pub spells_document : (asked : Bool) (fields : ℕ) (wanted : ℤ) (documents : List Document) (c : Cursor) (x : List Document × Cursor) → IsBytes c.rest → read_plan (document_at asked fields wanted documents) c ≡ ok_of x
+pub spells_document : (asked : Bool) (fields : ℕ) (wanted : ℤ) (documents : List StoredDocument) (c : Cursor) (x : List StoredDocument × Cursor) → IsBytes c.rest → read_plan (document_at asked fields wanted documents) c ≡ ok_of x
     → SpellsDocument asked fields wanted documents x.0 c x.1
 unfolding read_plan
 spells_document asked fields wanted documents c x fits e =
@@ -168,7 +168,7 @@ spells_document asked fields wanted documents c x fits e =
     record {
       it = values.more;
       named = values.named;
-      all_is = sym same.0 ∙ ap (λ (vs : Document). documents ++ vs ∷ []) values.all_is;
+      all_is = sym same.0 ∙ ap (λ (vs : StoredDocument). documents ++ vs ∷ []) values.all_is;
       storable = (subst (λ (n : ℕ). n < 2 ^ 31) many counted.0, values.storable);
       is = took.rest ∙ ap (λ (t : List ℕ). t ++ head.0.1.rest) counted.1 ∙ ap (λ (n : ℕ). spelling num n ++ head.0.1.rest) many ∙ ap (λ (t : List ℕ). spelling num (length values.more) ++ t) values.is
           ∙ sym (append_assoc (spelling num (length values.more)) (flat_map value_bytes values.more) body.0.1.rest) ∙ ap (λ (y : Cursor). document_bytes values.more ++ y.rest) same.1;

@@ -9,12 +9,11 @@ use Rattle.std.proofs.lemmas.List.{drop-drop, append-nil, length-drop}
 use Rattle.lu_grammar.specs.Reading.{◌>>=◌, read, read_part}
 use Rattle.lu_grammar.specs.Records.{first_broken, record_at}
 use Rattle.lu_grammar.specs.Plans.{times, one, each, Broken, read_plan, ended, read_file}
-use Rattle.lu_grammar.proofs.Codecs.{ok_of, read_due, read_due_broken, ok_pair, same_pair, read_plan-and_then, then_ok, times-more, times-fault, each-none, alone_read, alone_breaks, alone_was, record_at-was, due_was, file_was, nothing_left, trailing}
+use Rattle.lu_grammar.proofs.Codecs.{ok_of, read_due, read_due_broken, ok_pair, same_pair, read_plan-and_then, then_ok, times-more, times-fault, each-none, alone_read, alone_breaks, alone_was, record_at-was, due_was, file_was, nothing_left, trailing, int32_read, int64_read}
 use Rattle.lu_grammar.proofs.Loops.{one-was}
 use Rattle.stored_fields.specs.Format.{store_format, format_shape, is_other_store_format}
 use Rattle.stored_fields.specs.Places.{is_past_store, fdx_header_conditions, place_shape, fdx_place_conditions, is_misplaced, places_kind, fdx_plan}
 use Rattle.stored_fields.proofs.SpotLemmas.{same_format}
-use Rattle.stored_fields.proofs.FixedLemmas.{int32_read, int64_read}
 
 -- ---- one record
 

@@ -14,11 +14,11 @@ use Rattle.lu_grammar.specs.Parts.{int32, num, groups, spelling}
 use Rattle.lu_grammar.specs.Records.{first_broken}
 use Rattle.lu_grammar.specs.Plans.{done, and_then, one, times, each, read_file}
 use Rattle.lu_grammar.proofs.Codecs.{Writes, Writes-due, Writes-done, Writes-and_then, Writes-none, read_file-Writes}
-use Rattle.stored_fields.specs.Format.{store_format, header_length, format_shape}
-use Rattle.stored_fields.specs.Values.{Document, HasFields}
+use Rattle.lu_types.specs.Stores.{windowed, header_length}
+use Rattle.stored_fields.specs.Format.{store_format, format_shape}
+use Rattle.stored_fields.specs.Values.{StoredDocument, HasFields}
 use Rattle.stored_fields.specs.Places.{is_past_store, fdx_header_conditions, is_misplaced, fdx_place_conditions, places_kind, fdx_plan}
 use Rattle.stored_fields.specs.Documents.{format, count, count_of, header_shape, format_conditions, count_shape, start_conditions, values_kind, is_within, document_at, next_document, fdt_plan}
-use Rattle.stored_fields.specs.Stores.{windowed}
 use Rattle.stored_fields.specs.Writing.{IsStorableDocument, AreStorable, value_bytes, document_bytes, fdt_bytes, places_from, place_bytes, fdx_bytes, IsCheckable}
 use Rattle.stored_fields.proofs.PlaceLemmas.{last_push}
 use Rattle.stored_fields.proofs.WriteLemmas.{IsField, all_head, all_tail, writes_one, writes_values}
@@ -33,7 +33,7 @@ groups_some (suc more) n = elim (cases_lt n 128) [
   | inr le ↦ let f : ltb n 128 ≡ false = le-ltb n 128 le in rw f (omega arith)
 ]
 
-document_some : (d : Document) → 0 < length (document_bytes d)
+document_some : (d : StoredDocument) → 0 < length (document_bytes d)
 document_some d = omega (arith, length-append (spelling num (length d)) (flat_map value_bytes d), groups_some 4 (length d))
 
 -- ---- the places
@@ -46,7 +46,7 @@ AreWellPlaced before (p ∷ ps) = (is_misplaced before (pos p) ≡ false) × (p 
 later_place : (q p : ℕ) → q < p → p < 2 ^ 31 → is_misplaced (Some (pos q)) (pos p) ≡ false
 later_place q p lt few = rw (lt-leb p q lt, le-ltb 2147483647 p (omega arith)) refl
 
-well_placed : (q place : ℕ) (documents : List Document) → q < place → place + length (flat_map document_bytes documents) < 2 ^ 31 → AreWellPlaced (Some (pos q)) (places_from place documents)
+well_placed : (q place : ℕ) (documents : List StoredDocument) → q < place → place + length (flat_map document_bytes documents) < 2 ^ 31 → AreWellPlaced (Some (pos q)) (places_from place documents)
 well_placed q place [] lt short = tt
 well_placed q place (d ∷ ds) lt short =
     let here : place < 2 ^ 31 = omega (arith, short, length-append (document_bytes d) (flat_map document_bytes ds)) in
@@ -54,7 +54,7 @@ well_placed q place (d ∷ ds) lt short =
     let rest : place + length (document_bytes d) + length (flat_map document_bytes ds) < 2 ^ 31 = omega (arith, short, length-append (document_bytes d) (flat_map document_bytes ds)) in
     (later_place q place lt here, here, well_placed place (place + length (document_bytes d)) ds next rest)
 
-first_placed : (documents : List Document) → header_length + length (flat_map document_bytes documents) < 2 ^ 31 → AreWellPlaced None (places_from header_length documents)
+first_placed : (documents : List StoredDocument) → header_length + length (flat_map document_bytes documents) < 2 ^ 31 → AreWellPlaced None (places_from header_length documents)
 first_placed [] short = tt
 first_placed (d ∷ ds) short =
     let next : header_length < header_length + length (document_bytes d) = omega (arith, document_some d) in
@@ -74,10 +74,10 @@ writes_places (p ∷ ps) front place h =
     (writes_places ps (front ++ pos p ∷ []) (place + length (place_bytes p)) rest))
 
 -- the places of written documents
-abbrev pub places_of : List Document → List ℤ
+abbrev pub places_of : List StoredDocument → List ℤ
 places_of documents = map pos (places_from header_length documents)
 
-pub fdx_writes : (window : Window) (documents : List Document) → length (fdt_bytes documents) < 2 ^ 31 → window.offset + window.count ≤ length documents
+pub fdx_writes : (window : Window) (documents : List StoredDocument) → length (fdt_bytes documents) < 2 ^ 31 → window.offset + window.count ≤ length documents
     → Writes (fdx_plan (length documents) window) 0 (fdx_bytes documents) (places_of documents)
 fdx_writes window documents short within =
     let four : length (spelling int32 store_format) ≡ 4 = refl in
@@ -93,12 +93,12 @@ fdx_writes window documents short within =
 
 -- ---- the documents
 
-writes_document : (asked : Bool) (fields : ℕ) (wanted : ℤ) (front : List Document) (d : Document) (place : ℕ) → wanted ≡ pos place → IsStorableDocument d → All (IsField asked fields) d
+writes_document : (asked : Bool) (fields : ℕ) (wanted : ℤ) (front : List StoredDocument) (d : StoredDocument) (place : ℕ) → wanted ≡ pos place → IsStorableDocument d → All (IsField asked fields) d
     → Writes (document_at asked fields wanted front) place (document_bytes d) (front ++ d ∷ [])
 writes_document asked fields wanted front d place is storable there =
     let n = length d in
     let kind = values_kind asked fields in
-    let all : List Document = front ++ d ∷ [] in
+    let all : List StoredDocument = front ++ d ∷ [] in
     let here = place + length (spelling num n) in
     let values : Writes (times kind n []) here (flat_map value_bytes d) d = writes_values asked fields d [] here storable.1 there in
     let body : Writes (and_then (times kind n []) (λ values. done (front ++ values ∷ []))) here (flat_map value_bytes d) all =
@@ -117,12 +117,12 @@ at_length {A} xs y ys d n is = ap (λ (k : ℕ). get_or (xs ++ y ∷ ys) k d) (s
     go [] = refl
     go (x ∷ xs) = go xs
 
-writes_all : (window : Window) (fields : ℕ) (places : List ℤ) (ds front : List Document) (passed : List ℤ) (place : ℕ) → places ≡ passed ++ map pos (places_from place ds) → length passed ≡ length front → AreStorable ds
+writes_all : (window : Window) (fields : ℕ) (places : List ℤ) (ds front : List StoredDocument) (passed : List ℤ) (place : ℕ) → places ≡ passed ++ map pos (places_from place ds) → length passed ≡ length front → AreStorable ds
     → ((i : ℕ) → i < length ds → is_within window (length front + i) ≡ true → HasFields fields (get_or ds i []))
     → Writes (each (next_document window fields places) (length ds) front) place (flat_map document_bytes ds) (front ++ ds)
 unfolding each
 writes_all window fields places [] front passed place is long storable named =
-    subst (λ (all : List Document). Writes (each (next_document window fields places) 0 front) place [] all) (sym (append-nil front)) (Writes-none (next_document window fields places) place front)
+    subst (λ (all : List StoredDocument). Writes (each (next_document window fields places) 0 front) place [] all) (sym (append-nil front)) (Writes-none (next_document window fields places) place front)
 writes_all window fields places (d ∷ ds) front passed place is long storable named =
     let asked = is_within window (length front) in
     let wanted : ℤ = get_or places (length front) (pos 0) in
@@ -134,12 +134,12 @@ writes_all window fields places (d ∷ ds) front passed place is long storable n
     let longer : length (passed ++ pos place ∷ []) ≡ length (front ++ d ∷ []) = omega (arith, long, length-append passed (pos place ∷ []), length-append front (d ∷ [])) in
     let later : (i : ℕ) → i < length ds → is_within window (length (front ++ d ∷ []) + i) ≡ true → HasFields fields (get_or ds i []) =
     λ i lt holds. named (suc i) (omega arith) (ap (is_within window) (let e : length front + suc i ≡ length (front ++ d ∷ []) + i = omega (arith, length-append front (d ∷ [])) in e) ∙ holds) in
-    subst (λ (all : List Document). Writes (each (next_document window fields places) (suc (length ds)) front) place (document_bytes d ++ flat_map document_bytes ds) all) (append_assoc front (d ∷ []) ds)
+    subst (λ (all : List StoredDocument). Writes (each (next_document window fields places) (suc (length ds)) front) place (document_bytes d ++ flat_map document_bytes ds) all) (append_assoc front (d ∷ []) ds)
     (Writes-and_then (next_document window fields places front) (each (next_document window fields places) (length ds)) place (document_bytes d) (flat_map document_bytes ds) (front ++ d ∷ []) ((front ++ d ∷ []) ++ ds) first
     (writes_all window fields places ds (front ++ d ∷ []) (passed ++ pos place ∷ []) (place + length (document_bytes d)) behind longer (all_tail IsStorableDocument d ds storable) later))
 
 -- the fields of a document in the window are there
-named_within : (fields : ℕ) (window : Window) (documents : List Document) → IsCheckable fields window documents → (i : ℕ) → is_within window i ≡ true → HasFields fields (get_or documents i [])
+named_within : (fields : ℕ) (window : Window) (documents : List StoredDocument) → IsCheckable fields window documents → (i : ℕ) → is_within window i ≡ true → HasFields fields (get_or documents i [])
 named_within fields window documents h i holds = go (nat_le window.offset i) (nat_lt i (window.offset + window.count)) refl refl holds
   where
     go : (a b : Bool) → nat_le window.offset i ≡ a → nat_lt i (window.offset + window.count) ≡ b → a && b ≡ true → HasFields fields (get_or documents i [])
@@ -155,7 +155,7 @@ named_within fields window documents h i holds = go (nat_le window.offset i) (na
         get_or-take window.count (drop window.offset documents) k [] inside ∙ get_or-drop window.offset documents k [] ∙ ap (λ (j : ℕ). get_or documents j []) back in
         subst (HasFields fields) same (h.named k [] (omega (arith, h.within, length-take window.count (drop window.offset documents), length-drop window.offset documents)))
 
-pub fdt_writes : (fields : ℕ) (window : Window) (documents : List Document) → AreStorable documents → IsCheckable fields window documents → Writes (fdt_plan window fields (places_of documents)) 0 (fdt_bytes documents) documents
+pub fdt_writes : (fields : ℕ) (window : Window) (documents : List StoredDocument) → AreStorable documents → IsCheckable fields window documents → Writes (fdt_plan window fields (places_of documents)) 0 (fdt_bytes documents) documents
 fdt_writes fields window documents storable h =
     let places = places_of documents in
     let fits : FitsSigned w32 store_format = record { sfits = omega arith } in
@@ -171,7 +171,7 @@ fdt_writes fields window documents storable h =
     map_long (p ∷ ps) = ap suc (map_long ps)
 
 -- both files are read as the documents
-pub read_back : (fields : ℕ) (window : Window) (documents : List Document) → AreStorable documents → IsCheckable fields window documents
+pub read_back : (fields : ℕ) (window : Window) (documents : List StoredDocument) → AreStorable documents → IsCheckable fields window documents
     → (read_file (fdx_plan (length documents) window) (fdx_bytes documents) ≡ Ok (places_of documents)) × (read_file (fdt_plan window fields (places_of documents)) (fdt_bytes documents) ≡ Ok documents)
 read_back fields window documents storable h = (
   read_file-Writes (fdx_plan (length documents) window) (fdx_bytes documents) (places_of documents) (fdx_writes window documents h.short h.within),

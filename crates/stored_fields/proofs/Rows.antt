@@ -10,7 +10,7 @@ use Rattle.lu_grammar.specs.Reading.{read, read_groups}
 use Rattle.lu_grammar.specs.Records.{record_at}
 use Rattle.lu_grammar.specs.Plans.{each, Broken, read_plan, read_file}
 use Rattle.lu_types.specs.StoredFields.{StoredField}
-use Rattle.stored_fields.specs.Values.{Document}
+use Rattle.stored_fields.specs.Values.{StoredDocument}
 use Rattle.stored_fields.specs.Places.{fdx_plan}
 use Rattle.stored_fields.specs.Documents.{fdt_plan}
 
@@ -23,7 +23,7 @@ whole = record { offset = 0; count = 1 }
 abbrev places : List ℕ → Result (List ℤ) Broken
 places bytes = read_file (fdx_plan 1 whole) bytes
 
-abbrev documents : List ℕ → Result (List Document) Broken
+abbrev documents : List ℕ → Result (List StoredDocument) Broken
 documents bytes = read_file (fdt_plan whole 2 (pos 4 ∷ [])) bytes
 
 -- `.fdx` of one document
@@ -78,7 +78,7 @@ three_places = pos 4 ∷ pos 8 ∷ pos 12 ∷ []
 abbrev three : List ℕ
 three = 0 ∷ 0 ∷ 0 ∷ 2 ∷ 1 ∷ 9 ∷ 2 ∷ 0 ∷ 1 ∷ 1 ∷ 2 ∷ 0 ∷ 1 ∷ 9 ∷ 2 ∷ 0 ∷ []
 
-abbrev empty_value : ℕ → Document
+abbrev empty_value : ℕ → StoredDocument
 empty_value field = record { field = field; tokenized = false; value = Binary [] } ∷ []
 
 window_good : read_file (fdt_plan (record { offset = 1; count = 1 }) 2 three_places) three ≡ Ok (empty_value 9 ∷ empty_value 1 ∷ empty_value 9 ∷ [])
@@ -117,7 +117,7 @@ fdt_cuts = refl
 
 -- ---- what is written
 
-hello : List Document
+hello : List StoredDocument
 hello = (record { field = 0; tokenized = true; value = Text (codes "hello world") } ∷ []) ∷ []
 
 written_fdx : fdx_bytes hello ≡ fdx

@@ -11,11 +11,10 @@ use Rattle.lu_grammar.specs.Records.{first_broken}
 use Rattle.lu_grammar.specs.Plans.{Plan, done, and_then, times, each, read_plan, read_file}
 use Rattle.lu_grammar.specs.Meaning.{bytes_of}
 use Rattle.lu_grammar.proofs.Parts.{IsBytes-drop}
-use Rattle.lu_grammar.proofs.Codecs.{ok_pair, same_pair, ok_of, reads-read_plan, read_plan-and_then, then_ok, record_at-was, alone_was, due_was, file_was}
-use Rattle.stored_fields.specs.Values.{Document}
+use Rattle.lu_grammar.proofs.Codecs.{ok_pair, same_pair, ok_of, reads-read_plan, read_plan-and_then, then_ok, record_at-was, alone_was, due_was, file_was, int32_read}
+use Rattle.stored_fields.specs.Values.{StoredDocument}
 use Rattle.stored_fields.specs.Documents.{format, count, count_of, header_shape, format_conditions, count_shape, start_conditions, values_kind, is_within, document_at, next_document, fdt_plan}
 use Rattle.stored_fields.specs.Remaining.{values_at}
-use Rattle.stored_fields.proofs.FixedLemmas.{int32_read}
 use Rattle.stored_fields.proofs.ValueLemmas.{values_read}
 
 -- the cursor stands in the file
@@ -35,7 +34,7 @@ on_behind plan bytes c v d fits on e =
     }
 
 -- a document with these values stands at the place
-pub record Stands (fdt : List ℕ) (wanted : ℤ) (values : Document) : Type 0 where
+pub record Stands (fdt : List ℕ) (wanted : ℤ) (values : StoredDocument) : Type 0 where
   pub here : Cursor
   pub on : IsOn fdt here
   pub place : pos here.place ≡ wanted
@@ -53,8 +52,8 @@ not_elsewhere place wanted e = go (int_eq (pos place) wanted) refl e
     go false is h = cc
 
 -- a document that was read stands there
-record Was (asked : Bool) (fields : ℕ) (wanted : ℤ) (documents : List Document) (c : Cursor) (all : List Document) : Type 0 where
-  values : Document
+record Was (asked : Bool) (fields : ℕ) (wanted : ℤ) (documents : List StoredDocument) (c : Cursor) (all : List StoredDocument) : Type 0 where
+  values : StoredDocument
   all_is : all ≡ documents ++ values ∷ []
   place : pos c.place ≡ wanted
   number : ℕ
@@ -62,7 +61,7 @@ record Was (asked : Bool) (fields : ℕ) (wanted : ℤ) (documents : List Docume
   counted : read_part num c ≡ ok_pair number from
   values_there : values_at number from ≡ Ok values
 
-document_was : (asked : Bool) (fields : ℕ) (wanted : ℤ) (documents : List Document) (c : Cursor) (x : List Document × Cursor) → read_plan (document_at asked fields wanted documents) c ≡ ok_of x → Was asked fields wanted documents c x.0
+document_was : (asked : Bool) (fields : ℕ) (wanted : ℤ) (documents : List StoredDocument) (c : Cursor) (x : List StoredDocument × Cursor) → read_plan (document_at asked fields wanted documents) c ≡ ok_of x → Was asked fields wanted documents c x.0
 unfolding read_plan
 document_was asked fields wanted documents c x e =
     let kind = values_kind asked fields in
@@ -80,17 +79,17 @@ document_was asked fields wanted documents c x e =
       number = part.0;
       from = head.0.1;
       counted = part.1;
-      values_there = ap (λ (n : ℕ). values_at n head.0.1) (sym many) ∙ values.2 ∙ ap (λ (vs : Document). ok_of vs) (sym values.1);
+      values_there = ap (λ (n : ℕ). values_at n head.0.1) (sym many) ∙ values.2 ∙ ap (λ (vs : StoredDocument). ok_of vs) (sym values.1);
     }
 
 -- the documents that were read, after those in front, stand at their places
-record Stood (fdt : List ℕ) (places : List ℤ) (number : ℕ) (front documents : List Document) : Type 0 where
-  more : List Document
+record Stood (fdt : List ℕ) (places : List ℤ) (number : ℕ) (front documents : List StoredDocument) : Type 0 where
+  more : List StoredDocument
   all : documents ≡ front ++ more
   many : length more ≡ number
   at : (i : ℕ) → i < number → Stands fdt (get_or places (length front + i) (pos 0)) (get_or more i [])
 
-stood : (window : Window) (fields : ℕ) (places : List ℤ) (fdt : List ℕ) → IsBytes fdt → (number : ℕ) (front : List Document) (c d : Cursor) (documents : List Document) → IsOn fdt c
+stood : (window : Window) (fields : ℕ) (places : List ℤ) (fdt : List ℕ) → IsBytes fdt → (number : ℕ) (front : List StoredDocument) (c d : Cursor) (documents : List StoredDocument) → IsOn fdt c
     → read_plan (each (next_document window fields places) number front) c ≡ ok_pair documents d → Stood fdt places number front documents
 unfolding each read_plan
 stood window fields places fdt fits zero front c d documents on e =
@@ -105,24 +104,24 @@ stood window fields places fdt fits (suc n) front c d documents on e =
     let long : length first.0.0 ≡ length front + 1 = omega (arith, ap length was.all_is, length-append front (was.values ∷ [])) in
     record {
       more = was.values ∷ rest.more;
-      all = rest.all ∙ ap (λ (t : List Document). t ++ rest.more) was.all_is ∙ append_assoc front (was.values ∷ []) rest.more;
+      all = rest.all ∙ ap (λ (t : List StoredDocument). t ++ rest.more) was.all_is ∙ append_assoc front (was.values ∷ []) rest.more;
       many = ap suc rest.many;
       at = at_each n was.values rest.more (length front) (length first.0.0) long
           (record { here = c; on = on; place = was.place; number = was.number; from = was.from; counted = was.counted; values_there = was.values_there }) rest.at;
     }
   where
-    at_each : (n : ℕ) (values : Document) (more : List Document) (k m : ℕ) → m ≡ k + 1 → Stands fdt (get_or places k (pos 0)) values
+    at_each : (n : ℕ) (values : StoredDocument) (more : List StoredDocument) (k m : ℕ) → m ≡ k + 1 → Stands fdt (get_or places k (pos 0)) values
         → ((i : ℕ) → i < n → Stands fdt (get_or places (m + i) (pos 0)) (get_or more i [])) → (i : ℕ) → i < suc n → Stands fdt (get_or places (k + i) (pos 0)) (get_or (values ∷ more) i [])
     at_each n values more k m long first later zero lt = subst (λ (j : ℕ). Stands fdt (get_or places j (pos 0)) values) (let j : k ≡ k + 0 = omega arith in j) first
     at_each n values more k m long first later (suc i) lt =
         subst (λ (j : ℕ). Stands fdt (get_or places j (pos 0)) (get_or more i [])) (let j : m + i ≡ k + suc i = omega arith in j) (later i (omega arith))
 
 -- all documents stand at their places
-pub record AllStand (fdt : List ℕ) (places : List ℤ) (documents : List Document) : Type 0 where
+pub record AllStand (fdt : List ℕ) (places : List ℤ) (documents : List StoredDocument) : Type 0 where
   pub many : length documents ≡ length places
   pub at : (i : ℕ) → i < length places → Stands fdt (get_or places i (pos 0)) (get_or documents i [])
 
-pub all_stand : (window : Window) (fields : ℕ) (places : List ℤ) (fdt : List ℕ) (documents : List Document) → IsBytes fdt → read_file (fdt_plan window fields places) fdt ≡ ok_of documents → AllStand fdt places documents
+pub all_stand : (window : Window) (fields : ℕ) (places : List ℤ) (fdt : List ℕ) (documents : List StoredDocument) → IsBytes fdt → read_file (fdt_plan window fields places) fdt ≡ ok_of documents → AllStand fdt places documents
 all_stand window fields places fdt documents fits e =
     let file = file_was (fdt_plan window fields places) fdt documents e in
     let head = due_was header_shape (λ _ r. format_conditions r) (λ _ _. each (next_document window fields places) (length places) []) (start_of fdt) (documents, file.0) file.1 in
@@ -135,5 +134,5 @@ all_stand window fields places fdt documents fits e =
       many = ap length walk.all ∙ walk.many;
       at = λ i lt.
           subst (λ (j : ℕ). Stands fdt (get_or places j (pos 0)) (get_or documents i [])) (let j : 0 + i ≡ i = omega arith in j)
-          (subst (λ (ds : List Document). Stands fdt (get_or places (0 + i) (pos 0)) (get_or ds i [])) (sym walk.all) (walk.at i lt));
+          (subst (λ (ds : List StoredDocument). Stands fdt (get_or places (0 + i) (pos 0)) (get_or ds i [])) (sym walk.all) (walk.at i lt));
     }

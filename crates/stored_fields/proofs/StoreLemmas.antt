@@ -8,15 +8,15 @@ use Rattle.lu_grammar.specs.Reading.{read, read_part, value_or}
 use Rattle.lu_grammar.specs.declared.bad.Bad.{Bad}
 use Rattle.stored_fields.specs.Remaining.{values_at}
 use Rattle.lu_grammar.specs.Meaning.{Reads}
-use Rattle.lu_grammar.proofs.Codecs.{ok_of, err_is_not_ok, same_pair, read_file-Reads}
+use Rattle.lu_grammar.proofs.Codecs.{ok_of, err_is_not_ok, same_pair, read_file-Reads, settled}
 use Rattle.lu_grammar.proofs.Records.{at}
 use Rattle.std.specs.Prelude.{All}
+use Rattle.lu_types.specs.Stores.{windowed}
 use Rattle.stored_fields.proofs.OnlyFiles.{windowed_named}
-use Rattle.stored_fields.specs.Values.{Document, HasFields}
+use Rattle.stored_fields.specs.Values.{StoredDocument, HasFields}
 use Rattle.stored_fields.specs.Places.{fdx_plan}
 use Rattle.stored_fields.specs.Documents.{fdt_plan}
-use Rattle.stored_fields.specs.Stores.{places_in, documents_in, windowed, HaveNoFault}
-use Rattle.stored_fields.proofs.SpotLemmas.{settled}
+use Rattle.stored_fields.specs.Stores.{places_in, documents_in, HaveNoFault}
 use Rattle.stored_fields.proofs.PlaceLemmas.{has_places, place_is}
 use Rattle.stored_fields.proofs.StandsLemmas.{IsOn, Stands, all_stand}
 
@@ -44,7 +44,7 @@ document_stands fields total window fdx fdt number s lt =
     let has = has_places total window fdx (places_in total window fdx) s.places in
     let stand = all_stand window fields (places_in total window fdx) fdt all s.bytes s.documents in
     let same : get_or (windowed window all) number [] ≡ get_or all (window.offset + number) [] = get_or-take window.count (drop window.offset all) number [] lt ∙ get_or-drop window.offset all number [] in
-    subst (λ (d : Document). Stands fdt (get_or (places_in total window fdx) (window.offset + number) (pos 0)) d) (sym same) (stand.at (window.offset + number) (omega (arith, has.within, has.many)))
+    subst (λ (d : StoredDocument). Stands fdt (get_or (places_in total window fdx) (window.offset + number) (pos 0)) d) (sym same) (stand.at (window.offset + number) (omega (arith, has.within, has.many)))
 
 -- ---- what reading a document needs
 
@@ -64,7 +64,7 @@ stands_here fields total window fdx fdt number z s lt e =
     subst (λ (w : ℤ). Stands fdt w (get_or (windowed window (documents_in fields total window fdx fdt)) number [])) is (document_stands fields total window fdx fdt number s lt)
 
 -- a number of a document in the view is in the window
-pub number_in_window : (fields total : ℕ) (window : Window) (fdx fdt : List ℕ) (number : ℕ) (view : List Document) → HaveNoFault fields total window fdx fdt → windowed window (documents_in fields total window fdx fdt) ≡ view
+pub number_in_window : (fields total : ℕ) (window : Window) (fdx fdt : List ℕ) (number : ℕ) (view : List StoredDocument) → HaveNoFault fields total window fdx fdt → windowed window (documents_in fields total window fdx fdt) ≡ view
     → number < length view → number < window.count
 number_in_window fields total window fdx fdt number view s is lt = omega (arith, windowed_many fields total window fdx fdt s, ap length is)
 
@@ -72,10 +72,10 @@ number_in_window fields total window fdx fdt number view s is lt = omega (arith,
 same_cursor : (fdt : List ℕ) (c d : Cursor) → IsOn fdt d → c ≡ record { place = d.place; rest = drop d.place fdt } → c ≡ d
 same_cursor fdt c d on is = is ∙ ap (λ (t : List ℕ). at d.place t) (sym on.rest)
 
-pub not_counted : (fdt : List ℕ) (wanted : ℤ) (values : Document) (there : Stands fdt wanted values) (c : Cursor) (bad : Bad) → c ≡ record { place = there.here.place; rest = drop there.here.place fdt } → read_part num c ≡ Err bad → ⊥
+pub not_counted : (fdt : List ℕ) (wanted : ℤ) (values : StoredDocument) (there : Stands fdt wanted values) (c : Cursor) (bad : Bad) → c ≡ record { place = there.here.place; rest = drop there.here.place fdt } → read_part num c ≡ Err bad → ⊥
 not_counted fdt wanted values there c bad is e = err_is_not_ok (sym e ∙ ap (read_part num) (same_cursor fdt c there.here there.on is) ∙ there.counted)
 
-pub document_values : (fdt : List ℕ) (wanted : ℤ) (values : Document) (there : Stands fdt wanted values) (c : Cursor) (left : ℕ) (next : Cursor) → c ≡ record { place = there.here.place; rest = drop there.here.place fdt } → read_part num c ≡ Ok (left, next)
+pub document_values : (fdt : List ℕ) (wanted : ℤ) (values : StoredDocument) (there : Stands fdt wanted values) (c : Cursor) (left : ℕ) (next : Cursor) → c ≡ record { place = there.here.place; rest = drop there.here.place fdt } → read_part num c ≡ Ok (left, next)
     → (values_at left next ≡ Ok (value_or [] (values_at left next))) × (value_or [] (values_at left next) ≡ values)
 document_values fdt wanted values there c left next is e =
     let p = same_pair left there.number next there.from (sym e ∙ ap (read_part num) (same_cursor fdt c there.here there.on is) ∙ there.counted) in

@@ -8,7 +8,7 @@ use Rattle.lu_grammar.specs.Records.{whole, read_shape}
 use Rattle.lu_grammar.specs.Plans.{one, times, each, read_plan}
 use Rattle.lu_grammar.proofs.Codecs.{ok_pair, same_pair, ok_of, err_is_not_ok, read_plan-and_then, then_ok, record_at-was}
 use Rattle.lu_grammar.proofs.Loops.{read_shape-followed, one-was}
-use Rattle.stored_fields.specs.Values.{Document, StoredEntry, stored_entry_shape, stored}
+use Rattle.stored_fields.specs.Values.{StoredDocument, StoredEntry, stored_entry_shape, stored}
 use Rattle.stored_fields.specs.Documents.{FdtRecord, value, value_shape, value_conditions, with_value, values_kind}
 use Rattle.stored_fields.specs.Remaining.{values_at}
 
@@ -41,13 +41,13 @@ one_more (suc n) c lt e =
       entry = first.0.0;
       next = first.0.1;
       read = first.1;
-      later = ap (λ (k : ℕ). values_at k first.0.1) (sym back) ∙ second.1 ∙ ap (λ (vs : Document). ok_of vs) (sym rest ∙ ap (λ (k : ℕ). value_or [] (values_at k first.0.1)) back);
-      all = sym (same_ok second.2) ∙ ap (λ (vs : Document). stored first.0.0 ∷ vs) (sym rest ∙ ap (λ (k : ℕ). value_or [] (values_at k first.0.1)) back);
+      later = ap (λ (k : ℕ). values_at k first.0.1) (sym back) ∙ second.1 ∙ ap (λ (vs : StoredDocument). ok_of vs) (sym rest ∙ ap (λ (k : ℕ). value_or [] (values_at k first.0.1)) back);
+      all = sym (same_ok second.2) ∙ ap (λ (vs : StoredDocument). stored first.0.0 ∷ vs) (sym rest ∙ ap (λ (k : ℕ). value_or [] (values_at k first.0.1)) back);
     }
 
 -- the values that were read among the records of a document stand there
-pub values_read : (asked : Bool) (fields n : ℕ) (front : Document) (c d : Cursor) (all : Document) → read_plan (times (values_kind asked fields) n front) c ≡ ok_pair all d
-    → (more : Document) × (all ≡ front ++ more) × (values_at n c ≡ Ok more)
+pub values_read : (asked : Bool) (fields n : ℕ) (front : StoredDocument) (c d : Cursor) (all : StoredDocument) → read_plan (times (values_kind asked fields) n front) c ≡ ok_pair all d
+    → (more : StoredDocument) × (all ≡ front ++ more) × (values_at n c ≡ Ok more)
 unfolding each read_plan values_at
 values_read asked fields zero front c d all e = let p = same_pair front all c d e in ([], sym p.0 ∙ sym (append-nil front), refl)
 values_read asked fields (suc n) front c d all e =
@@ -59,8 +59,8 @@ values_read asked fields (suc n) front c d all e =
     let rest = values_read asked fields n first.0.0 first.0.1 d all first.2 in
     let state : first.0.0 ≡ front ++ stored entry.0 ∷ [] = sym was.2 ∙ ap (λ (r : FdtRecord). with_value front r) (sym entry.2) in (
       stored entry.0 ∷ rest.0,
-      rest.1 ∙ ap (λ (t : Document). t ++ rest.0) state ∙ append_assoc front (stored entry.0 ∷ []) rest.0,
-      ap (λ (r : Result (StoredEntry × Cursor) Bad). r >>= λ x. values_at n x.1 >>= λ values. ok_of (stored x.0 ∷ values)) entry.1 ∙ ap (λ (r : Result Document Bad). r >>= λ values. ok_of (stored entry.0 ∷ values)) rest.2,
+      rest.1 ∙ ap (λ (t : StoredDocument). t ++ rest.0) state ∙ append_assoc front (stored entry.0 ∷ []) rest.0,
+      ap (λ (r : Result (StoredEntry × Cursor) Bad). r >>= λ x. values_at n x.1 >>= λ values. ok_of (stored x.0 ∷ values)) entry.1 ∙ ap (λ (r : Result StoredDocument Bad). r >>= λ values. ok_of (stored entry.0 ∷ values)) rest.2,
     )
   where
     entry_was : (c : Cursor) (r : FdtRecord) (d : Cursor) → read_shape value_shape c ≡ ok_pair r d → (entry : StoredEntry) × (read_shape stored_entry_shape c ≡ ok_pair entry d) × (value entry ≡ r)

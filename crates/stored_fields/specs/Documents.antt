@@ -6,7 +6,7 @@ use Rattle.lu_types.specs.RuleNumbers as rules
 use Rattle.lu_grammar.specs.Parts.{num}
 use Rattle.lu_grammar.specs.Records.{Shape, whole, part, followed, Condition}
 use Rattle.lu_grammar.specs.Plans.{Plan, done, due, and_then, Kind, times, each}
-use Rattle.stored_fields.specs.Values.{Document, StoredEntry, stored_entry_shape, stored}
+use Rattle.stored_fields.specs.Values.{StoredDocument, StoredEntry, stored_entry_shape, stored}
 use Rattle.stored_fields.specs.Format.{bit_tokenized, bit_binary, format_shape, is_other_store_format}
 
 -- a record of `.fdt`: the format number, how many values a document has, or one of them
@@ -56,12 +56,12 @@ value_conditions asked fields (value entry) = stored_entry_conditions asked fiel
 value_conditions asked fields _ = []
 
 -- the values so far, and one more
-abbrev pub with_value : Document → FdtRecord → Document
+abbrev pub with_value : StoredDocument → FdtRecord → StoredDocument
 with_value values (value entry) = values ++ stored entry ∷ []
 with_value values _ = values
 
 -- the values of a document, after those so far
-abbrev pub values_kind : Bool → ℕ → Kind Document FdtRecord
+abbrev pub values_kind : Bool → ℕ → Kind StoredDocument FdtRecord
 values_kind asked fields = record {
   shape = λ _. value_shape;
   conditions = λ _ _ r. value_conditions asked fields r;
@@ -78,20 +78,20 @@ abbrev pub is_within : Window → ℕ → Bool
 is_within window number = nat_le window.offset number && nat_lt number (window.offset + window.count)
 
 -- a document, which starts at a place, and of whose values the fields are looked up or not
-abbrev pub document_plan : Bool → ℕ → ℤ → Plan Document FdtRecord
+abbrev pub document_plan : Bool → ℕ → ℤ → Plan StoredDocument FdtRecord
 document_plan asked fields wanted =
     due count_shape (λ place _. start_conditions wanted place) (λ _ r. times (values_kind asked fields) (count_of r) [])
 
 -- the same after the documents so far
-abbrev pub document_at : Bool → ℕ → ℤ → List Document → Plan (List Document) FdtRecord
+abbrev pub document_at : Bool → ℕ → ℤ → List StoredDocument → Plan (List StoredDocument) FdtRecord
 document_at asked fields wanted documents = and_then (document_plan asked fields wanted) (λ values. done (documents ++ values ∷ []))
 
 -- the next document of a store with these places
-abbrev pub next_document : Window → ℕ → List ℤ → List Document → Plan (List Document) FdtRecord
+abbrev pub next_document : Window → ℕ → List ℤ → List StoredDocument → Plan (List StoredDocument) FdtRecord
 next_document window fields places documents =
     document_at (is_within window (length documents)) fields (get_or places (length documents) (pos 0)) documents
 
 -- `.fdt` of a store with these places, of which a segment with so many fields takes the documents in the window: its header, and the documents
-abbrev pub fdt_plan : Window → ℕ → List ℤ → Plan (List Document) FdtRecord
+abbrev pub fdt_plan : Window → ℕ → List ℤ → Plan (List StoredDocument) FdtRecord
 fdt_plan window fields places =
     due header_shape (λ _ r. format_conditions r) (λ _ _. each (next_document window fields places) (length places) [])

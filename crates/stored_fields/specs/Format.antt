@@ -8,17 +8,9 @@ use Rattle.lu_grammar.specs.Records.{Shape, whole, part}
 abbrev pub store_format : ℤ
 store_format = pos 2
 
--- the bytes of the header of `.fdx`, and of that of `.fdt`
-abbrev pub header_length : ℕ
-header_length = 4
-
 -- the bytes of a place in `.fdx`
 abbrev pub place_length : ℕ
 place_length = 8
-
--- the greatest place that a document may have in `.fdt`: 2^31 - 1
-abbrev pub greatest_place : ℤ
-greatest_place = pos 2147483647
 
 -- the bit of a value that was tokenized
 abbrev pub bit_tokenized : ℕ

@@ -4,10 +4,10 @@ use Rattle.std.specs.List.{flat_map}
 use Rattle.lu_grammar.specs.Parts.{num, IsValue, spelling}
 use Rattle.lu_grammar.specs.Reading.{value_or}
 use Rattle.lu_grammar.specs.Plans.{Plan, done, due, and_then, times, each, read_file}
-use Rattle.stored_fields.specs.Values.{Document}
+use Rattle.stored_fields.specs.Values.{StoredDocument}
 use Rattle.stored_fields.specs.Documents.{FdtRecord, header_shape, count_of, count_shape, values_kind}
 use Rattle.stored_fields.specs.Stores.{total_of}
-use Rattle.stored_fields.specs.Writing.{IsStorable, AreStorable, value_bytes, fdt_bytes, place_bytes, fdx_bytes, OpenDocument, HeldDocuments}
+use Rattle.stored_fields.specs.Writing.{IsStorableField, AreStorable, value_bytes, fdt_bytes, place_bytes, fdx_bytes, OpenDocument, HeldDocuments}
 
 -- ---- which documents stand there
 
@@ -18,7 +18,7 @@ open_plan lacks =
     (λ _ r. and_then (times (values_kind false 0) (count_of r - lacks) []) (λ values. done (record { announced = count_of r; values = values })))
 
 -- one more document, with all of its values
-abbrev pub finished_plan : List Document → Plan (List Document) FdtRecord
+abbrev pub finished_plan : List StoredDocument → Plan (List StoredDocument) FdtRecord
 finished_plan documents = and_then (open_plan 0) (λ d. done (documents ++ d.values ∷ []))
 
 -- so many documents, the last of which lacks so many values
@@ -43,7 +43,7 @@ abbrev pub open_bytes : OpenDocument → List ℕ
 open_bytes d = spelling num d.announced ++ flat_map value_bytes d.values
 
 -- both files are the spelling of these finished documents and of the open one, which lacks so many values
-abbrev pub AreSpelled : List ℕ → List ℕ → ℕ → List Document → Option OpenDocument → Type 0
+abbrev pub AreSpelled : List ℕ → List ℕ → ℕ → List StoredDocument → Option OpenDocument → Type 0
 AreSpelled fdx fdt lacks finished None = (fdx ≡ fdx_bytes finished) × (fdt ≡ fdt_bytes finished) × (lacks ≡ 0)
 AreSpelled fdx fdt lacks finished (Some d) =
     (fdx ≡ fdx_bytes finished ++ place_bytes (length (fdt_bytes finished))) × (fdt ≡ fdt_bytes finished ++ open_bytes d)
@@ -52,7 +52,7 @@ AreSpelled fdx fdt lacks finished (Some d) =
 -- the open document, if there is one, has fewer than 2^31 values, and those so far can be stored
 abbrev pub IsStorableSoFar : Option OpenDocument → Type 0
 IsStorableSoFar None = Unit {0}
-IsStorableSoFar (Some d) = IsValue num d.announced × All IsStorable d.values
+IsStorableSoFar (Some d) = IsValue num d.announced × All IsStorableField d.values
 
 -- both files are the spelling of what is held, which can be stored
 abbrev pub AreHeld : List ℕ → List ℕ → ℕ → HeldDocuments → Type 0

@@ -7,7 +7,8 @@ use Rattle.lu_types.specs.RuleNumbers as rules
 use Rattle.lu_grammar.specs.Parts.{int64}
 use Rattle.lu_grammar.specs.Records.{Shape, whole, part, Condition}
 use Rattle.lu_grammar.specs.Plans.{Plan, due, Kind, times}
-use Rattle.stored_fields.specs.Format.{header_length, greatest_place, format_shape, is_other_store_format}
+use Rattle.lu_types.specs.Stores.{header_length, greatest_place}
+use Rattle.stored_fields.specs.Format.{format_shape, is_other_store_format}
 
 -- the window reaches past the documents of the store
 abbrev pub is_past_store : ℕ → Window → Bool
@@ -23,7 +24,7 @@ fdx_header_conditions total window z =
 -- a later one is not above the one before, or over the greatest
 abbrev pub is_misplaced : Option ℤ → ℤ → Bool
 is_misplaced None z = not (int_eq z (pos header_length))
-is_misplaced (Some before) z = int_le z before || int_lt greatest_place z
+is_misplaced (Some before) z = int_le z before || int_lt (pos greatest_place) z
 
 -- a place
 abbrev pub place_shape : Shape ℤ

@@ -9,11 +9,11 @@ use Rattle.lu_grammar.specs.Records.{Shape, whole, part, followed}
 use Rattle.stored_fields.specs.Format.{bit_tokenized, bit_binary}
 
 -- the values of a document, in order
-abbrev pub Document : Type 0
-Document = List StoredField
+abbrev pub StoredDocument : Type 0
+StoredDocument = List StoredField
 
 -- the fields of all values of a document are among so many
-abbrev pub HasFields : ℕ → Document → Type 0
+abbrev pub HasFields : ℕ → StoredDocument → Type 0
 HasFields fields values = All (λ v. v.field < fields) values
 
 -- a value as it stands in `.fdt`, with its bits

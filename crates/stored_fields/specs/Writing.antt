@@ -5,10 +5,10 @@ use Rattle.lu_types.specs.declared.stored.Stored.{Stored}
 use Rattle.lu_types.specs.declared.stored.Stored.TheVariants.{Text, Binary}
 use Rattle.lu_types.specs.declared.stored.Window.{Window}
 use Rattle.lu_grammar.specs.Parts.{int32, int64, num, bytes, text, IsValue, spelling}
-use Rattle.stored_fields.specs.Format.{store_format, header_length, bit_tokenized, bit_binary}
+use Rattle.stored_fields.specs.Format.{store_format, bit_tokenized, bit_binary}
 use Rattle.lu_types.specs.StoredFields.{StoredField}
-use Rattle.stored_fields.specs.Values.{Document, HasFields}
-use Rattle.stored_fields.specs.Stores.{windowed}
+use Rattle.lu_types.specs.Stores.{windowed, header_length}
+use Rattle.stored_fields.specs.Values.{StoredDocument, HasFields}
 
 -- ---- what can be written
 
@@ -18,15 +18,15 @@ IsStorableValue (Text t) = IsValue text t
 IsStorableValue (Binary bs) = IsValue num (length bs) × IsValue (bytes (length bs)) bs
 
 -- the number of the field is one, and the value can be stored
-abbrev pub IsStorable : StoredField → Type 0
-IsStorable v = IsValue num v.field × IsStorableValue v.value
+abbrev pub IsStorableField : StoredField → Type 0
+IsStorableField v = IsValue num v.field × IsStorableValue v.value
 
 -- fewer than 2^31 values, each of which can be stored
-abbrev pub IsStorableDocument : Document → Type 0
-IsStorableDocument values = IsValue num (length values) × All IsStorable values
+abbrev pub IsStorableDocument : StoredDocument → Type 0
+IsStorableDocument values = IsValue num (length values) × All IsStorableField values
 
 -- each of the documents can be stored
-abbrev pub AreStorable : List Document → Type 0
+abbrev pub AreStorable : List StoredDocument → Type 0
 AreStorable documents = All IsStorableDocument documents
 
 -- ---- how it is written
@@ -46,15 +46,15 @@ abbrev pub value_bytes : StoredField → List ℕ
 value_bytes v = spelling num v.field ++ (value_bits v.tokenized v.value ∷ content_bytes v.value)
 
 -- how many values a document has, and the values
-abbrev pub document_bytes : Document → List ℕ
+abbrev pub document_bytes : StoredDocument → List ℕ
 document_bytes values = spelling num (length values) ++ flat_map value_bytes values
 
 -- `.fdt` of documents
-abbrev pub fdt_bytes : List Document → List ℕ
+abbrev pub fdt_bytes : List StoredDocument → List ℕ
 fdt_bytes documents = spelling int32 store_format ++ flat_map document_bytes documents
 
 -- where the documents start, the first at this place
-abbrev pub places_from : ℕ → List Document → List ℕ
+abbrev pub places_from : ℕ → List StoredDocument → List ℕ
 places_from place [] = []
 places_from place (d ∷ ds) = place ∷ places_from (place + length (document_bytes d)) ds
 
@@ -63,12 +63,12 @@ abbrev pub place_bytes : ℕ → List ℕ
 place_bytes place = spelling int64 (pos place)
 
 -- `.fdx` of documents
-abbrev pub fdx_bytes : List Document → List ℕ
+abbrev pub fdx_bytes : List StoredDocument → List ℕ
 fdx_bytes documents = spelling int32 store_format ++ flat_map place_bytes (places_from header_length documents)
 
 -- a window of written documents can be checked: their places are below 2^31, the window is in the store, and the fields of its
 -- documents are among so many
-pub record IsCheckable (fields : ℕ) (window : Window) (documents : List Document) : Type 0 where
+pub record IsCheckable (fields : ℕ) (window : Window) (documents : List StoredDocument) : Type 0 where
   pub short : length (fdt_bytes documents) < 2 ^ 31
   pub within : window.offset + window.count ≤ length documents
   pub named : All (HasFields fields) (windowed window documents)
@@ -78,15 +78,15 @@ pub record IsCheckable (fields : ℕ) (window : Window) (documents : List Docume
 -- a document that lacks values: how many it is to have, and those so far
 pub record OpenDocument : Type 0 where
   pub announced : ℕ
-  pub values : Document
+  pub values : StoredDocument
 
 -- the finished documents, and the one that is open, if there is one
 pub record HeldDocuments : Type 0 where
-  pub finished : List Document
+  pub finished : List StoredDocument
   pub opened : Option OpenDocument
 
 -- a document after others: open until it has all of its values, and finished then
-abbrev pub with_document : List Document → OpenDocument → HeldDocuments
+abbrev pub with_document : List StoredDocument → OpenDocument → HeldDocuments
 with_document finished d =
     if length d.values == d.announced then record { finished = finished ++ d.values ∷ []; opened = None }
     else record { finished = finished; opened = Some d }
@@ -100,7 +100,7 @@ abbrev pub one_longer : StoredField → OpenDocument → OpenDocument
 one_longer v d = record { announced = d.announced; values = d.values ++ v ∷ [] }
 
 -- an open document with one more value, after others; nothing more where none is open
-abbrev pub with_longer : StoredField → List Document → Option OpenDocument → HeldDocuments
+abbrev pub with_longer : StoredField → List StoredDocument → Option OpenDocument → HeldDocuments
 with_longer v finished None = record { finished = finished; opened = None }
 with_longer v finished (Some d) = with_document finished (one_longer v d)
 

@@ -19,11 +19,11 @@ pub struct StoredDoc<'a> {
 
 impl<'a> Model for StoredDoc<'a> {
     ghost use Rattle.std.specs.Prelude.{◌≡◌, [], Ok};
-    ghost use Rattle.stored_fields.specs.Values.{Document};
+    ghost use Rattle.stored_fields.specs.Values.{StoredDocument};
     ghost use Rattle.lu_grammar.specs.Reading.{value_or};
     ghost use Rattle.stored_fields.specs.Remaining.{values_at};
 
-    ghost Value = { Document };
+    ghost Value = { StoredDocument };
 
     ghost view = { λ d. value_or [] (values_at d.left d.here) };
 

@@ -40,10 +40,11 @@ pub struct StoredView<'a> {
 
 impl<'a> Model for StoredView<'a> {
     ghost use Rattle.std.specs.Prelude.{◌≡◌, ◌+◌, ◌^◌, ◌<◌, List};
-    ghost use Rattle.stored_fields.specs.Values.{Document};
-    ghost use Rattle.stored_fields.specs.Stores.{documents_in, windowed, HaveNoFault};
+    ghost use Rattle.lu_types.specs.Stores.{windowed};
+    ghost use Rattle.stored_fields.specs.Values.{StoredDocument};
+    ghost use Rattle.stored_fields.specs.Stores.{documents_in, HaveNoFault};
 
-    ghost Value = { List Document };
+    ghost Value = { List StoredDocument };
 
     ghost view = { λ v. windowed v.window (documents_in v.fields v.total v.window v.fdx.now v.fdt.now) };
 

@@ -3,7 +3,7 @@ ghost use Rattle.std.specs.Prelude.{◌≡◌, ◌+◌, ◌-◌, ◌^◌, ◌<�
 ghost use Rattle.lu_types.specs.declared.stored.Stored.TheVariants as owned;
 ghost use Rattle.lu_types.specs.StoredFields.{StoredField};
 ghost use Rattle.stored_fields.specs.Entries.{value_of, lent_field};
-ghost use Rattle.stored_fields.specs.Writing.{IsStorable, value_bits, content_bytes, value_bytes, fdx_bytes, fdt_bytes, with_begun, with_stored, AreStorable};
+ghost use Rattle.stored_fields.specs.Writing.{IsStorableField, value_bits, content_bytes, value_bytes, fdx_bytes, fdt_bytes, with_begun, with_stored, AreStorable};
 
 use crate::layout::STORE_FORMAT;
 use crate::value::{BINARY, StoredRef, TOKENIZED, ValueRef};
@@ -134,7 +134,7 @@ impl StoredWriter {
     /// Adds a value to the open document.
     fn put(&mut self, value: StoredRef<'_>) -> Result<(), OutOfMemory>
         requires lacking { IsSome self.old.opened }
-        requires storable { IsStorable (lent_field value) }
+        requires storable { IsStorableField (lent_field value) }
         ensures ok { OnOk result (self.new ≡ with_stored (lent_field value.entry) self.old) }
         ensures err { OnErr result (self.new ≡ self.old) }
     {
@@ -176,7 +176,7 @@ fn push_binary(out: &mut Vec<u8>, bytes: &[u8]) -> Result<(), OutOfMemory>
 
 /// Appends a value. After an `Err` some of it may stand after what was there.
 fn push_value(out: &mut Vec<u8>, value: StoredRef<'_>) -> Result<(), OutOfMemory>
-    requires { IsStorable (lent_field value) }
+    requires { IsStorableField (lent_field value) }
     ensures ok { OnOk result (out.new.items ≡ out.old.items ++ value_bytes (lent_field value.entry)) }
     ensures err { OnErr result (take (vec_len out.old) out.new.items ≡ out.old.items) }
 {

@@ -5,14 +5,14 @@ use Rattle.std.proofs.lemmas.Bool.{le-ltb}
 use Rattle.std.specs.Str.{IsUtf8, is_utf8}
 use Rattle.std.specs.Ordering.{ordering_then, is_lt}
 use Rattle.std.specs.declared.cmp.Ordering.{Ordering}
-use Rattle.lu_prims.specs.Order.{text_cmp}
+use Rattle.lu_prims.specs.Order.{text_cmp, bytes_cmp}
 use Rattle.lu_grammar.proofs.Codecs.{first_broken-front, first_broken-after}
 use Rattle.lu_grammar.specs.Records.{Condition, first_broken}
+use Rattle.lu_prims.proofs.TextLemmas.{text_cmp-tail}
 use Rattle.lu_types.specs.Tables.{TableField}
 use Rattle.term_dict.specs.Entries.{TermRecord}
-use Rattle.term_dict.specs.Terms.{DictionaryTerm, last_term, term_after, is_above, bytes_cmp, field_of}
+use Rattle.term_dict.specs.Terms.{DictionaryTerm, last_term, term_after, is_above, field_of}
 use Rattle.term_dict.specs.Dictionary.{TermConditions, term_place_conditions, against, term_conditions}
-use Rattle.term_dict.proofs.OrderLemmas.{text_cmp-tail}
 
 -- a term whose text stands is judged by its segment and its places
 pub against-text : (standing : TermConditions) (before : List DictionaryTerm) (e : TermRecord) (t : DictionaryTerm) → e.prefix ≤ length (last_term before).text → is_utf8 t.text ≡ true

@@ -25,7 +25,7 @@ use Rattle.lu_types.specs.RuleNumbers as number
 use Rattle.lu_types.specs.Tables.{TableField}
 use Rattle.term_dict.specs.Headings.{header, heading_conditions, numbers_of, Line, heading_of, on_entry}
 use Rattle.term_dict.specs.Entries.{TermRecord, entry_shape}
-use Rattle.term_dict.specs.Terms.{DictionaryTerm, no_term, last_term, term_after, no_field, field_of, is_indexed, is_above, term_cmp}
+use Rattle.term_dict.specs.Terms.{DictionaryTerm, no_term, last_term, term_after, no_field, field_of, is_indexed, is_above, dictionary_term_cmp}
 use Rattle.term_dict.specs.Dictionary.{Dictionary, Progress, no_terms, with_term, within, is_past_files, term_conditions, term_kind, terms_plan, dictionary_plan, tis_plan}
 use Rattle.term_dict.specs.Facts.{IsTermOfSegment, AreGoodTerms}
 use Rattle.term_dict.proofs.FileLemmas.{finish, dictionary_of}
@@ -33,7 +33,7 @@ use Rattle.term_dict.proofs.DictionaryRead.{good_entry, grows, was_ended}
 
 -- ---- the order of terms
 
-pub term_order : (fields : List TableField) → IsTotalOrder (term_cmp fields)
+pub term_order : (fields : List TableField) → IsTotalOrder (dictionary_term_cmp fields)
 term_order fields =
     then_total (on_total (λ (t : DictionaryTerm). (field_of fields t.info.field).name) text_order) (on_total (λ (t : DictionaryTerm). t.text) text_order)
 
@@ -59,14 +59,14 @@ was_lt Equal e = cc
 was_lt Greater e = cc
 
 -- a term that is above the last of some terms that rise is above each of them
-above_all : (fields : List TableField) (before : List DictionaryTerm) (t : DictionaryTerm) → AllPairs (λ a b. term_cmp fields a b ≡ Less) before → is_above fields before t ≡ true → All (λ a. term_cmp fields a t ≡ Less) before
+above_all : (fields : List TableField) (before : List DictionaryTerm) (t : DictionaryTerm) → AllPairs (λ a b. dictionary_term_cmp fields a b ≡ Less) before → is_above fields before t ≡ true → All (λ a. dictionary_term_cmp fields a t ≡ Less) before
 above_all fields before t rise above = λ i d lt.
     let last = length before - 1 in
-    let least : term_cmp fields (last_term before) t ≡ Less = was_lt _ (some_are (eqb (length before) 0) (is_lt (term_cmp fields (last_term before) t)) refl (λ none. omega (arith, none, lt)) above) in
+    let least : dictionary_term_cmp fields (last_term before) t ≡ Less = was_lt _ (some_are (eqb (length before) 0) (is_lt (dictionary_term_cmp fields (last_term before) t)) refl (λ none. omega (arith, none, lt)) above) in
     let here : get_or before last d ≡ last_term before = get_or_default before last d no_term (omega (arith, lt)) in
     elim (cases_eq i last) [
-      | inl e ↦ subst (λ (a : DictionaryTerm). term_cmp fields a t ≡ Less) (sym (ap (λ (k : ℕ). get_or before k d) e ∙ here)) least
-      | inr ne ↦ (term_order fields).trans (get_or before i d) (last_term before) t (subst (λ (a : DictionaryTerm). term_cmp fields (get_or before i d) a ≡ Less) here (rise i last d (omega (arith, lt, ne)) (omega (arith, lt)))) least
+      | inl e ↦ subst (λ (a : DictionaryTerm). dictionary_term_cmp fields a t ≡ Less) (sym (ap (λ (k : ℕ). get_or before k d) e ∙ here)) least
+      | inr ne ↦ (term_order fields).trans (get_or before i d) (last_term before) t (subst (λ (a : DictionaryTerm). dictionary_term_cmp fields (get_or before i d) a ≡ Less) here (rise i last d (omega (arith, lt, ne)) (omega (arith, lt)))) least
     ]
   where
     some_are : (none above : Bool) → none ≡ eqb (length before) 0 → (length before ≡ 0 → ⊥) → (none || above) ≡ true → above ≡ true
@@ -127,7 +127,7 @@ no_skip interval c e d read =
 -- what is so of some terms, and where each starts
 pub record AreGoodSoFar (fields : List TableField) (documents interval : ℕ) (s : Progress) : Type 0 where
   pub each : All (IsTermOfSegment fields documents interval) s.terms
-  pub rise : AllPairs (λ a b. term_cmp fields a b ≡ Less) s.terms
+  pub rise : AllPairs (λ a b. dictionary_term_cmp fields a b ≡ Less) s.terms
 
 good_more : (fields : List TableField) (documents interval place : ℕ) (s : Progress) (c : Cursor) (e : TermRecord) (d : Cursor) → AreGoodSoFar fields documents interval s → read_shape (entry_shape false interval) c ≡ ok_pair e d
     → first_broken (term_conditions (within fields documents) s.terms e) ≡ None → AreGoodSoFar fields documents interval (with_term s place e)
@@ -148,7 +148,7 @@ good_more fields documents interval place s c e d h read good =
         prox = leb-false _ _ past.1;
         no_skip = no_skip interval c e d read;
       });
-      rise = AllPairs-push (λ a b. term_cmp fields a b ≡ Less) s.terms t h.rise (above_all fields s.terms t h.rise (holds (is_above fields s.terms t) all.3));
+      rise = AllPairs-push (λ a b. dictionary_term_cmp fields a b ≡ Less) s.terms t h.rise (above_all fields s.terms t h.rise (holds (is_above fields s.terms t) all.3));
     }
 
 good_line : (fields : List TableField) (documents interval : ℕ) (s : Progress) (c : Cursor) (line : Line TermRecord) (d : Cursor) → AreGoodSoFar fields documents interval s

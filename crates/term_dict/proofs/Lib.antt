@@ -10,7 +10,6 @@ pub mod LoopLemmas
 pub mod OrderLemmas
 mod Rows
 pub mod SpellingLemmas
-pub mod TextLemmas
 pub mod DictionaryRead
 pub mod WalkLemmas
 pub mod WriteLemmas

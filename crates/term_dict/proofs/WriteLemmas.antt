@@ -13,7 +13,7 @@ use Rattle.lu_grammar.proofs.Records.{at, Spells-followed}
 use Rattle.lu_grammar.proofs.Parts.{IsBytes-drop}
 use Rattle.lu_grammar.proofs.Writers.{Writes, Writes-none, Writes-record}
 use Rattle.term_dict.specs.Headings.{entry, on_entry}
-use Rattle.term_dict.specs.Entries.{TermRecord, entry_shape, field_number}
+use Rattle.term_dict.specs.Entries.{TermRecord, entry_shape, field_number_shape}
 use Rattle.term_dict.specs.Terms.{DictionaryTerm, no_term, last_term, term_after}
 use Rattle.term_dict.specs.Dictionary.{Progress, no_terms, with_term, terms_by}
 use Rattle.term_dict.specs.Canonical.{shared, entry_between, skip_delta_bytes, term_record_bytes, terms_bytes, starts_of}
@@ -95,7 +95,7 @@ pub record IsPlainEntry (any : Bool) (interval : ℕ) (e : TermRecord) : Type 0 
   pub prefix : e.prefix < 2 ^ 31
   pub count : length e.suffix < 2 ^ 31
   pub suffix : IsBytes e.suffix
-  pub field : Spells (field_number any) e.field (spelling vint e.field)
+  pub field : Spells (field_number_shape any) e.field (spelling vint e.field)
   pub doc_freq : e.doc_freq < 2 ^ 31
   pub freq : e.freq < 2 ^ 63
   pub prox : e.prox < 2 ^ 63
@@ -131,7 +131,7 @@ entry-spells any interval e h =
           after_suffix,
           (refl, h.suffix),
           refl,
-          Spells-followed (field_number any) _ e.field e (spelling vint e.field) after_field h.field (
+          Spells-followed (field_number_shape any) _ e.field e (spelling vint e.field) after_field h.field (
             e.doc_freq,
             after_freq,
             h.doc_freq,

@@ -18,14 +18,14 @@ pub record TermRecord : Type 0 where
   pub skip : ℕ
 
 -- the number of a field: any, or below 2^31
-abbrev pub field_number : Bool → Shape ℕ
-field_number true = part vint (λ n. whole n)
-field_number false = part num (λ n. whole n)
+abbrev pub field_number_shape : Bool → Shape ℕ
+field_number_shape true = part vint (λ n. whole n)
+field_number_shape false = part num (λ n. whole n)
 
 -- its parts, given whether any number of a field may stand, and the interval of skip data: SkipDelta stands exactly where DocFreq reaches the interval
 abbrev pub entry_shape : Bool → ℕ → Shape TermRecord
 entry_shape any interval =
-    part num (λ prefix. part num (λ count. part (bytes count) (λ suffix. followed (field_number any) (λ field. part num (λ doc_freq. part vlong (λ freq. part vlong (λ prox.
+    part num (λ prefix. part num (λ count. part (bytes count) (λ suffix. followed (field_number_shape any) (λ field. part num (λ doc_freq. part vlong (λ freq. part vlong (λ prox.
     optional (nat_le interval doc_freq) (part num (λ n. whole n)) (λ skip.
     whole (record { prefix = prefix; suffix = suffix; field = field; doc_freq = doc_freq; freq = freq; prox = prox; skip = unwrap_or skip 0 })))))))))
 

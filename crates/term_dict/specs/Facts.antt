@@ -3,7 +3,7 @@ use Rattle.std.specs.Prelude.{◌≡◌, ℕ, ◌<◌, ◌≤◌, ◌^◌, true,
 use Rattle.std.specs.declared.cmp.Ordering.TheVariants.{Less}
 use Rattle.std.specs.Str.{IsUtf8}
 use Rattle.lu_types.specs.Tables.{TableField}
-use Rattle.term_dict.specs.Terms.{DictionaryTerm, is_indexed, term_cmp}
+use Rattle.term_dict.specs.Terms.{DictionaryTerm, is_indexed, dictionary_term_cmp}
 use Rattle.term_dict.specs.Dictionary.{Dictionary}
 
 -- what a term of a segment with these fields and so many documents meets, where skip data start at so many documents
@@ -20,6 +20,6 @@ pub record IsTermOfSegment (fields : List TableField) (documents interval : ℕ)
 -- each term does, they rise by name and text, and there are as many terms and places as the numbers say
 pub record AreGoodTerms (fields : List TableField) (documents : ℕ) (d : Dictionary) : Type 0 where
   pub each : All (IsTermOfSegment fields documents d.numbers.skip_interval) d.terms
-  pub rise : AllPairs (λ a b. term_cmp fields a b ≡ Less) d.terms
+  pub rise : AllPairs (λ a b. dictionary_term_cmp fields a b ≡ Less) d.terms
   pub count : length d.terms ≡ d.numbers.count
   pub starts : length d.starts ≡ d.numbers.count

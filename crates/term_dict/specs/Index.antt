@@ -37,8 +37,8 @@ point_after terms zero = blank
 point_after terms (suc n) = slice_index_or terms n no_term
 
 -- what an entry stands for: the term before each interval of terms begins
-abbrev pub indexed_term : Dictionary → ℕ → DictionaryTerm
-indexed_term d i = point_after d.terms (i * d.numbers.index_interval)
+abbrev pub index_entry_term : Dictionary → ℕ → DictionaryTerm
+index_entry_term d i = point_after d.terms (i * d.numbers.index_interval)
 
 -- where this interval of terms starts
 abbrev pub indexed_place : Dictionary → ℕ → ℕ
@@ -87,7 +87,7 @@ index_against last place e wanted wanted_place =
 
 -- the conditions against the next entry
 abbrev pub index_conditions : Dictionary → IndexProgress → IndexEntry → List Condition
-index_conditions d s e = index_against s.last s.place e (indexed_term d s.passed) (indexed_place d s.passed)
+index_conditions d s e = index_against s.last s.place e (index_entry_term d s.passed) (indexed_place d s.passed)
 
 -- the records of entries
 abbrev pub index_kind : Dictionary → Kind IndexProgress (Line IndexEntry)

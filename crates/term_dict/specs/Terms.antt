@@ -1,9 +1,8 @@
 -- Terms, how each follows from the one before, and their order.
 use Rattle.std.specs.Prelude.{ℕ, ◌+◌, ◌-◌, ◌%◌, Bool, ◌||◌, ◌==◌, List, [], ◌++◌, length, take, slice_index_or}
 use Rattle.std.specs.declared.cmp.Ordering.{Ordering}
-use Rattle.std.specs.Ordering.{ordering_then, is_lt, nat_cmp}
-use Rattle.std.specs.Cmp.Lexicographic.{slice_cmp}
-use Rattle.lu_prims.specs.Order.{byte_rank, text_cmp}
+use Rattle.std.specs.Ordering.{ordering_then, is_lt}
+use Rattle.lu_prims.specs.Order.{text_cmp}
 use Rattle.lu_types.specs.declared.term.TermInfo.{TermInfo}
 use Rattle.lu_types.specs.Bits.{indexed, has_bit}
 use Rattle.lu_types.specs.Tables.{TableField}
@@ -42,13 +41,9 @@ abbrev pub is_indexed : List TableField → ℕ → Bool
 is_indexed fields number = has_bit indexed (field_of fields number).bits
 
 -- how two terms stand to each other: by the names of their fields, and then by their texts, in UTF-16 order
-abbrev pub term_cmp : List TableField → DictionaryTerm → DictionaryTerm → Ordering
-term_cmp fields a b = ordering_then (text_cmp (field_of fields a.info.field).name (field_of fields b.info.field).name) (text_cmp a.text b.text)
+abbrev pub dictionary_term_cmp : List TableField → DictionaryTerm → DictionaryTerm → Ordering
+dictionary_term_cmp fields a b = ordering_then (text_cmp (field_of fields a.info.field).name (field_of fields b.info.field).name) (text_cmp a.text b.text)
 
 -- the term is above all before, which rise
 abbrev pub is_above : List TableField → List DictionaryTerm → DictionaryTerm → Bool
-is_above fields before t = length before == 0 || is_lt (term_cmp fields (last_term before) t)
-
--- how the bytes after what two texts share stand to each other: by where the first that differ stand in UTF-16 order
-abbrev pub bytes_cmp : List ℕ → List ℕ → Ordering
-bytes_cmp a b = slice_cmp (λ x y. nat_cmp (byte_rank x) (byte_rank y)) a b
+is_above fields before t = length before == 0 || is_lt (dictionary_term_cmp fields (last_term before) t)

@@ -1,5 +1,5 @@
 //! The last term that was read, and how the next one follows from it.
-ghost use Rattle.std.specs.Prelude.{◌≡◌, ◌+◌, ◌^◌, ◌<◌, ◌≤◌, ◌++◌, ◌==◌, List, length, take, MatchOption, IfOk, OnOk, IsOk, None, vec_capacity};
+ghost use Rattle.std.specs.Prelude.{◌≡◌, ◌+◌, ◌^◌, ◌<◌, ◌≤◌, ◌++◌, ◌==◌, List, length, take, MatchOption, IfOk, OnOk, None, vec_capacity};
 ghost use Rattle.std.specs.Str.{IsUtf8, is_utf8};
 ghost use Rattle.lu_grammar.specs.Records.{first_broken};
 ghost use Rattle.term_dict.specs.Canonical.{shared};
@@ -9,9 +9,9 @@ ghost use Rattle.term_dict.specs.Dictionary.{within, term_place_conditions, term
 ghost use Rattle.term_dict.specs.Last.{term_of_last, IsSoundTerm, Fits};
 
 use crate::entry::TermEntry;
-use crate::order::{is_indexed, names_cmp, tail_cmp};
+use crate::order::{is_indexed, names_cmp};
 use crate::spelling::shared_len;
-use lu_prims::OutOfMemory;
+use lu_prims::{OutOfMemory, follow, follow_text, tail_cmp};
 use lu_types::rules::{DOC_FREQ, TERM_FIELD, TERM_ORDER, TERM_PLACE, TERM_PREFIX, TERM_UTF8};
 use lu_types::{FieldTable, TermInfo};
 use std::alloc::Global;
@@ -33,38 +33,6 @@ const NO_INFO: TermInfo = TermInfo {
 pub(crate) struct LastTerm {
     pub(crate) text: Vec<u8>,
     pub(crate) info: TermInfo,
-}
-
-/// The last place at or before the prefix where the text may be cut.
-fn cut_before(text: &[u8], prefix: usize) -> usize
-    requires { IsUtf8 text.now }
-    ensures bound { result ≤ prefix }
-    ensures front { IsUtf8 (take result text.now) }
-{
-    unsafe { str::from_utf8_unchecked(text) }.floor_char_boundary(prefix)
-}
-
-/// Whether the bytes are UTF-8, where those before a place are.
-fn is_text(bytes: &[u8], from: usize) -> bool
-    requires within { from ≤ length bytes.now }
-    requires front { IsUtf8 (take from bytes.now) }
-    ensures { result ≡ is_utf8 bytes.now }
-{
-    match str::from_utf8(bytes.split_at(from).1) {
-        Ok(_) => true,
-        Err(_) => false,
-    }
-}
-
-/// Keeps so many bytes of the text and appends the suffix. An `Err` leaves the text that was kept.
-pub fn follow(text: &mut Vec<u8>, prefix: usize, suffix: &[u8]) -> Result<(), OutOfMemory>
-    ensures ok { OnOk result (text.new.items ≡ take prefix text.old.items ++ suffix.now) }
-    ensures capacity { vec_capacity text.old ≤ vec_capacity text.new }
-    ensures room { prefix ≤ length text.old.items → prefix + length suffix.now ≤ vec_capacity text.old → IsOk result }
-{
-    text.truncate(prefix);
-    text.extend_from_slice(suffix)?;
-    Ok(())
 }
 
 /// The place that is so many bytes after another; `None` exactly where it is over 2^31 - 1.
@@ -186,9 +154,7 @@ impl LastTerm {
         ensures info { self.new.info ≡ self.old.info }
     {
         let prefix = entry.prefix as usize;
-        let cut = cut_before(self.text.as_slice(), prefix);
-        follow(&mut self.text, prefix, entry.suffix)?;
-        Ok(is_text(self.text.as_slice(), cut))
+        follow_text(&mut self.text, prefix, entry.suffix)
     }
 
     /// Makes what is said of the term what the entry says; or, where a place is over 2^31 - 1, answers the rule that it breaks.

@@ -16,7 +16,6 @@ pub use cursor::{NextTerm, TermCursor};
 pub use entry::{TermEntry, entry_at};
 pub use file::TermFile;
 pub use heading::{FORMAT, Heading, heading_at};
-pub use last::follow;
 pub use laws::{terms_are_good, written_index_is_read, written_is_read};
 pub use lu_types::{TermInfo, TermNumbers};
 pub use writer::{TermFiles, TermWriter};

@@ -2,7 +2,8 @@
 use Rattle.std.proofs.Common.{◌≡◌, ℕ, zero, suc, ◌+◌, ◌/◌, ◌<◌, ◌≤◌, Bool, true, false, eqb, min, refl, sym, ap, ◌∙◌, arith}
 use Rattle.std.specs.Prelude.{if◌then◌else◌}
 use Rattle.std.proofs.lemmas.Bool.{eqb-true, eqb-false, ne_eqb}
-use Rattle.term_index.specs.Seeking.{halvings, digits, ticked}
+use Rattle.lu_prims.specs.Steps.{ticked}
+use Rattle.term_index.specs.Seeking.{halvings, digits}
 
 halvings-zero : (turns : ℕ) → halvings turns 0 ≡ 0
 unfolding halvings
@@ -41,13 +42,3 @@ halvings-below (suc t) m n le = go (halvings-below t (m / 2) (n / 2) (omega (ari
 -- a greater number has no fewer digits
 pub digits-below : (m n : ℕ) → m ≤ n → digits m ≤ digits n
 digits-below m n le = omega (arith, halvings-enough m n m (omega arith) le, halvings-below n m n le)
-
--- ---- counts of steps
-
-pub ticked-add : (m n count : ℕ) → ticked (m + n) count ≡ ticked n (ticked m count)
-ticked-add zero n count = ap (λ (k : ℕ). ticked k count) (let e : 0 + n ≡ n = omega arith in e)
-ticked-add (suc m) n count = ap (λ (k : ℕ). ticked k count) (let e : suc m + n ≡ suc (m + n) = omega arith in e) ∙ ticked-add m n (min (count + 1) 18446744073709551615)
-
-pub ticked-below : (n count : ℕ) → ticked n count ≤ count + n
-ticked-below zero count = omega arith
-ticked-below (suc n) count = omega (arith, ticked-below n (min (count + 1) 18446744073709551615))

@@ -12,7 +12,7 @@ use Rattle.lu_types.specs.RuleNumbers as number
 use Rattle.term_dict.specs.Headings.{entry, on_entry}
 use Rattle.term_dict.specs.Terms.{DictionaryTerm, term_after}
 use Rattle.term_dict.specs.Dictionary.{Dictionary}
-use Rattle.term_dict.specs.Index.{IndexEntry, IndexProgress, index_shape, index_kind, index_against, index_conditions, indexed_term, indexed_place, same_info, same_term}
+use Rattle.term_dict.specs.Index.{IndexEntry, IndexProgress, index_shape, index_kind, index_against, index_conditions, index_entry_term, indexed_place, same_info, same_term}
 use Rattle.term_dict.specs.Checks.{record_of}
 use Rattle.term_dict.proofs.LineLemmas.{line_at-good, line_at-broken, line_at-unread}
 use Rattle.term_index.specs.Points.{progress, IsNextPoint}
@@ -68,19 +68,19 @@ next-read : (d : Dictionary) (n : ℕ) (last : DictionaryTerm) (place : ℕ) (ol
     → o ≡ first_broken (index_conditions d (progress n last place) e) → IsNextPoint d (progress n last place) old new o
 next-read d n last place old new e None read is =
     let s = progress n last place in
-    let good = good_entry last place e (indexed_term d n) (indexed_place d n) (sym is) in (
+    let good = good_entry last place e (index_entry_term d n) (indexed_place d n) (sym is) in (
       e,
       line_at-good (index_shape d.numbers.skip_interval) entry (λ line. on_entry [] (index_conditions d s) line) old e new read (sym is),
-      ap (λ (t : DictionaryTerm). progress (n + 1) t (place + e.step)) good.0 ∙ ap (progress (n + 1) (indexed_term d n)) good.1,
+      ap (λ (t : DictionaryTerm). progress (n + 1) t (place + e.step)) good.0 ∙ ap (progress (n + 1) (index_entry_term d n)) good.1,
     )
 next-read d n last place old new e (Some rule) read is =
     line_at-broken (index_shape d.numbers.skip_interval) entry (λ line. on_entry [] (index_conditions d (progress n last place)) line) old e new rule read (sym is)
 
-pub next-judged : {E : Type 0} (d : Dictionary) (n : ℕ) (last : DictionaryTerm) (place : ℕ) (old new : Cursor) (e : IndexEntry) (interval : ℕ) (wanted : DictionaryTerm) (wanted_place : ℕ) (r : Result (Option ℕ) E) → interval ≡ d.numbers.skip_interval → wanted ≡ indexed_term d n
+pub next-judged : {E : Type 0} (d : Dictionary) (n : ℕ) (last : DictionaryTerm) (place : ℕ) (old new : Cursor) (e : IndexEntry) (interval : ℕ) (wanted : DictionaryTerm) (wanted_place : ℕ) (r : Result (Option ℕ) E) → interval ≡ d.numbers.skip_interval → wanted ≡ index_entry_term d n
     → wanted_place ≡ indexed_place d n → read_shape (index_shape interval) old ≡ Ok (e, new) → IfOk r (λ o. o ≡ first_broken (index_against last place e wanted wanted_place)) → IfOk r (IsNextPoint d (progress n last place) old new)
 next-judged d n last place old new e interval wanted wanted_place (Ok o) k t p read judged =
     next-read d n last place old new e o (ap (λ (i : ℕ). read_shape (index_shape i) old) (sym k) ∙ read)
-    (judged ∙ ap (λ (w : DictionaryTerm). first_broken (index_against last place e w wanted_place)) t ∙ ap (λ (w : ℕ). first_broken (index_against last place e (indexed_term d n) w)) p)
+    (judged ∙ ap (λ (w : DictionaryTerm). first_broken (index_against last place e w wanted_place)) t ∙ ap (λ (w : ℕ). first_broken (index_against last place e (index_entry_term d n) w)) p)
 next-judged d n last place old new e interval wanted wanted_place (Err x) k t p read judged = tt
 
 pub next-unread : (d : Dictionary) (s : IndexProgress) (interval : ℕ) (old : Cursor) (bad : Bad) (rule : ℕ) → interval ≡ d.numbers.skip_interval → read_shape (index_shape interval) old ≡ Err bad → rule ≡ rule_of bad → record_of (index_kind d) s old ≡ Err rule

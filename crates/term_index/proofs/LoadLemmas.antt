@@ -21,14 +21,14 @@ use Rattle.lu_grammar.proofs.Loops.{then_ok, each-none, times-again, times-more,
 use Rattle.lu_grammar.proofs.Records.{ok_pair, same_pair}
 use Rattle.term_dict.specs.declared.heading.Heading.{Heading}
 use Rattle.term_dict.specs.Headings.{Line, heading, entry, header, heading_of, heading_shape, on_entry}
-use Rattle.term_dict.specs.Terms.{DictionaryTerm, no_term, term_after, field_of, term_cmp}
+use Rattle.term_dict.specs.Terms.{DictionaryTerm, no_term, term_after, field_of, dictionary_term_cmp}
 use Rattle.term_dict.specs.Dictionary.{Dictionary}
-use Rattle.term_dict.specs.Index.{IndexEntry, IndexProgress, index_shape, index_kind, index_conditions, index_heading_conditions, indexed_term, indexed_place, no_entries, entry_count, entries_plan, tii_plan, point_after}
+use Rattle.term_dict.specs.Index.{IndexEntry, IndexProgress, index_shape, index_kind, index_conditions, index_heading_conditions, index_entry_term, indexed_place, no_entries, entry_count, entries_plan, tii_plan, point_after}
 use Rattle.term_dict.proofs.FileLemmas.{record_at-was}
 use Rattle.term_dict.proofs.DictionaryRead.{was_ok}
 use Rattle.term_index.specs.declared.mark.Mark.{Mark}
 use Rattle.term_index.specs.Points.{progress}
-use Rattle.term_index.specs.Seeking.{Searched, searched, name_of, names_of, AreChecked}
+use Rattle.term_index.specs.Seeking.{Searched, searched, field_name_of, names_of, AreChecked}
 use Rattle.term_index.specs.InnerSearch.{IsSearchable, IndexMark, HasEntry, index_mark_of, mark_at, marks_to, terms_cmp}
 use Rattle.term_index.proofs.EntryLemmas.{good_entry}
 use Rattle.term_index.proofs.PointLoop.{finish, interval_begins}
@@ -89,9 +89,9 @@ pub record IsNextEntry (d : Dictionary) (start : Cursor) (n : ℕ) (here : Curso
   pub e : IndexEntry
   pub new : Cursor
   pub read : read_shape (index_shape d.numbers.skip_interval) here ≡ ok_pair e new
-  pub term : term_after last e.term ≡ indexed_term d n
+  pub term : term_after last e.term ≡ index_entry_term d n
   pub place_is : place + e.step ≡ indexed_place d n
-  pub more : read_plan (times (index_kind d) (n + 1) no_entries) start ≡ Ok (progress (n + 1) (indexed_term d n) (indexed_place d n), new)
+  pub more : read_plan (times (index_kind d) (n + 1) no_entries) start ≡ Ok (progress (n + 1) (index_entry_term d n) (indexed_place d n), new)
 
 line-was : (k : ℕ) (c : Cursor) (line : Line IndexEntry) (d : Cursor) → read_shape (followed (index_shape k) (λ e. whole (entry e))) c ≡ ok_pair line d → (e : IndexEntry) × (read_shape (index_shape k) c ≡ ok_pair e d) × (line ≡ entry e)
 line-was k c line d e =
@@ -108,7 +108,7 @@ next_entry_is d start n here last place z all lt read =
     let was = record_at-was ((index_kind d).shape s) ((index_kind d).conditions s here.place) here turn.0 turn.1 turn.2 in
     let x = line-was k here turn.0 turn.1 was.0 in
     let good = subst (λ (l : Line IndexEntry). first_broken (on_entry [] (index_conditions d s) l) ≡ None) x.2 was.1 in
-    let is = good_entry last place x.0 (indexed_term d n) (indexed_place d n) good in
+    let is = good_entry last place x.0 (index_entry_term d n) (indexed_place d n) good in
     let whole_record = turn.2 ∙ ap (λ (l : Line IndexEntry). ok_pair l turn.1) x.2 in
     record {
       e = x.0;
@@ -118,7 +118,7 @@ next_entry_is d start n here last place z all lt read =
       place_is = is.1;
       more =
           times-more (index_kind d) n no_entries start s here (entry x.0) turn.1 read whole_record
-          ∙ ap (λ (t : DictionaryTerm). Ok (progress (n + 1) t (place + x.0.step), turn.1)) is.0 ∙ ap (λ (p : ℕ). Ok (progress (n + 1) (indexed_term d n) p, turn.1)) is.1;
+          ∙ ap (λ (t : DictionaryTerm). Ok (progress (n + 1) t (place + x.0.step), turn.1)) is.0 ∙ ap (λ (p : ℕ). Ok (progress (n + 1) (index_entry_term d n) p, turn.1)) is.1;
     }
 
 -- what an entry of a good index stands for is within the limits
@@ -127,7 +127,7 @@ pub record IsWithin (t : DictionaryTerm) (place : ℕ) : Type 0 where
   pub prox : t.info.prox < 2 ^ 31
   pub place_in : place < 2 ^ 31
 
-pub indexed-within : (s : Searched) (n : ℕ) → IsSearchable s → n < entry_count s.dictionary.numbers → IsWithin (indexed_term s.dictionary n) (indexed_place s.dictionary n)
+pub indexed-within : (s : Searched) (n : ℕ) → IsSearchable s → n < entry_count s.dictionary.numbers → IsWithin (index_entry_term s.dictionary n) (indexed_place s.dictionary n)
 indexed-within s n h lt =
     let d = s.dictionary in
     let k = n * d.numbers.index_interval in
@@ -154,17 +154,17 @@ HasEntry-there s start n here last place interval h lt same next =
 -- what was read is that entry
 pub record IsEntryRead (d : Dictionary) (start : Cursor) (n : ℕ) (new : Cursor) (last : DictionaryTerm) (place : ℕ) : Type 0 where
   pub read : read_plan (times (index_kind d) (n + 1) no_entries) start ≡ Ok (progress (n + 1) last place, new)
-  pub term : last ≡ indexed_term d n
+  pub term : last ≡ index_entry_term d n
   pub place_is : place ≡ indexed_place d n
 
 pub entry_read : (d : Dictionary) (start : Cursor) (n : ℕ) (here new : Cursor) (last : DictionaryTerm) (place : ℕ) (last_new : DictionaryTerm) (place_new interval : ℕ) (e : IndexEntry) → interval ≡ d.numbers.skip_interval → IsNextEntry d start n here last place
     → read_shape (index_shape interval) here ≡ Ok (e, new) → last_new ≡ term_after last e.term → place_new ≡ place + e.step → IsEntryRead d start n new last_new place_new
 entry_read d start n here new last place last_new place_new interval e k next read is at =
     let same = same_pair next.e e next.new new (sym next.read ∙ ap (λ (i : ℕ). read_shape (index_shape i) here) (sym k) ∙ read) in
-    let term : last_new ≡ indexed_term d n = is ∙ ap (λ (x : IndexEntry). term_after last x.term) (sym same.0) ∙ next.term in
+    let term : last_new ≡ index_entry_term d n = is ∙ ap (λ (x : IndexEntry). term_after last x.term) (sym same.0) ∙ next.term in
     let there : place_new ≡ indexed_place d n = at ∙ ap (λ (x : IndexEntry). place + x.step) (sym same.0) ∙ next.place_is in
     record {
-      read = next.more ∙ ap (λ (c : Cursor). Ok (progress (n + 1) (indexed_term d n) (indexed_place d n), c)) same.1
+      read = next.more ∙ ap (λ (c : Cursor). Ok (progress (n + 1) (index_entry_term d n) (indexed_place d n), c)) same.1
           ∙ ap (λ (t : DictionaryTerm). Ok (progress (n + 1) t (indexed_place d n), new)) (sym term) ∙ ap (λ (p : ℕ). Ok (progress (n + 1) last_new p, new)) (sym there);
       term = term;
       place_is = there;
@@ -180,10 +180,10 @@ IsLoading-first s start n here new last last_new place place_new marks h r none 
 
 -- each behind it is
 pub IsLoading-more : (s : Searched) (start : Cursor) (n : ℕ) (here new : Cursor) (last last_new : DictionaryTerm) (place place_new : ℕ) (marks more : List Mark) (m : Mark) → IsLoading s start n here last place marks → IsEntryRead s.dictionary start n new last_new place_new → 0 < n
-    → index_mark_of m ≡ record { name = name_of s.names last_new.info.field; term = last_new; place = place_new } → more ≡ marks ++ m ∷ [] → IsLoading s start (n + 1) new last_new place_new more
+    → index_mark_of m ≡ record { name = field_name_of s.names last_new.info.field; term = last_new; place = place_new } → more ≡ marks ++ m ∷ [] → IsLoading s start (n + 1) new last_new place_new more
 IsLoading-more s start n here new last last_new place place_new marks more m h r some is to =
     let d = s.dictionary in
-    let at : index_mark_of m ≡ mark_at s n = is ∙ ap (λ (t : DictionaryTerm). mark_with (name_of s.names t.info.field) t place_new) r.term ∙ ap (mark_with (name_of s.names (indexed_term d n).info.field) (indexed_term d n)) r.place_is in
+    let at : index_mark_of m ≡ mark_at s n = is ∙ ap (λ (t : DictionaryTerm). mark_with (field_name_of s.names t.info.field) t place_new) r.term ∙ ap (mark_with (field_name_of s.names (index_entry_term d n).info.field) (index_entry_term d n)) r.place_is in
     let number : suc (n - 1) ≡ n = omega (arith, some) in
     record {
       read = r.read;
@@ -196,7 +196,7 @@ IsLoading-more s start n here new last last_new place place_new marks more m h r
     mark_with name term place = record { name = name; term = term; place = place }
 
 -- the text of each term that an entry stands for is UTF-8
-pub indexed-text : (s : Searched) (n : ℕ) → IsSearchable s → n < entry_count s.dictionary.numbers → IsUtf8 (indexed_term s.dictionary n).text
+pub indexed-text : (s : Searched) (n : ℕ) → IsSearchable s → n < entry_count s.dictionary.numbers → IsUtf8 (index_entry_term s.dictionary n).text
 indexed-text s n h lt =
     let d = s.dictionary in
     let begins = interval_begins d.numbers n h.bounded lt in
@@ -208,15 +208,15 @@ indexed-text s n h lt =
 
 -- ---- terms that were checked can be searched
 
-name_of-names : (fields : List TableField) (n : ℕ) → name_of (names_of fields) n ≡ (field_of fields n).name
-name_of-names [] n = refl
-name_of-names (f ∷ fs) zero = refl
-name_of-names (f ∷ fs) (suc n) = name_of-names fs n
+field_name_of-names : (fields : List TableField) (n : ℕ) → field_name_of (names_of fields) n ≡ (field_of fields n).name
+field_name_of-names [] n = refl
+field_name_of-names (f ∷ fs) zero = refl
+field_name_of-names (f ∷ fs) (suc n) = field_name_of-names fs n
 
-terms_cmp-is : (fields : List TableField) (a b : DictionaryTerm) → terms_cmp (names_of fields) a b ≡ term_cmp fields a b
+terms_cmp-is : (fields : List TableField) (a b : DictionaryTerm) → terms_cmp (names_of fields) a b ≡ dictionary_term_cmp fields a b
 terms_cmp-is fields a b =
-    ap (λ (n : List ℕ). ordering_then (text_cmp n (name_of (names_of fields) b.info.field)) (text_cmp a.text b.text)) (name_of-names fields a.info.field)
-    ∙ ap (λ (n : List ℕ). ordering_then (text_cmp (field_of fields a.info.field).name n) (text_cmp a.text b.text)) (name_of-names fields b.info.field)
+    ap (λ (n : List ℕ). ordering_then (text_cmp n (field_name_of (names_of fields) b.info.field)) (text_cmp a.text b.text)) (field_name_of-names fields a.info.field)
+    ∙ ap (λ (n : List ℕ). ordering_then (text_cmp (field_of fields a.info.field).name n) (text_cmp a.text b.text)) (field_name_of-names fields b.info.field)
 
 pub searchable : (tii : List ℕ) (d : Dictionary) (fields : List TableField) → AreChecked tii d fields → AreBounded d.numbers → All (λ place. place < 2 ^ 31) d.starts → IsSearchable (searched d (names_of fields))
 searchable tii d fields checked bounded places =

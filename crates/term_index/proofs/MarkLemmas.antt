@@ -9,14 +9,16 @@ use Rattle.std.proofs.lemmas.Option.{slice_get-map, get_or_from_slice_get, slice
 use Rattle.std.proofs.Math.Nat.{le-div_iff_mul-le, suc-mul}
 use Rattle.term_dict.specs.Terms.{DictionaryTerm, no_term, last_term}
 use Rattle.term_dict.specs.Dictionary.{Dictionary}
-use Rattle.term_dict.specs.Index.{entry_count, indexed_term, indexed_place, point_after}
+use Rattle.term_dict.specs.Index.{entry_count, index_entry_term, indexed_place, point_after}
 use Rattle.term_dict.specs.Walk.{TermWalk, walk_to, term_passed, next_place}
 use Rattle.term_dict.proofs.JumpLemmas.{last_term-take}
 use Rattle.term_index.specs.declared.mark.Mark.{Mark}
 use Rattle.term_index.specs.declared.search.Sought.{Sought}
-use Rattle.term_index.specs.Seeking.{Searched, sought_cmp, rank, digits, interval_of, read_up_to, terms_read, seek_steps, most_steps, ticked}
+use Rattle.lu_prims.specs.Steps.{ticked}
+use Rattle.term_index.specs.Seeking.{Searched, sought_cmp, rank, digits, interval_of, read_up_to, terms_read, seek_steps, most_seek_steps}
 use Rattle.term_index.specs.InnerSearch.{IsSearchable, IndexMark, AreBelow, index_mark_of, mark_at, marks_to, mark_cmp}
-use Rattle.term_index.proofs.DigitLemmas.{digits-below, ticked-add, ticked-below}
+use Rattle.term_index.proofs.DigitLemmas.{digits-below}
+use Rattle.lu_prims.proofs.StepLemmas.{ticked-ticked, ticked-le}
 use Rattle.term_index.proofs.PointLoop.{interval_begins, place_of_walk}
 use Rattle.term_index.proofs.RankLemmas.{below-is, rank-few}
 
@@ -50,7 +52,7 @@ pub record IsInterval (s : Searched) (number k : ℕ) : Type 0 where
   pub some : 0 < k
   pub inside : k < length s.dictionary.terms
   pub inside_starts : k < length s.dictionary.starts
-  pub term : indexed_term s.dictionary number ≡ slice_index_or s.dictionary.terms (k - 1) no_term
+  pub term : index_entry_term s.dictionary number ≡ slice_index_or s.dictionary.terms (k - 1) no_term
 
 interval-is : (s : Searched) (number : ℕ) → IsSearchable s → 0 < number → number < entry_count s.dictionary.numbers → IsInterval s number (number * s.dictionary.numbers.index_interval)
 interval-is s number h some lt =
@@ -185,11 +187,11 @@ read-few s below h le = elim (cases_lt (below / interval) n) [
       | inr more ↦ let there : suc q ≤ x / interval = (le-div_iff_mul-le some_interval).1 more in absurd (omega (arith, there, le))
     ]
 
-pub steps-few : (s : Searched) (field text : List ℕ) (count new : ℕ) → IsSearchable s → new ≡ ticked (seek_steps s field text) count → new ≤ count + most_steps s.dictionary
+pub steps-few : (s : Searched) (field text : List ℕ) (count new : ℕ) → IsSearchable s → new ≡ ticked (seek_steps s field text) count → new ≤ count + most_seek_steps s.dictionary
 steps-few s field text count new h is =
     let few = read-few s (rank s field text) h (rank-few s field text) in
     let halved = digits-below (entry_count s.dictionary.numbers - 1) (entry_count s.dictionary.numbers) (omega arith) in
-    omega (arith, is, ticked-below (seek_steps s field text) count, few, halved)
+    omega (arith, is, ticked-le (seek_steps s field text) count, few, halved)
 
 pub steps-all : (s : Searched) (field text : List ℕ) (marks : List Mark) (first between last number passed : ℕ) → map index_mark_of marks ≡ marks_to s (entry_count s.dictionary.numbers - 1) → number ≡ interval_of s.dictionary (rank s field text)
     → passed ≡ number * s.dictionary.numbers.index_interval → between ≡ ticked (digits (length marks)) first → last ≡ ticked (read_up_to s.dictionary (rank s field text) - passed) between → last ≡ ticked (seek_steps s field text) first
@@ -198,7 +200,7 @@ steps-all s field text marks first between last number passed kept is at begun_a
     let few = marks-count s (entry_count d.numbers - 1) marks kept in
     let read : read_up_to d (rank s field text) - passed ≡ terms_read d (rank s field text) = ap (λ (k : ℕ). read_up_to d (rank s field text) - k) (at ∙ ap (λ (k : ℕ). k * d.numbers.index_interval) is) in
     ended_at ∙ ap (λ (k : ℕ). ticked k between) read ∙ ap (ticked (terms_read d (rank s field text))) (begun_at ∙ ap (λ (k : ℕ). ticked (digits k) first) few)
-    ∙ sym (ticked-add (digits (entry_count d.numbers - 1)) (terms_read d (rank s field text)) first)
+    ∙ ticked-ticked (terms_read d (rank s field text)) (digits (entry_count d.numbers - 1)) first
 
 -- there are few entries
 pub number-fits : (d : Dictionary) (names : List (List ℕ)) (marks : List Mark) (number : ℕ) → IsSearchable (record { dictionary = d; names = names }) → map index_mark_of marks ≡ marks_to (record { dictionary = d; names = names }) (entry_count d.numbers - 1) → number ≤ length marks

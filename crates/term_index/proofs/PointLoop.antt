@@ -15,7 +15,7 @@ use Rattle.lu_types.specs.declared.term.TermNumbers.{TermNumbers}
 use Rattle.term_dict.specs.Headings.{Line, header, heading, entry, heading_shape, heading_of}
 use Rattle.term_dict.specs.Terms.{DictionaryTerm, no_term}
 use Rattle.term_dict.specs.Dictionary.{Dictionary}
-use Rattle.term_dict.specs.Index.{IndexEntry, IndexProgress, index_kind, no_entries, entry_count, indexed_term, indexed_place, index_heading_conditions, point_after, entries_plan, tii_plan}
+use Rattle.term_dict.specs.Index.{IndexEntry, IndexProgress, index_kind, no_entries, entry_count, index_entry_term, indexed_place, index_heading_conditions, point_after, entries_plan, tii_plan}
 use Rattle.term_dict.specs.Walk.{TermWalk, term_passed, next_place, walk_to}
 use Rattle.term_dict.specs.Checks.{AreBounded}
 use Rattle.term_dict.proofs.LineLemmas.{line_at-good, line_at-broken, line_at-unread}
@@ -51,7 +51,7 @@ HasPoints-none start last place w at is none =
     }
 
 pub HasPoints-more : (d : Dictionary) (start : Cursor) (n : ℕ) (here : Cursor) (last : DictionaryTerm) (place : ℕ) (w : TermWalk) (new : Cursor) (next : DictionaryTerm) (next_at : ℕ) (after : TermWalk) → HasPoints d start n here last place w
-    → IsNextPoint d (progress n last place) here new None → next ≡ indexed_term d n → next_at ≡ indexed_place d n → after ≡ walk_to d (n * d.numbers.index_interval) → next.text ≡ (term_passed after).text
+    → IsNextPoint d (progress n last place) here new None → next ≡ index_entry_term d n → next_at ≡ indexed_place d n → after ≡ walk_to d (n * d.numbers.index_interval) → next.text ≡ (term_passed after).text
     → HasPoints d start (n + 1) new next next_at after
 HasPoints-more d start n here last place w new next next_at after h (e, good, to) is at walk text = record {
   read =
@@ -81,7 +81,7 @@ place_of_walk d n w is lt = ap next_place is ∙ get_or_default d.starts n d.siz
 -- what one turn of the loop shows of the walk
 pub record IsTurn (d : Dictionary) (n : ℕ) (w : TermWalk) (wanted : DictionaryTerm) : Type 0 where
   pub walk : w ≡ walk_to d (n * d.numbers.index_interval)
-  pub wanted_is : wanted ≡ indexed_term d n
+  pub wanted_is : wanted ≡ index_entry_term d n
   pub place_is : next_place w ≡ indexed_place d n
 
 pub turn : (d : Dictionary) (numbers : TermNumbers) (n k : ℕ) (w after : TermWalk) (wanted : DictionaryTerm) → numbers ≡ d.numbers → AreBounded numbers → length d.starts ≡ numbers.count → n < entry_count numbers → w ≡ walk_to d k

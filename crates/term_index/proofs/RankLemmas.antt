@@ -16,7 +16,7 @@ use Rattle.lu_prims.proofs.Units.{text_order, level_same}
 use Rattle.term_dict.specs.Terms.{DictionaryTerm, no_term}
 use Rattle.term_dict.specs.Dictionary.{Dictionary}
 use Rattle.term_dict.proofs.OrderLemmas.{text_cmp-same}
-use Rattle.term_index.specs.Seeking.{Searched, name_of, is_sought, sought_cmp, rank}
+use Rattle.term_index.specs.Seeking.{Searched, field_name_of, is_sought, sought_cmp, rank}
 use Rattle.term_index.specs.InnerSearch.{IsSearchable, terms_cmp}
 
 -- ---- the order
@@ -32,7 +32,7 @@ key_order : IsTotalOrder key_cmp
 key_order = then_total (on_total (λ (k : Key). k.0) text_order) (on_total (λ (k : Key). k.1) text_order)
 
 abbrev key_of : List (List ℕ) → DictionaryTerm → Key
-key_of names t = (name_of names t.info.field, t.text)
+key_of names t = (field_name_of names t.info.field, t.text)
 
 -- what is before a term that is below is below
 less_back : (names : List (List ℕ)) (field text : List ℕ) (a b : DictionaryTerm) → terms_cmp names a b ≡ Less → sought_cmp names field text b ≡ Less → sought_cmp names field text a ≡ Less
@@ -114,10 +114,10 @@ below-is s field text i h lt = elim (cases_lt i (rank s field text)) [
 -- one that is sought is level
 level : (names : List (List ℕ)) (field text : List ℕ) (t : DictionaryTerm) → is_sought names field text t ≡ true → sought_cmp names field text t ≡ Equal
 level names field text t e =
-    let both = and_parts (bytes_eq (name_of names t.info.field) field) (bytes_eq t.text text) e in
-    let name = (bytes_eq-Decides (name_of names t.info.field) field).0 both.0 in
+    let both = and_parts (bytes_eq (field_name_of names t.info.field) field) (bytes_eq t.text text) e in
+    let name = (bytes_eq-Decides (field_name_of names t.info.field) field).0 both.0 in
     let same = (bytes_eq-Decides t.text text).0 both.1 in
-    let first : text_cmp (name_of names t.info.field) field ≡ Equal = ap (λ (n : List ℕ). text_cmp n field) name ∙ text_cmp-same field in
+    let first : text_cmp (field_name_of names t.info.field) field ≡ Equal = ap (λ (n : List ℕ). text_cmp n field) name ∙ text_cmp-same field in
     let second : text_cmp t.text text ≡ Equal = ap (λ (n : List ℕ). text_cmp n text) same ∙ text_cmp-same text in
     ap (λ (o : Ordering). ordering_then o (text_cmp t.text text)) first ∙ second
 
@@ -146,12 +146,12 @@ before_not : (s : Searched) (field text : List ℕ) (i : ℕ) → i < rank s fie
 before_not s field text i lt = not_sought s.names field text (get_or s.dictionary.terms i no_term) (λ e. let less = below-before s field text i lt in cc)
 
 -- where the first that is not below is level, it is the one
-pub sought-there : (s : Searched) (field text : List ℕ) → rank s field text < length s.dictionary.terms → IsSearchable s → IsUtf8 (name_of s.names (get_or s.dictionary.terms (rank s field text) no_term).info.field) → IsUtf8 field → IsUtf8 text
+pub sought-there : (s : Searched) (field text : List ℕ) → rank s field text < length s.dictionary.terms → IsSearchable s → IsUtf8 (field_name_of s.names (get_or s.dictionary.terms (rank s field text) no_term).info.field) → IsUtf8 field → IsUtf8 text
     → sought_cmp s.names field text (get_or s.dictionary.terms (rank s field text) no_term) ≡ Equal → find (is_sought s.names field text) s.dictionary.terms ≡ Some (get_or s.dictionary.terms (rank s field text) no_term)
 sought-there s field text lt h name_utf8 field_utf8 text_utf8 here =
     let k = rank s field text in
     let t = get_or s.dictionary.terms k no_term in
-    let name = name_of s.names t.info.field in
+    let name = field_name_of s.names t.info.field in
     let parts = both_level (text_cmp name field) (text_cmp t.text text) here in
     let same_name = level_same name field name_utf8 field_utf8 parts.0 in
     let same_text = level_same t.text text (h.texts k no_term lt) text_utf8 parts.1 in

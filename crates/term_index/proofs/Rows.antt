@@ -2,7 +2,8 @@
 use Rattle.std.proofs.Common.{◌≡◌, ℕ, [], ◌∷◌, refl}
 use Rattle.term_dict.specs.Terms.{no_term}
 use Rattle.term_dict.specs.Dictionary.{Dictionary}
-use Rattle.term_index.specs.Seeking.{halvings, digits, interval_of, terms_read, most_steps, ticked}
+use Rattle.lu_prims.specs.Steps.{ticked}
+use Rattle.term_index.specs.Seeking.{halvings, digits, interval_of, terms_read, most_seek_steps}
 
 -- binary digits
 pub digits-rows : (digits 0 ≡ 0) × (digits 1 ≡ 1) × (digits 2 ≡ 2) × (digits 3 ≡ 2) × (digits 250 ≡ 8)
@@ -21,6 +22,6 @@ pub read-rows : (terms_read three 0 ≡ 1) × (terms_read three 1 ≡ 2) × (ter
 read-rows = (refl, refl, refl, refl)
 
 -- the most steps, and a count that stays
-pub steps-rows : (most_steps three ≡ 5) × (ticked 2 5 ≡ 7) × (ticked 2 18446744073709551614 ≡ 18446744073709551615)
+pub steps-rows : (most_seek_steps three ≡ 5) × (ticked 2 5 ≡ 7) × (ticked 2 18446744073709551614 ≡ 18446744073709551615)
 unfolding halvings
 steps-rows = (refl, refl, refl)

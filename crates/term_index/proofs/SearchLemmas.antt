@@ -16,7 +16,8 @@ use Rattle.term_dict.specs.Walk.{TermWalk, walk_to, term_passed, passed_on}
 use Rattle.term_dict.proofs.JumpLemmas.{last_term-take}
 use Rattle.term_index.specs.declared.mark.Mark.{Mark}
 use Rattle.term_index.specs.declared.search.Sought.{Sought}
-use Rattle.term_index.specs.Seeking.{Searched, name_of, is_sought, sought_cmp, rank, digits, read_up_to, ticked}
+use Rattle.lu_prims.specs.Steps.{ticked}
+use Rattle.term_index.specs.Seeking.{Searched, field_name_of, is_sought, sought_cmp, rank, digits, read_up_to}
 use Rattle.term_index.specs.InnerSearch.{IsSearchable, AreBelow, index_mark_of, mark_cmp}
 use Rattle.term_index.proofs.DigitLemmas.{digits-half}
 use Rattle.term_index.proofs.RankLemmas.{below-before, below-not, sought-there, sought-none}
@@ -162,10 +163,10 @@ first_is s field text first start w count t o h r above =
     }
 
 -- where it is level, it is the one
-pub found-first : (s : Searched) (field text : List ℕ) (first start : ℕ) (w : TermWalk) (count : ℕ) (t : DictionaryTerm) → IsSearchable s → IsFirst s field text first start w t Equal count → IsUtf8 (name_of s.names t.info.field) → IsUtf8 field → IsUtf8 text
+pub found-first : (s : Searched) (field text : List ℕ) (first start : ℕ) (w : TermWalk) (count : ℕ) (t : DictionaryTerm) → IsSearchable s → IsFirst s field text first start w t Equal count → IsUtf8 (field_name_of s.names t.info.field) → IsUtf8 field → IsUtf8 text
     → find (is_sought s.names field text) s.dictionary.terms ≡ Some t
 found-first s field text first start w count t good f name_utf8 field_utf8 text_utf8 =
-    sought-there s field text f.inside good (subst (λ (u : DictionaryTerm). IsUtf8 (name_of s.names u.info.field)) (sym f.is_term) name_utf8) field_utf8 text_utf8 f.stands ∙ ap (λ (u : DictionaryTerm). Some u) f.is_term
+    sought-there s field text f.inside good (subst (λ (u : DictionaryTerm). IsUtf8 (field_name_of s.names u.info.field)) (sym f.is_term) name_utf8) field_utf8 text_utf8 f.stands ∙ ap (λ (u : DictionaryTerm). Some u) f.is_term
 
 -- where it is above, there is none
 pub none-above : (s : Searched) (field text : List ℕ) (first start : ℕ) (w : TermWalk) (count : ℕ) (t : DictionaryTerm) → IsSearchable s → IsFirst s field text first start w t Greater count → find (is_sought s.names field text) s.dictionary.terms ≡ None

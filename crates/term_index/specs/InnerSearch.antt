@@ -11,10 +11,10 @@ use Rattle.lu_prims.specs.Order.{text_cmp}
 use Rattle.term_dict.specs.Terms.{DictionaryTerm}
 use Rattle.term_dict.specs.Dictionary.{Dictionary}
 use Rattle.term_dict.specs.Checks.{AreBounded}
-use Rattle.term_dict.specs.Index.{IndexEntry, index_shape, indexed_term, indexed_place}
+use Rattle.term_dict.specs.Index.{IndexEntry, index_shape, index_entry_term, indexed_place}
 use Rattle.term_index.specs.declared.mark.Mark.{Mark}
 use Rattle.term_index.specs.declared.search.Sought.{Sought}
-use Rattle.term_index.specs.Seeking.{Searched, name_of}
+use Rattle.term_index.specs.Seeking.{Searched, field_name_of}
 
 -- the bytes of a text that is lent
 abbrev pub lent : Bor (List ℕ) → List ℕ
@@ -22,7 +22,7 @@ lent text = text.now
 
 -- how two terms stand to each other
 abbrev pub terms_cmp : List (List ℕ) → DictionaryTerm → DictionaryTerm → Ordering
-terms_cmp names a b = ordering_then (text_cmp (name_of names a.info.field) (name_of names b.info.field)) (text_cmp a.text b.text)
+terms_cmp names a b = ordering_then (text_cmp (field_name_of names a.info.field) (field_name_of names b.info.field)) (text_cmp a.text b.text)
 
 -- the terms can be searched: their texts are UTF-8, they rise, and the numbers are theirs
 pub record IsSearchable (s : Searched) : Type 0 where
@@ -48,8 +48,8 @@ index_mark_of m = record { name = m.name.now; term = record { text = m.text; inf
 -- what the entry with a number stands for
 abbrev pub mark_at : Searched → ℕ → IndexMark
 mark_at s i = record {
-  name = name_of s.names (indexed_term s.dictionary i).info.field;
-  term = indexed_term s.dictionary i;
+  name = field_name_of s.names (index_entry_term s.dictionary i).info.field;
+  term = index_entry_term s.dictionary i;
   place = indexed_place s.dictionary i;
 }
 

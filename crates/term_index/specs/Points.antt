@@ -10,7 +10,7 @@ use Rattle.term_dict.specs.Headings.{Line, heading, entry, header, heading_of}
 use Rattle.term_dict.specs.Entries.{TermRecord, term_record_of, IsBounded}
 use Rattle.term_dict.specs.Terms.{DictionaryTerm}
 use Rattle.term_dict.specs.Dictionary.{Dictionary}
-use Rattle.term_dict.specs.Index.{IndexEntry, index_heading_conditions, IndexProgress, index_kind, with_entry, indexed_term, indexed_place}
+use Rattle.term_dict.specs.Index.{IndexEntry, index_heading_conditions, IndexProgress, index_kind, with_entry, index_entry_term, indexed_place}
 use Rattle.term_dict.specs.Walk.{TermWalk, term_passed}
 use Rattle.term_index.specs.declared.checking.LastPoint.{LastPoint}
 use Rattle.term_index.specs.declared.point.IndexPoint.{IndexPoint}
@@ -32,8 +32,8 @@ abbrev pub info_after : TermInfo → TermRecord → TermInfo
 info_after last e = record { field = e.field; doc_freq = e.doc_freq; freq = last.freq + e.freq; prox = last.prox + e.prox; skip = e.skip }
 
 -- the term of the last entry of the program
-abbrev pub last_of : LastPoint → DictionaryTerm
-last_of p = record { text = p.text.items; info = p.info }
+abbrev pub last_term_of : LastPoint → DictionaryTerm
+last_term_of p = record { text = p.text.items; info = p.info }
 
 -- the last term that a walk passed, of which this is said
 abbrev pub wanted_of : TermInfo → TermWalk → DictionaryTerm
@@ -45,7 +45,7 @@ progress n last place = record { passed = n; last = last; place = place }
 
 -- the next entry stands between two places and is good; or the rule is broken first
 abbrev pub IsNextPoint : Dictionary → IndexProgress → Cursor → Cursor → Option ℕ → Type 0
-IsNextPoint d s old new None = (e : IndexEntry) × (record_of (index_kind d) s old ≡ Ok (entry e, new)) × (with_entry s e ≡ progress (s.passed + 1) (indexed_term d s.passed) (indexed_place d s.passed))
+IsNextPoint d s old new None = (e : IndexEntry) × (record_of (index_kind d) s old ≡ Ok (entry e, new)) × (with_entry s e ≡ progress (s.passed + 1) (index_entry_term d s.passed) (indexed_place d s.passed))
 IsNextPoint d s old new (Some rule) = record_of (index_kind d) s old ≡ Err rule
 
 -- a good header of the index of terms with these numbers stands between two places; or the rule is broken first

@@ -25,8 +25,8 @@ abbrev pub names_of : List TableField → List (List ℕ)
 names_of fields = map (λ f. f.name) fields
 
 -- the name of the field with a number, empty where there is none
-abbrev pub name_of : List (List ℕ) → ℕ → List ℕ
-name_of names number = slice_index_or names number []
+abbrev pub field_name_of : List (List ℕ) → ℕ → List ℕ
+field_name_of names number = slice_index_or names number []
 
 -- both files of the terms were checked: bytes that stand for them in a segment with these fields, and their index beside them
 pub record AreChecked (tii : List ℕ) (d : Dictionary) (fields : List TableField) : Type 0 where
@@ -37,11 +37,11 @@ pub record AreChecked (tii : List ℕ) (d : Dictionary) (fields : List TableFiel
 
 -- the term has this text in the field of this name
 abbrev pub is_sought : List (List ℕ) → List ℕ → List ℕ → DictionaryTerm → Bool
-is_sought names field text t = bytes_eq (name_of names t.info.field) field && bytes_eq t.text text
+is_sought names field text t = bytes_eq (field_name_of names t.info.field) field && bytes_eq t.text text
 
 -- how a term stands to what is sought: by the name of its field, and then by its text, in UTF-16 order
 abbrev pub sought_cmp : List (List ℕ) → List ℕ → List ℕ → DictionaryTerm → Ordering
-sought_cmp names field text t = ordering_then (text_cmp (name_of names t.info.field) field) (text_cmp t.text text)
+sought_cmp names field text t = ordering_then (text_cmp (field_name_of names t.info.field) field) (text_cmp t.text text)
 
 -- how many terms are below what is sought
 abbrev pub rank : Searched → List ℕ → List ℕ → ℕ
@@ -75,10 +75,5 @@ abbrev pub seek_steps : Searched → List ℕ → List ℕ → ℕ
 seek_steps s field text = digits (entry_count s.dictionary.numbers - 1) + terms_read s.dictionary (rank s field text)
 
 -- the most steps that a search takes
-abbrev pub most_steps : Dictionary → ℕ
-most_steps d = digits (entry_count d.numbers) + d.numbers.index_interval + 1
-
--- a count after so many steps more; the greatest count that can be shown stays
-abbrev pub ticked : ℕ → ℕ → ℕ
-ticked zero count = count
-ticked (suc n) count = ticked n (min (count + 1) 18446744073709551615)
+abbrev pub most_seek_steps : Dictionary → ℕ
+most_seek_steps d = digits (entry_count d.numbers) + d.numbers.index_interval + 1

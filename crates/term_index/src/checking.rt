@@ -8,23 +8,21 @@ ghost use Rattle.lu_types.specs.Judging.{IsBrokenSo, IsFault};
 ghost use Rattle.term_dict.specs.Terms.{no_term, term_after};
 ghost use Rattle.term_dict.specs.Entries.{term_record_of, IsBounded};
 ghost use Rattle.term_dict.specs.Dictionary.{Dictionary};
-ghost use Rattle.term_dict.specs.Index.{entry_count, same_intervals, same_info, index_heading_conditions, index_against, index_conditions, indexed_term, indexed_place, IndexProgress, index_kind, no_entries, tii_plan};
+ghost use Rattle.term_dict.specs.Index.{entry_count, same_intervals, same_info, index_heading_conditions, index_against, index_conditions, index_entry_term, indexed_place, IndexProgress, index_kind, no_entries, tii_plan};
 ghost use Rattle.lu_grammar.specs.Plans.{read_plan, read_file, times};
 ghost use Rattle.lu_grammar.specs.Meaning.{Reads};
 ghost use Rattle.term_dict.specs.Walk.{term_passed, next_place};
-ghost use Rattle.term_index.specs.Points.{index_point_of, IsBoundedPoint, ShareFront, info_after, last_of, wanted_of, progress, IsNextPoint, IsIndexHeader};
+ghost use Rattle.term_index.specs.Points.{index_point_of, IsBoundedPoint, ShareFront, info_after, last_term_of, wanted_of, progress, IsNextPoint, IsIndexHeader};
 
 use crate::point::{IndexPoint, point_at};
 use crate::walk::{Passed, pass_interval};
-use lu_prims::{Cur, OutOfMemory};
+use lu_prims::{Cur, OutOfMemory, follow};
 use lu_types::rules::{
     TII_COUNT, TII_FORMAT, TII_INTERVALS, TII_PLACE, TII_PREFIX, TII_TERM, TRAILING, rule_of,
 };
 use lu_types::{CodecFault, FileKind, Spot, TermInfo};
 use std::alloc::Global;
-use term_dict::{
-    FORMAT, Heading, TermCursor, TermEntry, TermFile, TermNumbers, follow, heading_at,
-};
+use term_dict::{FORMAT, Heading, TermCursor, TermEntry, TermFile, TermNumbers, heading_at};
 
 /// How many entries the index of so many terms has: one for each interval that has begun.
 pub(crate) fn entry_count(numbers: &TermNumbers) -> u32
@@ -94,7 +92,7 @@ pub(crate) struct LastPoint {
 impl LastPoint {
     /// What the first entry follows: no text, and all places 0. Takes no memory.
     pub(crate) fn new(alloc: Global) -> LastPoint
-        ensures last { last_of result ≡ no_term }
+        ensures last { last_term_of result ≡ no_term }
         ensures place { result.place ≡ 0 }
     {
         LastPoint {
@@ -120,8 +118,8 @@ impl LastPoint {
     ) -> Result<Option<u16>, OutOfMemory>
         requires bounded { IsBoundedPoint point.now }
         requires shared { ShareFront passed.now.shared self.old.text.items cursor.now }
-        ensures rule { IfOk result (λ rule. rule ≡ first_broken (index_against (last_of self.old) self.old.place (index_point_of point.now) (wanted_of passed.now.info cursor.now) (next_place cursor.now))) }
-        ensures good { IfOk result (λ rule. rule ≡ None → (last_of self.new ≡ wanted_of passed.now.info cursor.now) × (self.new.place ≡ next_place cursor.now)) }
+        ensures rule { IfOk result (λ rule. rule ≡ first_broken (index_against (last_term_of self.old) self.old.place (index_point_of point.now) (wanted_of passed.now.info cursor.now) (next_place cursor.now))) }
+        ensures good { IfOk result (λ rule. rule ≡ None → (last_term_of self.new ≡ wanted_of passed.now.info cursor.now) × (self.new.place ≡ next_place cursor.now)) }
     {
         let prefix = point.term.prefix as usize;
         if prefix > self.text.len() {
@@ -149,7 +147,7 @@ impl LastPoint {
         requires freq { self.old.info.freq + point.now.term.freq < 2 ^ 32 }
         requires prox { self.old.info.prox + point.now.term.prox < 2 ^ 32 }
         requires place { self.old.place + point.now.step < 2 ^ 32 }
-        ensures term { IfOk result (λ _. last_of self.new ≡ term_after (last_of self.old) (term_record_of point.now.term)) }
+        ensures term { IfOk result (λ _. last_term_of self.new ≡ term_after (last_term_of self.old) (term_record_of point.now.term)) }
         ensures place { IfOk result (λ _. self.new.place ≡ self.old.place + point.now.step) }
     {
         let term = &point.term;
@@ -176,9 +174,9 @@ fn next_point(
     cursor: &TermCursor<'_>,
 ) -> Result<Option<u16>, OutOfMemory>
     requires { ShareFront passed.now.shared last.old.text.items cursor.now }
-    ensures next { (d : Dictionary) (n : ℕ) → skip_interval ≡ d.numbers.skip_interval → wanted_of passed.now.info cursor.now ≡ indexed_term d n → next_place cursor.now ≡ indexed_place d n
-        → IfOk result (IsNextPoint d (progress n (last_of last.old) last.old.place) cur.old cur.new) }
-    ensures good { IfOk result (λ rule. rule ≡ None → (last_of last.new ≡ wanted_of passed.now.info cursor.now) × (last.new.place ≡ next_place cursor.now)) }
+    ensures next { (d : Dictionary) (n : ℕ) → skip_interval ≡ d.numbers.skip_interval → wanted_of passed.now.info cursor.now ≡ index_entry_term d n → next_place cursor.now ≡ indexed_place d n
+        → IfOk result (IsNextPoint d (progress n (last_term_of last.old) last.old.place) cur.old cur.new) }
+    ensures good { IfOk result (λ rule. rule ≡ None → (last_term_of last.new ≡ wanted_of passed.now.info cursor.now) × (last.new.place ≡ next_place cursor.now)) }
 {
     match point_at(cur, skip_interval) {
         Err(bad) => Ok(Some(rule_of(bad))),

@@ -1,7 +1,8 @@
 //! Terms that are sought by the name of their field and their text (format page, "Term index").
 ghost use Rattle.std.specs.Prelude.{◌≡◌, ℕ, ◌+◌, ◌≤◌, IfOk, option_map};
 ghost use Rattle.std.specs.List.{find};
-ghost use Rattle.term_index.specs.Seeking.{AreChecked, searched, names_of, is_sought, seek_steps, most_steps, ticked};
+ghost use Rattle.lu_prims.specs.Steps.{ticked};
+ghost use Rattle.term_index.specs.Seeking.{AreChecked, searched, names_of, is_sought, seek_steps, most_seek_steps};
 
 use crate::loading::marks_of;
 use crate::mark::Mark;
@@ -69,7 +70,7 @@ impl<'a> TermIndex<'a> {
         ensures term { result ≡ option_map (λ t. t.info) (find (is_sought self.old.names field.now text.now) self.old.dictionary.terms) }
         ensures same { self.new ≡ self.old }
         ensures steps { steps.new ≡ ticked (seek_steps self.old field.now text.now) steps.old }
-        ensures bound { steps.new ≤ steps.old + most_steps self.old.dictionary }
+        ensures bound { steps.new ≤ steps.old + most_seek_steps self.old.dictionary }
     {
         let sought = Sought { field, text };
         let number = count_below(self.marks.as_slice(), &sought, steps);

@@ -5,8 +5,8 @@ ghost use Rattle.lu_grammar.specs.Meaning.{Reads};
 ghost use Rattle.lu_grammar.specs.Records.{read_shape};
 ghost use Rattle.term_dict.specs.Index.{IndexEntry, index_shape, entry_count, tii_plan};
 ghost use Rattle.term_dict.specs.Terms.{term_after};
-ghost use Rattle.term_index.specs.Points.{last_of};
-ghost use Rattle.term_index.specs.Seeking.{searched, name_of};
+ghost use Rattle.term_index.specs.Points.{last_term_of};
+ghost use Rattle.term_index.specs.Seeking.{searched, field_name_of};
 ghost use Rattle.term_index.specs.InnerSearch.{IsSearchable, HasEntry, index_mark_of, marks_to};
 
 use crate::checking::{LastPoint, entry_count};
@@ -24,9 +24,9 @@ fn next_entry(
     last: &mut LastPoint,
     skip_interval: u32,
 ) -> Result<(), OutOfMemory>
-    requires { HasEntry skip_interval (last_of last.old) last.old.place cur.old }
+    requires { HasEntry skip_interval (last_term_of last.old) last.old.place cur.old }
     ensures { IfOk result (λ _. (e : IndexEntry) × (read_shape (index_shape skip_interval) cur.old ≡ Ok (e, cur.new))
-        × (last_of last.new ≡ term_after (last_of last.old) e.term) × (last.new.place ≡ last.old.place + e.step)) }
+        × (last_term_of last.new ≡ term_after (last_term_of last.old) e.term) × (last.new.place ≡ last.old.place + e.step)) }
 {
     let Ok(point) = point_at(cur, skip_interval) else {
         unreachable!();
@@ -41,7 +41,7 @@ fn mark_of_last<'a>(
     names: &FieldNames<'a>,
 ) -> Result<Mark<'a>, OutOfMemory>
     requires { IsUtf8 last.now.text.items }
-    ensures { IfOk result (λ mark. index_mark_of mark ≡ record { name = name_of names.now last.now.info.field; term = last_of last.now; place = last.now.place }) }
+    ensures { IfOk result (λ mark. index_mark_of mark ≡ record { name = field_name_of names.now last.now.info.field; term = last_term_of last.now; place = last.now.place }) }
 {
     let text = unsafe { str::from_utf8_unchecked(last.text.as_slice()) };
     Ok(Mark {

@@ -1,6 +1,6 @@
 //! The names of the fields of a segment by their numbers.
 ghost use Rattle.std.specs.Prelude.{◌≡◌, IfOk};
-ghost use Rattle.term_index.specs.Seeking.{names_of, name_of};
+ghost use Rattle.term_index.specs.Seeking.{names_of, field_name_of};
 
 use lu_prims::OutOfMemory;
 use lu_types::FieldTable;
@@ -42,7 +42,7 @@ impl<'a> FieldNames<'a> {
 
     /// The name of the field with a number, empty where there is none.
     pub(crate) fn name(&self, number: u32) -> &'a str
-        ensures { result.now ≡ name_of self.now number }
+        ensures { result.now ≡ field_name_of self.now number }
     {
         match self.texts.get(number as usize) {
             Some(name) => name,

@@ -6,7 +6,8 @@ ghost use Rattle.std.specs.Str.{IsUtf8};
 ghost use Rattle.lu_prims.specs.Order.{text_cmp};
 ghost use Rattle.term_dict.specs.Index.{entry_count};
 ghost use Rattle.term_dict.specs.Walk.{walk_to};
-ghost use Rattle.term_index.specs.Seeking.{searched, is_sought, rank, digits, read_up_to, ticked};
+ghost use Rattle.lu_prims.specs.Steps.{ticked};
+ghost use Rattle.term_index.specs.Seeking.{searched, is_sought, rank, digits, read_up_to};
 ghost use Rattle.term_index.specs.InnerSearch.{IsSearchable, AreBelow, index_mark_of, marks_to};
 
 use crate::mark::Mark;

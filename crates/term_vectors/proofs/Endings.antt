@@ -1,29 +1,16 @@
--- What the checks answer: a spot, and a value.
-use Rattle.std.proofs.Common.{◌≡◌, ℕ, ◌<◌, List, length, Result, Ok, Err, refl, sym, ap, subst, ◌∙◌}
+-- What reading a file answers, from its start to its end.
+use Rattle.std.proofs.Common.{◌≡◌, ℕ, ◌<◌, List, length, Ok, sym, ap, subst}
 use Rattle.lu_types.specs.declared.kind.FileKind.{FileKind}
 use Rattle.lu_types.specs.declared.fault.Spot.{Spot}
 use Rattle.lu_types.specs.declared.fault.CodecFault.{CodecFault}
 use Rattle.lu_types.specs.declared.fault.CodecFault.TheVariants as faults
 use Rattle.lu_types.specs.Judging.{IsBroken, IsBrokenSo, IsFirstFault, IsFault}
+use Rattle.lu_types.proofs.SpotLemmas.{spot_of}
 use Rattle.lu_grammar.specs.Bytes.{IsBytes, Cursor, start_of}
 use Rattle.lu_grammar.specs.Reading.{value_or}
-use Rattle.lu_grammar.specs.Plans.{Plan, Broken, read_plan, read_file}
+use Rattle.lu_grammar.specs.Plans.{Plan, read_plan, read_file}
 use Rattle.lu_grammar.specs.Meaning.{Reads, FirstFault}
-use Rattle.lu_grammar.proofs.Codecs.{ok_of, file-fault, file-left, file-read, read_file-Reads}
-
-abbrev pub spot_of : FileKind → ℕ → ℕ → Spot
-spot_of kind offset rule = record { kind = kind; offset = offset; rule = rule }
-
--- what reading answers, as its spot says it
-pub spot-broken : {A : Type 0} (kind : FileKind) (offset rule : ℕ) (s : Spot) (expected : Result A Broken) → s ≡ spot_of kind offset rule → expected ≡ Err (record { offset = offset; rule = rule }) → IsBroken kind expected s
-spot-broken {A} kind offset rule s expected is e = (ap (λ (t : Spot). t.kind) is, e ∙ ap (λ (t : Spot). fault_of t.offset t.rule) (sym is))
-  where
-    fault_of : ℕ → ℕ → Result A Broken
-    fault_of o r = Err (record { offset = o; rule = r })
-
--- a result that is some value is its value
-pub settled : {V E : Type 0} (other v : V) (r : Result V E) → r ≡ ok_of v → r ≡ Ok (value_or other r)
-settled other v r e = e ∙ ap ok_of (sym (ap (value_or other) e))
+use Rattle.lu_grammar.proofs.Codecs.{file-fault, file-left, file-read, read_file-Reads}
 
 -- what a plan answers from the start of a file is its first fault
 pub file-broken : {V R : Type 0} (kind : FileKind) (plan : Plan V R) (bytes : List ℕ) (s : Spot) → IsBytes bytes → IsBroken kind (read_plan plan (start_of bytes)) s → IsFirstFault kind plan bytes s

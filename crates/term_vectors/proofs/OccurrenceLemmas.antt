@@ -7,8 +7,9 @@ use Rattle.lu_grammar.specs.Reading.{read_part}
 use Rattle.lu_grammar.specs.Records.{record_at}
 use Rattle.lu_grammar.specs.Plans.{Broken, read_plan}
 use Rattle.lu_grammar.proofs.Codecs.{read_due_broken, alone_read, alone_breaks}
+use Rattle.lu_types.specs.Stores.{greatest_place}
 use Rattle.lu_model.specs.Index.{Span}
-use Rattle.term_vectors.specs.Format.{greatest_place, headed}
+use Rattle.term_vectors.specs.Format.{headed}
 use Rattle.term_vectors.specs.Vectors.{TvfRecord, position, position_shape, position_after, position_conditions, positions_plan, pair_shape, span_after, pair_conditions, spans_plan}
 use Rattle.term_vectors.proofs.Steps.{Continues, record-left}
 

@@ -1,19 +1,9 @@
--- The order of texts by the bytes that follow what they share, and what a sound last text is.
-use Rattle.std.proofs.Common.{◌≡◌, ℕ, Bool, true, false, cond, List, [], ◌++◌, length, take, drop, Option, Some, None, refl, sym, ap, ◌∙◌}
+-- What a sound last text is, and the text that stands before the next one.
+use Rattle.std.proofs.Common.{◌≡◌, Bool, true, false, cond, [], length, Option, Some, None, refl, sym, ap}
 use Rattle.std.specs.Option.{unwrap_or}
-use Rattle.std.specs.Str.{IsUtf8}
 use Rattle.std.specs.declared.cmp.Ordering.{Ordering}
-use Rattle.std.proofs.lemmas.List.{take-append-drop}
-use Rattle.lu_prims.specs.Order.{byte_rank, text_cmp}
-use Rattle.lu_prims.proofs.OrderLemmas.{level_front}
-use Rattle.lu_prims.proofs.Units.{text_cmp_is}
 use Rattle.term_vectors.specs.declared.texts.LastText.{LastText}
-use Rattle.term_vectors.specs.InnerTexts.{text_before, IsSoundText, bytes_cmp}
-
--- texts that share their first bytes are as the bytes that follow
-pub text_cmp-tail : (s x : List ℕ) (p : ℕ) → IsUtf8 s → IsUtf8 (take p s ++ x) → text_cmp s (take p s ++ x) ≡ bytes_cmp (drop p s) x
-text_cmp-tail s x p hs ht =
-    text_cmp_is s (take p s ++ x) hs ht ∙ ap (λ (t : List ℕ). bytes_cmp t (take p s ++ x)) (sym (take-append-drop p s)) ∙ level_front byte_rank (take p s) (drop p s) x
+use Rattle.term_vectors.specs.InnerTexts.{text_before, IsSoundText}
 
 -- the bytes are those of the text, or none
 pub text_or_none : (last : LastText) → IsSoundText last → unwrap_or (text_before last) [] ≡ last.bytes.items

@@ -21,9 +21,10 @@ use Rattle.lu_grammar.specs.Reading.{◌>>=◌, read_part}
 use Rattle.lu_grammar.specs.Records.{first_broken, read_shape, record_at}
 use Rattle.lu_grammar.specs.Plans.{Plan, done, and_then, read_plan}
 use Rattle.lu_grammar.proofs.Codecs.{ok_pair, same_pair, ok_of, then_ok, due_was, record_at-was, read_plan-and_then, IsBytes-after, reads-read_plan, read_part-place}
+use Rattle.lu_types.specs.Stores.{greatest_place}
 use Rattle.lu_model.specs.Index.{Span, VectorTerm}
 use Rattle.lu_model.specs.Valid.{IsSmall, AreAsMany, IsVectorTerm}
-use Rattle.term_vectors.specs.Format.{greatest_place, bit_positions, bit_offsets, headed}
+use Rattle.term_vectors.specs.Format.{bit_positions, bit_offsets, headed}
 use Rattle.term_vectors.specs.Vectors.{TvfRecord, format, heading, term, position, pair, position_shape, position_after, position_conditions, positions_plan, pair_shape, span_after, pair_conditions, spans_plan}
 use Rattle.term_vectors.proofs.Steps.{headed_was}
 use Rattle.term_vectors.proofs.OccurrenceLemmas.{reads_positions, reads_spans}

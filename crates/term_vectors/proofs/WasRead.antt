@@ -7,13 +7,12 @@ use Rattle.lu_grammar.specs.Parts.{int32, num}
 use Rattle.lu_grammar.specs.Reading.{◌>>=◌, read_part}
 use Rattle.lu_grammar.specs.Records.{first_broken, rule_of, record_at}
 use Rattle.lu_grammar.specs.Plans.{Plan, done, and_then, Broken, read_plan, read_file}
-use Rattle.lu_grammar.proofs.Codecs.{ok_pair, same_pair, ok_of, err_is_not_ok, then_ok, due_was, read_due, record_at-was, alone_was, alone_read, alone_breaks, alone_unread, read_plan-and_then, file_was, same-of}
+use Rattle.lu_grammar.proofs.Codecs.{ok_pair, same_pair, ok_of, err_is_not_ok, then_ok, due_was, read_due, record_at-was, alone_was, alone_read, alone_breaks, alone_unread, read_plan-and_then, file_was, same-of, int32_read}
 use Rattle.term_vectors.specs.declared.layout.DocumentPlaces.{DocumentPlaces}
 use Rattle.term_vectors.specs.Format.{format_shape, headed}
 use Rattle.term_vectors.specs.Fields.{TvdRecord, VectorPlace, format, count, number, stated, format_conditions, count_shape, count_conditions, number_shape, number_conditions, numbers_plan, difference_shape, difference_conditions, further_plan, placed, document_plan, is_within, no_window, documents_plan, tvd_plan}
 use Rattle.term_vectors.proofs.Steps.{headed_was}
 use Rattle.term_vectors.proofs.TurnLemmas.{AreLeft, one-passed, turn-broken}
-use Rattle.term_vectors.proofs.FixedLemmas.{int32_read}
 use Rattle.term_vectors.proofs.FieldLemmas.{reads_numbers, numbers-left, numbers-broken, reads_further, further_of, rest_of_document}
 
 -- ---- the fields of a document's vectors

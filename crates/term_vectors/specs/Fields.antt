@@ -10,7 +10,8 @@ use Rattle.lu_types.specs.declared.stored.Window.{Window}
 use Rattle.lu_grammar.specs.Parts.{num, vlong}
 use Rattle.lu_grammar.specs.Records.{Shape, whole, part, Condition}
 use Rattle.lu_grammar.specs.Plans.{Plan, done, due, and_then}
-use Rattle.term_vectors.specs.Format.{greatest_place, format_shape, format_rule, headed}
+use Rattle.lu_types.specs.Stores.{greatest_place}
+use Rattle.term_vectors.specs.Format.{format_shape, format_rule, headed}
 use Rattle.term_vectors.specs.declared.layout.DocumentPlaces.{DocumentPlaces}
 
 -- a record of `.tvd`: the format number, how many vectors a document has, the field of one, or how far it stands from the one before

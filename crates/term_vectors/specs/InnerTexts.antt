@@ -1,12 +1,8 @@
 -- The text of the last term that was read, and the record of the next, as the code has them.
 use Rattle.std.specs.Prelude.{◌≡◌, ℕ, Bool, false, cond, List, [], Option, Some, None}
-use Rattle.std.specs.declared.cmp.Ordering.{Ordering}
-use Rattle.std.specs.Cmp.Lexicographic.{slice_cmp}
-use Rattle.std.specs.Ordering.{nat_cmp}
 use Rattle.std.specs.Str.{IsUtf8}
-use Rattle.lu_prims.specs.Order.{byte_rank}
 use Rattle.term_vectors.specs.declared.texts.LastText.{LastText}
-use Rattle.term_vectors.specs.declared.texts.TermEntry.{TermEntry}
+use Rattle.term_vectors.specs.declared.texts.VectorTermEntry.{VectorTermEntry}
 use Rattle.term_vectors.specs.Vectors.{TvfRecord, term}
 
 -- the text, where there is one
@@ -19,9 +15,5 @@ pub record IsSoundText (last : LastText) : Type 0 where
   pub none : last.is_some ≡ false → last.bytes.items ≡ []
 
 -- the record of the program
-abbrev pub term_record : TermEntry → TvfRecord
+abbrev pub term_record : VectorTermEntry → TvfRecord
 term_record e = term e.prefix e.suffix.now e.freq
-
--- how the bytes after what two texts share stand to each other: by where the first that differ stand in UTF-16 order
-abbrev pub bytes_cmp : List ℕ → List ℕ → Ordering
-bytes_cmp a b = slice_cmp (λ x y. nat_cmp (byte_rank x) (byte_rank y)) a b

@@ -7,7 +7,7 @@ ghost use Rattle.lu_grammar.specs.Plans.{read_plan, read_file};
 ghost use Rattle.term_vectors.specs.Places.{tvx_plan};
 ghost use Rattle.term_vectors.specs.Fields.{VectorPlace, no_window, numbers_plan, further_plan, placed, document_plan, tvd_plan};
 ghost use Rattle.term_vectors.specs.Vectors.{vectors_plan, tvf_plan};
-ghost use Rattle.term_vectors.specs.Stores.{places_in, slots_in, vectors_in};
+ghost use Rattle.term_vectors.specs.Stores.{places_in, slots_in, stored_vectors_in};
 ghost use Rattle.term_vectors.specs.InnerAnswers.{PassesIn};
 
 use crate::fields::{next_place, places_at};
@@ -20,7 +20,7 @@ use lu_types::{CodecFault, FileKind, Spot};
 use std::alloc::Global;
 
 /// Passes the fields of so many vectors in `.tvd`, which have no fault.
-fn skip_numbers(beside: &mut Cur<'_>, count: u32)
+pub fn skip_numbers(beside: &mut Cur<'_>, count: u32)
     requires { (x : List ℕ × Cursor) × (read_plan (numbers_plan false [] count []) beside.old ≡ Ok x) }
     ensures { (ns : List ℕ) (d : Cursor) → read_plan (numbers_plan false [] count []) beside.old ≡ Ok (ns, d) → beside.new ≡ d }
 {
@@ -96,7 +96,7 @@ pub fn check_vectors(
 ) -> Result<(), CodecFault>
     requires places { read_file (tvx_plan total) tvx.now ≡ Ok (places_in total tvx.now) }
     requires slots { read_file (tvd_plan [] no_window (places_in total tvx.now)) tvd.now ≡ Ok (slots_in (places_in total tvx.now) tvd.now) }
-    ensures { let slots = slots_in (places_in total tvx.now) tvd.now in Checks (λ _. vectors_in slots tvf.now) Tvf (tvf_plan slots) tvf.now result }
+    ensures { let slots = slots_in (places_in total tvx.now) tvd.now in Checks (λ _. stored_vectors_in slots tvf.now) Tvf (tvf_plan slots) tvf.now result }
 {
     let mut here = Cur::at(tvf, 0);
     if let Err(rule) = pass_format(&mut here, TVF_FORMAT) {

@@ -7,6 +7,7 @@ ghost use Rattle.term_vectors.specs.Walks.{walk_of};
 ghost use Rattle.term_vectors.specs.InnerViews.{no_vector, no_slot, slots_plan, slots_here};
 ghost use Rattle.term_vectors.specs.InnerSlots.{slot_of};
 
+use crate::cursor::VectorCursor;
 use crate::fields::next_place;
 use crate::terms::VectorTerms;
 use crate::vectors::next_heading;
@@ -45,10 +46,10 @@ pub struct VectorDoc<'a> {
 
 impl<'a> Model for VectorDoc<'a> {
     ghost use Rattle.std.specs.Prelude.{List};
-    ghost use Rattle.term_vectors.specs.Vectors.{Vector};
+    ghost use Rattle.term_vectors.specs.Vectors.{StoredVector};
     ghost use Rattle.term_vectors.specs.InnerViews.{vectors_here, AreThere};
 
-    ghost Value = { List Vector };
+    ghost Value = { List StoredVector };
 
     ghost view = { λ d. vectors_here d.tvd.now d.numbers d.count d.place d.tvf.now };
 
@@ -128,6 +129,13 @@ impl<'a> VectorDoc<'a> {
         ensures { result ≡ length self.now }
     {
         self.count
+    }
+
+    /// A walk over the vectors, before the first. It takes time by their number to make, and no memory.
+    pub fn vectors(&self) -> VectorCursor<'a>
+        ensures { result ≡ self.now }
+    {
+        VectorCursor::new(self.tvd, self.numbers, self.count, self.tvf, self.place)
     }
 
     /// The field of the vector with a number, and its bits. Walks to it over the vectors of the document.

@@ -2,6 +2,7 @@
 #![tactic(auto)]
 
 mod checking;
+mod cursor;
 mod document;
 mod fields;
 pub mod laws;
@@ -12,14 +13,24 @@ mod terms;
 mod texts;
 mod vectors;
 mod view;
+mod writer;
+mod written;
 
+pub use cursor::{DocVector, VectorCursor};
 pub use document::{VectorDoc, VectorField};
-pub use fields::{StorePart, check_fields};
+pub use fields::{StoreWindow, check_fields};
 pub use layout::DocumentPlaces;
-pub use occurrences::Pair;
+pub use occurrences::OffsetPair;
 pub use places::check_places;
 pub use terms::VectorTerms;
 pub use view::VectorView;
+pub use writer::{Lacking, VectorFiles, VectorWriter};
 
 #[cfg(test)]
+mod drawn_tests;
+#[cfg(test)]
+mod handing;
+#[cfg(test)]
 mod tests;
+#[cfg(test)]
+mod writer_tests;

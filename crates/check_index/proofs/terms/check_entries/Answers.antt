@@ -43,7 +43,7 @@ loop-info-preserved c =
     ap (λ (x : Dictionary). option_map (λ (t : DictionaryTerm). t.info) (slice_get x.terms passed)) (sym c.loop-info.invariant.0) ∙ sym c.in-Some.ensures.term in
     let is = c.rules_of-rules.ensures ∙ ap (λ (m : TermNumbers). term_rules m (bits_at fields info.field) c.args.size) c.numbers-numbers.ensures.numbers in
     let read = c.in-Ok-check_term.ensures.term in
-    let good = c.in-Ok-check_term.ensures.good (used_at d passed info c.requires there) in
+    let good = c.in-Ok-check_term.ensures.good (used_at fields c.args.size d passed info c.requires there).0 in
     let more = terms-more fields c.args.size d c.args.frq.now (λ i. (c.type_inv.frq i).fits) passed c.loop-info.at end info c.rules_of-rules.result read.0 there is c.loop-info.invariant.1 read.1 good.0 good.1 c.in-Ok-check_term.ensures.within in
     let moved = c.in-Some.ensures.passed in
     (ap (λ (w : TermWalk). w.dictionary) moved ∙ c.loop-info.invariant.0, subst (λ (n : ℕ). HavePassedTerms fields c.args.size d c.args.frq.now n end) (sym (ap (λ (w : TermWalk). w.passed) moved)) more)

@@ -2,12 +2,12 @@ use Rattle.std.proofs.Common.{refl}
 use Rattle.check_index.specs.declared.terms.OpenTerms.{OpenTerms}
 use Rattle.check_index.specs.Terms.{listed_terms, lists_in}
 use Rattle.check_index.specs.Locating.{index_files_of}
-use Rattle.check_index.proofs.TermLemmas.{terms_are_used}
+use Rattle.term_dict.proofs.FactLemmas.{good-terms}
 use Rattle.check_index.proofs.TermFiles.{entries-fault, entries-stand}
 use Rattle.check_index.proofs.terms.open_terms.Goals as goal
 
 pub check_entries-requires : goal.check_entries-requires
-check_entries-requires c = terms_are_used c.args.fields.now c.args.size c.in-Ok.tis.now c.in-Ok-check_tis.terms c.in-Ok-check_tis.ensures.ok
+check_entries-requires c = good-terms c.args.fields.now c.args.size c.in-Ok.tis.now c.in-Ok-check_tis.terms c.in-Ok-check_tis.ensures.ok
 
 pub returns-in-Err-check_entries-clause-judged : goal.returns-in-Err-check_entries-clause-judged
 returns-in-Err-check_entries-clause-judged c =
@@ -27,5 +27,5 @@ returns-in-Ok-check_entries-clause-judged c =
     entries-stand seen (index_files_of c.args.files.now) size fields c.in-Ok.tis.now c.in-Ok-needed.tii.now frq.now d c.in-Ok.ensures c.in-Ok-check_tis.ensures.ok c.in-Ok-needed.ensures c.in_default.ensures.ok
     c.in-Ok-needed-2.ensures (lists_in fields size d frq.now) (record { terms = d; tii = c.in-Ok-needed.tii; frq = frq }) c.in-Ok-check_entries.ensures.listed.reads refl
 
-pub returns-in-Ok-check_entries-clause-used : goal.returns-in-Ok-check_entries-clause-used
-returns-in-Ok-check_entries-clause-used c = terms_are_used c.args.fields.now c.args.size c.in-Ok.tis.now c.in-Ok-check_tis.terms c.in-Ok-check_tis.ensures.ok
+pub returns-in-Ok-check_entries-clause-good : goal.returns-in-Ok-check_entries-clause-good
+returns-in-Ok-check_entries-clause-good c = good-terms c.args.fields.now c.args.size c.in-Ok.tis.now c.in-Ok-check_tis.terms c.in-Ok-check_tis.ensures.ok

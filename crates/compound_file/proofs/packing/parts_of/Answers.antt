@@ -5,9 +5,10 @@ use Rattle.std.proofs.lemmas.List.Elements.{All-push}
 use Rattle.lu_grammar.specs.Bytes.{IsBytes}
 use Rattle.lu_types.specs.declared.kind.FileKind.TheVariants.{Commit}
 use Rattle.lu_types.specs.Names.{segment_name}
+use Rattle.lu_types.specs.Kinds.{part_kinds}
 use Rattle.compound_file.specs.declared.packing.Packed.{Packed}
 use Rattle.compound_file.specs.Entries.{NamedPart}
-use Rattle.compound_file.specs.Packing.{part_kinds, file_of, packed_in}
+use Rattle.compound_file.specs.Packing.{file_of, packed_in}
 use Rattle.compound_file.specs.Packs.{part_of}
 use Rattle.compound_file.proofs.KindLemmas.{parts_from, parts_from-next}
 use Rattle.compound_file.proofs.packing.parts_of.Goals as goal

@@ -1,7 +1,8 @@
 use Rattle.std.proofs.Common.{◌≡◌, ◌≤◌, ◌++◌, drop, map, length, filter_map, All}
 use Rattle.lu_grammar.specs.Bytes.{IsBytes}
 use Rattle.lu_types.specs.Names.{segment_name}
-use Rattle.compound_file.specs.Packing.{part_kinds, file_of, packed_in, packed_parts}
+use Rattle.lu_types.specs.Kinds.{part_kinds}
+use Rattle.compound_file.specs.Packing.{file_of, packed_in, packed_parts}
 use Rattle.compound_file.specs.Packs.{part_of}
 use Rattle.compound_file.proofs.packing.parts_of.Given as goal
 

@@ -8,7 +8,7 @@ use Rattle.lu_types.specs.Judging.{Checks, GivesIn}
 use Rattle.lu_types.specs.declared.kind.FileKind.{FileKind}
 use Rattle.lu_types.specs.declared.fault.CodecFault.{CodecFault}
 use Rattle.lu_types.specs.declared.fault.CodecFault.TheVariants as faults
-use Rattle.compound_file.specs.Entries.{NamedPart, Entry}
+use Rattle.compound_file.specs.Entries.{NamedPart, PartEntry}
 use Rattle.compound_file.specs.Cfs.{entry_kind, cfs_plan}
 use Rattle.compound_file.proofs.SplitLemmas.{header-fault, directory-fault, none-left, all-read}
 use Rattle.compound_file.proofs.parts.split.Goals as goal
@@ -22,7 +22,7 @@ returns-in-Err c =
 -- a fault of the directory is one of the file
 fails : (kind : FileKind) (bytes : List ℕ) (count : ℕ) (here there : Cursor) (found : CodecFault)
     → ((offset rule : ℕ) → read_plan (times (entry_kind (length bytes) count) count []) here ≡ Err (record { offset = offset; rule = rule }) → FirstFault (cfs_plan (length bytes)) bytes offset rule)
-    → GivesIn {X = List Entry} kind (λ d. d) (read_plan (times (entry_kind (length bytes) count) count []) here) there (Err found) → Checks {X = List NamedPart} (λ parts. parts) kind (cfs_plan (length bytes)) bytes (Err found)
+    → GivesIn {X = List PartEntry} kind (λ d. d) (read_plan (times (entry_kind (length bytes) count) count []) here) there (Err found) → Checks {X = List NamedPart} (λ parts. parts) kind (cfs_plan (length bytes)) bytes (Err found)
 fails kind bytes count here there (faults.Spot spot) fault h = (h.0, fault spot.offset spot.rule h.1)
 fails kind bytes count here there faults.OutOfMemory fault h = tt
 

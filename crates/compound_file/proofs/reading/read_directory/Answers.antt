@@ -1,5 +1,5 @@
 use Rattle.std.proofs.Common.{refl}
-use Rattle.compound_file.specs.Directories.{entry_of}
+use Rattle.compound_file.specs.Directories.{part_entry_of}
 use Rattle.compound_file.proofs.DirectoryLemmas.{none_passed, one_passed, fault_passed}
 use Rattle.compound_file.proofs.reading.read_directory.Goals as goal
 
@@ -16,5 +16,5 @@ returns-in-Err-clause-gives c =
 
 pub loop-preserved : goal.loop-preserved
 loop-preserved c =
-    rw c.in_ok-push-in-Ok.ensures.ok (one_passed c.args.bounds.size c.args.bounds.count c.args.cur.now c.loop.counter c.loop.directory c.loop.cur (entry_of c.in-Ok.entry) c.next_entry.new.cur
+    rw c.in_ok-push-in-Ok.ensures.ok (one_passed c.args.bounds.size c.args.bounds.count c.args.cur.now c.loop.counter c.loop.directory c.loop.cur (part_entry_of c.in-Ok.entry) c.next_entry.new.cur
     c.loop.invariant c.in-Ok.ensures.gives c.in-Ok.ensures.good c.in-Ok.ensures.bytes)

@@ -13,13 +13,13 @@ pub returns-in-Some-clause-read : goal.returns-in-Some-clause-read
 returns-in-Some-clause-read c =
     let t = c.args.term.now in
     let r : Record = datum c.in-Ok.parts.0 in
-    let broken = ap (λ (n : ℕ). first_broken (datum_conditions t c.args.wanted.now c.args.start c.args.last.now n r)) (sym c.place-place.ensures) ∙ sym c.in-Some.ensures in
-    record_at-breaks (datum_shape t c.args.level) _ c.args.cur.now r c.datum_parts.new.cur c.in-Some.rule c.in-Ok.ensures.parts broken
+    let broken = ap (λ (n : ℕ). first_broken (datum_conditions t c.args.wanted.now c.args.level.now.place c.args.last.now n r)) (sym c.place-place.ensures) ∙ sym c.in-Some.ensures in
+    record_at-breaks (datum_shape t c.args.level.now.number) _ c.args.cur.now r c.datum_parts.new.cur c.in-Some.rule c.in-Ok.ensures.parts broken
 
 pub returns-in-None-clause-read : goal.returns-in-None-clause-read
 returns-in-None-clause-read c =
     let t = c.args.term.now in
     let r : Record = datum c.in-Ok.parts.0 in
-    let broken = ap (λ (n : ℕ). first_broken (datum_conditions t c.args.wanted.now c.args.start c.args.last.now n r)) (sym c.place-place.ensures) ∙ sym c.in-None.ensures in
+    let broken = ap (λ (n : ℕ). first_broken (datum_conditions t c.args.wanted.now c.args.level.now.place c.args.last.now n r)) (sym c.place-place.ensures) ∙ sym c.in-None.ensures in
     let point = ap (λ (n : ℕ). point_of t c.args.last.now n r) (sym c.place-place.ensures) ∙ sym c.point_after.ensures.point in
-    (r, record_at-read (datum_shape t c.args.level) _ c.args.cur.now r c.datum_parts.new.cur c.in-Ok.ensures.parts broken, point)
+    (r, record_at-read (datum_shape t c.args.level.now.number) _ c.args.cur.now r c.datum_parts.new.cur c.in-Ok.ensures.parts broken, point)

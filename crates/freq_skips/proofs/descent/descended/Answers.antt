@@ -3,11 +3,12 @@ use Rattle.std.specs.Prelude.{min, ◌==◌, if◌then◌else◌}
 use Rattle.freq_skips.specs.declared.rules.RuledTerm.{RuledTerm}
 use Rattle.freq_skips.specs.Levels.{level_count, data_count, stride}
 use Rattle.freq_skips.specs.Walks.{start_in, value_from}
-use Rattle.freq_skips.specs.Points.{is_highest, data_below, find_steps, ticked}
-use Rattle.freq_skips.specs.Finding.{LevelsLeft, IsPassed}
+use Rattle.lu_prims.specs.Steps.{ticked}
+use Rattle.freq_skips.specs.Points.{is_highest, data_below, find_steps}
+use Rattle.freq_skips.specs.Finding.{LevelsLeft, HasPassedData}
 use Rattle.freq_skips.proofs.Powers.{stride-two}
 use Rattle.freq_skips.proofs.LevelsLemmas.{power-less}
-use Rattle.freq_skips.proofs.PassLemmas.{SmallSums-IsSmall}
+use Rattle.freq_skips.proofs.PassLemmas.{SmallSums-AreSmallSums}
 use Rattle.freq_skips.proofs.EnterLemmas.{led-within}
 use Rattle.freq_skips.proofs.FindLemmas.{below-none, LevelsLeft-first, most-within}
 use Rattle.freq_skips.proofs.SearchedLemmas.{level-searched, steps-left}
@@ -38,7 +39,7 @@ most_data-requires-clause-stride g c =
 pub pass_below-requires-clause-small : goal.pass_below-requires-clause-small
 pass_below-requires-clause-small g c =
     let w = c.entered-walk.result in
-    SmallSums-IsSmall c.args.term.now c.args.frq.now (c.loop-number.number - 1) w.count w.last c.requires.search c.entered-walk.ensures.stands.passed
+    SmallSums-AreSmallSums c.args.term.now c.args.frq.now (c.loop-number.number - 1) w.count w.last c.requires.search c.entered-walk.ensures.stands.passed
 
 -- up to which datum the level is searched
 most-is : (t : RuledTerm) (n stride_now count old most : ℕ) → stride_now ≡ stride t n → count ≡ level_count t
@@ -60,7 +61,7 @@ loop-number-preserved g c =
     let is : l.number ≡ suc n = omega (arith, c.loop-number-test.true) in
     let w = c.entered-walk.result in
     let new = c.pass_below.new.walk in
-    let above = subst (λ (k : ℕ). IsPassed t frq k l.walk.count l.walk.last) is i.passed in
+    let above = subst (λ (k : ℕ). HasPassedData t frq k l.walk.count l.walk.last) is i.passed in
     let power : l.stride ≡ stride t n = i.stride ∙ ap (λ (k : ℕ). t.rules.skip_interval ^ k) is in
     let s = t.rules.skip_interval in
     let most = most-is t n l.stride c.args.levels.now.count w.count c.most_data.result power c.requires.count c.most_data.ensures.most in

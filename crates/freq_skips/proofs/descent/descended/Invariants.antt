@@ -1,8 +1,9 @@
 use Rattle.std.proofs.Common.{◌≡◌, ℕ, ◌^◌, ◌<◌, ◌≤◌}
 use Rattle.freq_skips.specs.Levels.{level_count}
 use Rattle.freq_skips.specs.Walks.{start_in, value_from}
-use Rattle.freq_skips.specs.Points.{data_below, find_steps, ticked}
-use Rattle.freq_skips.specs.Finding.{LevelsLeft, IsPassed}
+use Rattle.lu_prims.specs.Steps.{ticked}
+use Rattle.freq_skips.specs.Points.{data_below, find_steps}
+use Rattle.freq_skips.specs.Finding.{LevelsLeft, HasPassedData}
 use Rattle.freq_skips.proofs.descent.descended.Given as goal
 
 abbrev pub invariant-loop-number : goal.invariant-loop-number
@@ -12,7 +13,7 @@ invariant-loop-number g l =
       within : l.number ≤ l.levels.count;
       stride : l.stride ≡ l.term.rules.skip_interval ^ l.number;
       left : 0 < l.number → LevelsLeft l.term l.frq l.number l.place;
-      passed : IsPassed l.term l.frq l.number l.walk.count l.walk.last;
+      passed : HasPassedData l.term l.frq l.number l.walk.count l.walk.last;
       below : l.walk.count ≡ data_below v l.target l.number;
       steps : ticked (find_steps l.term v l.target l.number) l.steps ≡ ticked (find_steps l.term v l.target (level_count l.term)) l.initial.steps;
     }

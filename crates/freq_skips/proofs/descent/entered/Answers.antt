@@ -8,7 +8,7 @@ use Rattle.freq_skips.specs.Levels.{no_point}
 use Rattle.freq_skips.specs.Walks.{points_in}
 use Rattle.lu_grammar.specs.Parts.{vlong}
 use Rattle.lu_grammar.specs.Reading.{read_part}
-use Rattle.freq_skips.specs.Finding.{CanSearch, LevelStands, IsPassed, StandsOn}
+use Rattle.freq_skips.specs.Finding.{CanSearch, LevelStands, HasPassedData, StandsOn}
 use Rattle.freq_skips.proofs.Powers.{stride-two, quotient-half}
 use Rattle.freq_skips.proofs.EnterLemmas.{Lands, IsLed, is-led, landed, entered-led, entered-none}
 use Rattle.freq_skips.proofs.descent.entered.Goals as goal
@@ -20,16 +20,16 @@ returns-then-above-eq0-clause-stands c =
     subst (λ (d : Cursor). StandsOn t frq c.args.level (record { cur = d; count = 0; last = no_point })) (sym c.at.ensures) (entered-none t frq c.args.level c.args.start c.requires.stands c.requires.level)
 
 -- what the level above tells
-above-led : (t : RuledTerm) (frq : List ℕ) (level begin count : ℕ) (p : Point) (s : LevelStands t frq level begin) → CanSearch t frq → IsPassed t frq (suc level) count p → (count ≡ 0 → ⊥) → IsLed t frq level begin (count - 1) s
+above-led : (t : RuledTerm) (frq : List ℕ) (level begin count : ℕ) (p : Point) (s : LevelStands t frq level begin) → CanSearch t frq → HasPassedData t frq (suc level) count p → (count ≡ 0 → ⊥) → IsLed t frq level begin (count - 1) s
 above-led t frq level begin count p s search passed some =
-    let is : count ≡ suc (count - 1) = omega arith in is-led t frq level begin (count - 1) p s search (subst (λ (n : ℕ). IsPassed t frq (suc level) n p) is passed)
+    let is : count ≡ suc (count - 1) = omega arith in is-led t frq level begin (count - 1) p s search (subst (λ (n : ℕ). HasPassedData t frq (suc level) n p) is passed)
 
 -- the place that is read from
-place-is : (t : RuledTerm) (frq : List ℕ) (level begin count at : ℕ) (p : Point) (s : LevelStands t frq level begin) → CanSearch t frq → IsPassed t frq (suc level) count p → (count ≡ 0 → ⊥) → (h : IsLed t frq level begin (count - 1) s)
+place-is : (t : RuledTerm) (frq : List ℕ) (level begin count at : ℕ) (p : Point) (s : LevelStands t frq level begin) → CanSearch t frq → HasPassedData t frq (suc level) count p → (count ≡ 0 → ⊥) → (h : IsLed t frq level begin (count - 1) s)
     → at ≡ min (begin + p.child) 18446744073709551615 → (at ≡ begin + p.child) × (begin + p.child ≤ length frq)
 place-is t frq level begin count at p s search passed some h is =
     let e : count ≡ suc (count - 1) = omega arith in
-    let child = (subst (λ (n : ℕ). IsPassed t frq (suc level) n p) e passed).like.child in
+    let child = (subst (λ (n : ℕ). HasPassedData t frq (suc level) n p) e passed).like.child in
     let within = h.led.lands.within in
     let small = search.small in
     (omega (arith, is, child, within, small), omega (arith, child, within))
@@ -55,13 +55,13 @@ overflow_mul-result c =
     let lt : a.count * t.rules.skip_interval < 2 ^ 32 = omega (arith, h.within, half, same) in
     search rules
 
-entered-is : (t : RuledTerm) (frq : List ℕ) (level begin at n : ℕ) (a : Following) (d : Cursor) (s : LevelStands t frq level begin) → CanSearch t frq → IsPassed t frq (suc level) a.count a.last → (a.count ≡ 0 → ⊥) → IsLed t frq level begin (a.count - 1) s
+entered-is : (t : RuledTerm) (frq : List ℕ) (level begin at n : ℕ) (a : Following) (d : Cursor) (s : LevelStands t frq level begin) → CanSearch t frq → HasPassedData t frq (suc level) a.count a.last → (a.count ≡ 0 → ⊥) → IsLed t frq level begin (a.count - 1) s
     → at ≡ begin + a.last.child → (level ≡ 0 → (n ≡ 0) × (d ≡ place_in frq at)) → ((m : ℕ) (to : Cursor) → 0 < level → read_part vlong (place_in frq at) ≡ Ok (m, to) → (n ≡ m) × (d ≡ to))
     → StandsOn t frq level (record { cur = d; count = a.count * t.rules.skip_interval; last = record { doc = a.last.doc; freq = a.last.freq; prox = a.last.prox; payload = a.last.payload; child = n; place = a.last.place } })
 entered-is t frq level begin at n a d s search passed some h is low high =
     let k = a.count - 1 in
     let e : a.count ≡ suc k = omega arith in
-    let above = subst (λ (m : ℕ). IsPassed t frq (suc level) m a.last) e passed in
+    let above = subst (λ (m : ℕ). HasPassedData t frq (suc level) m a.last) e passed in
     let there = subst (λ (x : ℕ). Lands frq level x (slice_index_or (points_in t frq level) (suc k * t.rules.skip_interval - 1) no_point).child h.led.next) (ap (λ (x : ℕ). begin + x) (sym above.like.child) ∙ sym is) h.led.lands in
     let read = landed frq level at _ n h.led.next d there low high in
     subst (λ (m : ℕ). StandsOn t frq level (record { cur = d; count = m * t.rules.skip_interval; last = record { doc = a.last.doc; freq = a.last.freq; prox = a.last.prox; payload = a.last.payload; child = n; place = a.last.place } })) (sym e)

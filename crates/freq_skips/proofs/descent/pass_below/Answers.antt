@@ -6,12 +6,12 @@ use Rattle.lu_grammar.specs.Bytes.{Cursor}
 use Rattle.freq_skips.specs.declared.rules.RuledTerm.{RuledTerm}
 use Rattle.freq_skips.specs.declared.datum.Point.{Point}
 use Rattle.freq_skips.specs.declared.following.Following.{Following}
-use Rattle.freq_skips.specs.Levels.{no_point, data_count, IsSmall}
+use Rattle.freq_skips.specs.Levels.{no_point, data_count, AreSmallSums}
 use Rattle.freq_skips.specs.Walks.{points_in}
-use Rattle.freq_skips.specs.Points.{ticked}
-use Rattle.freq_skips.specs.Finding.{IsPassed, StandsOn, StopsAt}
+use Rattle.lu_prims.specs.Steps.{ticked}
+use Rattle.freq_skips.specs.Finding.{HasPassedData, StandsOn, StopsAt}
 use Rattle.freq_skips.proofs.PassLemmas.{StandsOn-next, StandsOn-unread}
-use Rattle.freq_skips.proofs.StepLemmas.{ticked-next}
+use Rattle.lu_prims.proofs.StepLemmas.{ticked-next}
 use Rattle.freq_skips.proofs.descent.pass_below.Goals as goal
 
 pub loop-walk-init : goal.loop-walk-init

@@ -1,14 +1,14 @@
 use Rattle.std.proofs.Common.{◌≡◌, ◌⊎◌, ℕ, ◌+◌, ◌-◌, ◌<◌, ◌≤◌, List}
 use Rattle.std.specs.Prelude.{slice_index_or}
-use Rattle.freq_skips.specs.Levels.{no_point, data_count, IsSmall}
+use Rattle.freq_skips.specs.Levels.{no_point, data_count, AreSmallSums}
 use Rattle.freq_skips.specs.Walks.{points_in}
-use Rattle.freq_skips.specs.Points.{ticked}
+use Rattle.lu_prims.specs.Steps.{ticked}
 use Rattle.freq_skips.specs.Finding.{StandsOn}
 use Rattle.freq_skips.proofs.descent.pass_below.Given as goal
 
 abbrev pub invariant-loop-walk : goal.invariant-loop-walk
 invariant-loop-walk g l = record {
-  small : IsSmall l.walk.count l.walk.last;
+  small : AreSmallSums l.walk.count l.walk.last;
   grows : l.initial.walk.count ≤ l.walk.count;
   within : (l.walk.count ≡ l.initial.walk.count) ⊎ (l.walk.count ≤ l.sought.most);
   steps : l.steps ≡ ticked (l.walk.count - l.initial.walk.count) l.initial.steps;

@@ -1,28 +1,28 @@
 use Rattle.std.proofs.Common.{◌≡◌, suc, ◌-◌, ◌*◌, ◌^◌, ◌<◌, ◌≤◌, List}
 use Rattle.lu_grammar.specs.Bytes.{IsBytes, place_in}
 use Rattle.freq_skips.specs.declared.datum.Point.{Point}
-use Rattle.freq_skips.specs.Entries.{postings_from, Stands}
-use Rattle.freq_skips.specs.Levels.{level_of, data_count, Follows, IsSmall}
-use Rattle.freq_skips.specs.Walking.{FollowsAbove, IsSmallAbove, StandAbove}
+use Rattle.freq_skips.specs.Entries.{postings_from, IsBehindEntries}
+use Rattle.freq_skips.specs.Levels.{level_of, data_count, Follows, AreSmallSums}
+use Rattle.freq_skips.specs.Walking.{FollowsAbove, AreSmallSumsAbove, StandAbove}
 use Rattle.freq_skips.proofs.level.check_data.Given as goal
 
 abbrev pub invariant-loop-data : goal.invariant-loop-data
 invariant-loop-data l =
-    let start = place_in l.frq l.entries in
-    let postings = postings_from l.term start in
+    let start = place_in l.entries.frq.now l.entries.start in
+    let postings = postings_from l.entries.term start in
     record {
-      count : l.count ≡ data_count l.term l.level.number;
+      count : l.count ≡ data_count l.entries.term l.level.number;
       few : l.count < 2 ^ 31;
       within : l.data.count ≤ l.count;
-      small : IsSmall l.data.count l.data.last;
-      small_above : IsSmallAbove l.data.count l.above;
+      small : AreSmallSums l.data.count l.data.last;
+      small_above : AreSmallSumsAbove l.data.count l.above;
       bytes : IsBytes l.data.cur.rest;
       onward : l.at ≤ l.data.cur.place;
-      stands : Stands l.term start l.passing.index l.passing.doc l.passing.cur;
+      stands : IsBehindEntries l.entries.term start l.passing.index l.passing.doc l.passing.cur;
       before : l.passing.index ≤ l.data.count * l.level.stride;
-      goes_on : (points : List (List Point)) → StandAbove l.term postings (suc l.level.number) points l.frq l.fn.above
-          → FollowsAbove l.term postings (suc l.level.number) points l.data.count l.above
-          × Follows l.term postings (level_of l.level.number l.level.stated points) (place_in l.frq l.at) l.data.count l.data.last l.data.cur;
+      goes_on : (points : List (List Point)) → StandAbove l.entries.term postings (suc l.level.number) points l.entries.frq.now l.fn.above
+          → FollowsAbove l.entries.term postings (suc l.level.number) points l.data.count l.above
+          × Follows l.entries.term postings (level_of l.level.number l.level.stated points) (place_in l.entries.frq.now l.at) l.data.count l.data.last l.data.cur;
     }
 
 abbrev pub decreases-loop-data : goal.decreases-loop-data

@@ -7,9 +7,9 @@ use Rattle.freq_skips.proofs.levels.check_levels.Goals as goal
 
 pub returns-in-Err : goal.returns-in-Err
 returns-in-Err c =
-    let t = c.args.term.now in
-    let frq = c.args.frq.now in
-    let ps = postings_from t (place_in frq c.args.entries) in
+    let t = c.args.entries.now.term in
+    let frq = c.args.entries.now.frq.now in
+    let ps = postings_from t (place_in frq c.args.entries.now.start) in
     let i = c.loop-number.invariant in
     let m = c.loop-number.number - 1 in
     let is : c.loop-number.number ≡ suc m = omega arith in
@@ -19,9 +19,9 @@ returns-in-Err c =
 
 pub loop-number-preserved : goal.loop-number-preserved
 loop-number-preserved c =
-    let t = c.args.term.now in
-    let frq = c.args.frq.now in
-    let ps = postings_from t (place_in frq c.args.entries) in
+    let t = c.args.entries.now.term in
+    let frq = c.args.entries.now.frq.now in
+    let ps = postings_from t (place_in frq c.args.entries.now.start) in
     let i = c.loop-number.invariant in
     let m = c.loop-number.number - 1 in
     let is : c.loop-number.number ≡ suc m = omega arith in
@@ -39,11 +39,11 @@ loop-number-preserved c =
 
 pub returns : goal.returns
 returns c =
-    let t = c.args.term.now in
-    let frq = c.args.frq.now in
+    let t = c.args.entries.now.term in
+    let frq = c.args.entries.now.frq.now in
     let i = c.loop-number.invariant in
     record {
       points = i.points;
-      reads = i.so_far ∙ levels-none t (postings_from t (place_in frq c.args.entries)) c.loop-number.number i.points (place_in frq c.loop-number.place) (omega arith);
+      reads = i.so_far ∙ levels-none t (postings_from t (place_in frq c.args.entries.now.start)) c.loop-number.number i.points (place_in frq c.loop-number.place) (omega arith);
       end_within = i.place_within;
     }

@@ -3,13 +3,13 @@ use Rattle.std.proofs.lemmas.List.{length-append}
 use Rattle.lu_grammar.specs.Bytes.{IsBytes}
 use Rattle.lu_grammar.proofs.SpelledBytes.{IsBytes-nil, IsBytes-cons, IsBytes-append}
 use Rattle.freq_skips.specs.Written.{Handed}
-use Rattle.freq_skips.specs.Writing.{FrqWriting, begun, added, bytes_so_far, finished}
+use Rattle.freq_skips.specs.Writing.{FrqWriting, entries_begun, entry_added, bytes_so_far, finished}
 use Rattle.freq_skips.proofs.RunLemmas.{Runs, Runs-none, Runs-more, Runs-order, Runs-places, nothing_handed}
 use Rattle.freq_skips.proofs.tests.written.Goals as goal
 
 pub loop-doc-init : goal.loop-doc-init
 loop-doc-init g c =
-    let is = c.start-place.ensures.begun ∙ ap (λ (w : FrqWriting). begun w false false) c.in_ok-writer.ensures in
+    let is = c.start-place.ensures.begun ∙ ap (λ (w : FrqWriting). entries_begun w false false) c.in_ok-writer.ensures in
     subst (λ (w : FrqWriting). Runs w c.args.interval c.args.levels false false [] 100 0 0 0) (sym is) (Runs-none c.args.interval c.args.levels false false [] 100 0)
 
 pub loop-doc-preserved : goal.loop-doc-preserved

@@ -1,6 +1,6 @@
 use Rattle.std.proofs.Common.{◌≡◌, ℕ, suc, add-one, ◌+◌, ◌-◌, ◌*◌, ◌^◌, ◌<◌, ◌≤◌, ◌≢◌, ◌⊎◌, inl, inr, ◌++◌, List, rules, sym, ap, subst, ◌∙◌, append_assoc, arith}
 use Rattle.std.proofs.lemmas.List.{append-nil}
-use Rattle.freq_skips.specs.Written.{with_length}
+use Rattle.freq_skips.specs.Written.{with_level_length}
 use Rattle.freq_skips.specs.InnerLevels.{LevelMarks, level_marks, marked_count, marked_above, marked_bytes, places_after, marked_levels, AreSmallPlaces}
 use Rattle.freq_skips.proofs.WriterLemmas.{marked_levels-none, marked_levels-next, OnOk-then, step-fits, step-next, step-pos, places-enough}
 use Rattle.freq_skips.proofs.writer.+put_levels.Goals as goal
@@ -45,13 +45,13 @@ put_levels-requires t c =
 
 -- the levels above, and then this one
 all-levels : (r : LevelMarks) (k left : ℕ) (old out children bytes : List ℕ) (number : ℕ) → left ≡ suc k → number ≡ suc r.number → children ≡ places_after r (marked_count r) → bytes ≡ marked_bytes r (marked_count r)
-    → out ≡ old ++ marked_levels k (level_marks r.payloads r.marks r.interval number (r.step * r.interval) children) → out ++ with_length r.number bytes ≡ old ++ marked_levels left r
+    → out ≡ old ++ marked_levels k (level_marks r.payloads r.marks r.interval number (r.step * r.interval) children) → out ++ with_level_length r.number bytes ≡ old ++ marked_levels left r
 all-levels r k left old out children bytes number is next places same e =
-    ap (λ (b : List ℕ). b ++ with_length r.number bytes) e ∙ append_assoc old (marked_levels k (level_marks r.payloads r.marks r.interval number (r.step * r.interval) children)) (with_length r.number bytes)
+    ap (λ (b : List ℕ). b ++ with_level_length r.number bytes) e ∙ append_assoc old (marked_levels k (level_marks r.payloads r.marks r.interval number (r.step * r.interval) children)) (with_level_length r.number bytes)
     ∙ ap (λ (b : List ℕ). old ++ b)
-    (ap (λ (n : ℕ). marked_levels k (level_marks r.payloads r.marks r.interval n (r.step * r.interval) children) ++ with_length r.number bytes) next
-    ∙ ap (λ (l : List ℕ). marked_levels k (level_marks r.payloads r.marks r.interval (suc r.number) (r.step * r.interval) l) ++ with_length r.number bytes) places
-    ∙ ap (λ (b : List ℕ). marked_levels k (marked_above r) ++ with_length r.number b) same
+    (ap (λ (n : ℕ). marked_levels k (level_marks r.payloads r.marks r.interval n (r.step * r.interval) children) ++ with_level_length r.number bytes) next
+    ∙ ap (λ (l : List ℕ). marked_levels k (level_marks r.payloads r.marks r.interval (suc r.number) (r.step * r.interval) l) ++ with_level_length r.number bytes) places
+    ∙ ap (λ (b : List ℕ). marked_levels k (marked_above r) ++ with_level_length r.number b) same
     ∙ sym (marked_levels-next r k left is))
 
 pub returns : goal.returns

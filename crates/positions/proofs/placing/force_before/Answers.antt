@@ -2,7 +2,7 @@ use Rattle.std.proofs.Common.{◌≡◌, ℕ, ◌+◌, ◌<◌, ◌≤◌, inl, 
 use Rattle.std.proofs.lemmas.Bool.{cases_lt}
 use Rattle.lu_grammar.specs.Bytes.{IsBytes, Cursor, place_in}
 use Rattle.lu_grammar.proofs.Parts.{IsBytes-drop}
-use Rattle.positions.specs.Parts.{record_of}
+use Rattle.positions.specs.Views.{occurrence_record_of}
 use Rattle.positions.specs.Standing.{Skims}
 use Rattle.positions.proofs.StandLemmas.{Skims-none}
 use Rattle.positions.proofs.PassLemmas.{passes-more, passes-never, occurrence-moves, Skims-same, Skims-less}
@@ -41,7 +41,7 @@ returns-in-Err c = λ n force h.
 pub loop-reading-smaller : goal.loop-reading-smaller
 loop-reading-smaller c =
     let r = c.loop-reading.reading in
-    let moves = occurrence-moves r.payloads r.force r.cur (record_of c.in-Ok._parts) c.take.new.self.cur c.loop-reading.invariant.bytes c.in-Ok.ensures.taken.0 in
+    let moves = occurrence-moves r.payloads r.force r.cur (occurrence_record_of c.in-Ok._parts) c.take.new.self.cur c.loop-reading.invariant.bytes c.in-Ok.ensures.taken.0 in
     omega (arith, c.place.ensures, moves.0)
 
 pub loop-reading-preserved : goal.loop-reading-preserved
@@ -52,12 +52,12 @@ loop-reading-preserved c =
     let read = c.in-Ok.ensures in
     let start = place_in c.args.prx.now c.args.start in
     let there = place_in c.args.prx.now c.args.place in
-    let moves = occurrence-moves r.payloads r.force r.cur (record_of c.in-Ok._parts) new.cur i.bytes read.taken.0 in
+    let moves = occurrence-moves r.payloads r.force r.cur (occurrence_record_of c.in-Ok._parts) new.cur i.bytes read.taken.0 in
     record {
       payloads = read.payloads ∙ i.payloads;
       bytes = moves.1;
       count = i.count + 1;
-      skims = record { reads = passes-more c.args.payloads r.payloads i.count 0 start r.force r.cur (record_of c.in-Ok._parts) new.cur new.force i.payloads i.skims.reads read.taken.0 read.taken.1 };
+      skims = record { reads = passes-more c.args.payloads r.payloads i.count 0 start r.force r.cur (occurrence_record_of c.in-Ok._parts) new.cur new.force i.payloads i.skims.reads read.taken.0 read.taken.1 };
       within = λ n force h.
           let lt = before c.args.payloads start i.count n r.force force r.cur there (i.within n force h) i.skims h (omega (arith, c.place.ensures)) in omega arith;
     }

@@ -2,9 +2,10 @@ use Rattle.std.proofs.Common.{◌≡◌, [], ◌≤◌, ◌+◌, ◌*◌, sym, �
 use Rattle.lu_types.specs.declared.kind.FileKind.TheVariants.{Fdt}
 use Rattle.stored_fields.specs.Documents.{fdt_plan}
 use Rattle.lu_grammar.specs.Plans.{read_file}
-use Rattle.lu_grammar.proofs.Codecs.{Reads-from}
+use Rattle.lu_grammar.proofs.Codecs.{Reads-from, settled}
+use Rattle.lu_types.proofs.SpotLemmas.{spot-broken}
 use Rattle.stored_fields.specs.Stores.{places_in, documents_in, document_here}
-use Rattle.stored_fields.proofs.SpotLemmas.{spot-broken, first_fault, settled}
+use Rattle.stored_fields.proofs.SpotLemmas.{first_fault}
 use Rattle.stored_fields.proofs.PlaceLemmas.{has_places, place_is}
 use Rattle.stored_fields.proofs.DocumentLemmas.{passed_no_document, passed_document, IsBehindFormat, fdt_header_fault, fdt_document_fault, fdt_trailing, fdt_read}
 use Rattle.stored_fields.proofs.documents.check_documents.Goals as goal

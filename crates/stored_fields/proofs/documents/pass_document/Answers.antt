@@ -1,9 +1,9 @@
 use Rattle.std.proofs.Common.{rules, ◌≡◌, arith, to_z, of_z, w64}
 use Rattle.lu_types.specs.declared.kind.FileKind.TheVariants.{Fdt}
 use Rattle.lu_grammar.specs.Plans.{read_plan}
+use Rattle.lu_types.proofs.SpotLemmas.{spot-broken}
 use Rattle.stored_fields.specs.Entries.{lent_entry}
 use Rattle.stored_fields.specs.Documents.{value, document_plan}
-use Rattle.stored_fields.proofs.SpotLemmas.{spot-broken}
 use Rattle.stored_fields.proofs.DocumentLemmas.{passed_no_value, passed_value, document_read, document_count_fault, document_value_fault}
 use Rattle.stored_fields.proofs.documents.pass_document.Goals as goal
 

@@ -2,7 +2,7 @@ use Rattle.std.proofs.Common.{◌≡◌, ◌≤◌, length, sym, ap, ◌∙◌, 
 use Rattle.lu_grammar.specs.Bytes.{Cursor}
 use Rattle.lu_grammar.specs.Parts.{int64}
 use Rattle.lu_grammar.specs.Reading.{read}
-use Rattle.stored_fields.proofs.FixedLemmas.{int64_read, int64_not_bad}
+use Rattle.lu_grammar.proofs.Codecs.{int64_read, int64_not_bad}
 use Rattle.stored_fields.proofs.documents.place_at.Goals as goal
 
 pub unreachable-requires : goal.unreachable-requires

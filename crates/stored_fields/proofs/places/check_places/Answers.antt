@@ -1,10 +1,11 @@
 use Rattle.std.proofs.Common.{◌≡◌, [], arith, rules, to_z, of_z, w64}
 use Rattle.lu_types.specs.declared.kind.FileKind.TheVariants.{Fdx}
 use Rattle.lu_grammar.specs.Plans.{read_file}
-use Rattle.lu_grammar.proofs.Codecs.{Reads-from}
+use Rattle.lu_grammar.proofs.Codecs.{Reads-from, settled}
+use Rattle.lu_types.proofs.SpotLemmas.{spot-broken}
 use Rattle.stored_fields.specs.Places.{fdx_plan}
 use Rattle.stored_fields.specs.Stores.{places_in}
-use Rattle.stored_fields.proofs.SpotLemmas.{spot-broken, first_fault, settled}
+use Rattle.stored_fields.proofs.SpotLemmas.{first_fault}
 use Rattle.stored_fields.proofs.PlaceLemmas.{passed_no_place, passed_place, IsBehindHeader, fdx_header_fault, fdx_place_fault, fdx_trailing, fdx_read}
 use Rattle.stored_fields.proofs.places.check_places.Goals as goal
 

@@ -5,7 +5,8 @@ use Rattle.std.proofs.lemmas.Option.{slice_get_read}
 use Rattle.lu_prims.specs.Order.{text_cmp}
 use Rattle.term_index.specs.declared.mark.Mark.{Mark}
 use Rattle.term_index.specs.declared.search.Sought.{Sought}
-use Rattle.term_index.specs.Seeking.{halvings, digits, ticked}
+use Rattle.lu_prims.specs.Steps.{ticked}
+use Rattle.term_index.specs.Seeking.{halvings, digits}
 use Rattle.term_index.specs.InnerSearch.{mark_cmp, index_mark_of}
 use Rattle.term_index.proofs.SearchLemmas.{IsHalving, IsHalving-below, IsHalving-above}
 use Rattle.term_index.proofs.search.count_below.Goals as goal

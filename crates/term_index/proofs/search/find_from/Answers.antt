@@ -9,7 +9,7 @@ use Rattle.lu_prims.specs.Order.{text_cmp}
 use Rattle.lu_types.specs.declared.term.TermInfo.{TermInfo}
 use Rattle.term_dict.specs.Terms.{DictionaryTerm}
 use Rattle.term_dict.specs.Walk.{TermWalk, term_passed, passed_on}
-use Rattle.term_index.specs.Seeking.{Searched, searched, name_of}
+use Rattle.term_index.specs.Seeking.{Searched, searched, field_name_of}
 use Rattle.term_index.proofs.SearchLemmas.{IsSearching, IsRead, IsFirst, passed_term, first_is, IsSearching-more, all_passed, found-first, none-above, none-left, steps-end}
 use Rattle.term_index.proofs.search.find_from.Goals as goal
 
@@ -17,7 +17,7 @@ abbrev term_with : List ℕ → TermInfo → DictionaryTerm
 term_with text info = record { text = text; info = info }
 
 module _ (s : Searched) (field text : List ℕ) (first start : ℕ) (w new : TermWalk) (count : ℕ) (info : TermInfo) (h : IsSearching s field text first start w count) (found : Some info ≡ option_map (λ t. t.info) (slice_get w.dictionary.terms w.passed))
-    (to : new ≡ passed_on w) (name there : List ℕ) (o p : Ordering) (is : o ≡ ordering_then (text_cmp name field) (text_cmp there text)) (named : name ≡ name_of s.names info.field) (at : there ≡ (term_passed new).text) (so : o ≡ p) where
+    (to : new ≡ passed_on w) (name there : List ℕ) (o p : Ordering) (is : o ≡ ordering_then (text_cmp name field) (text_cmp there text)) (named : name ≡ field_name_of s.names info.field) (at : there ≡ (term_passed new).text) (so : o ≡ p) where
   -- what was compared is the term that was read
   read_is : IsRead s field text w (term_with (term_passed new).text info) p
   read_is =

@@ -5,11 +5,12 @@ use Rattle.lu_grammar.specs.Bytes.{start_of}
 use Rattle.lu_grammar.specs.Meaning.{Reads}
 use Rattle.lu_grammar.specs.Plans.{read_plan}
 use Rattle.lu_grammar.proofs.Codecs.{file-read}
+use Rattle.lu_types.proofs.SpotLemmas.{spot-broken}
 use Rattle.term_vectors.specs.declared.layout.DocumentPlaces.{DocumentPlaces}
 use Rattle.term_vectors.specs.Fields.{document_plan, is_within, tvd_plan}
 use Rattle.term_vectors.specs.Stores.{places_in}
 use Rattle.term_vectors.proofs.TurnLemmas.{none-passed, one-passed, turn-broken_so, all-passed}
-use Rattle.term_vectors.proofs.Endings.{spot-broken, file-broken, file-broken_so, file-trailing}
+use Rattle.term_vectors.proofs.Endings.{file-broken, file-broken_so, file-trailing}
 use Rattle.term_vectors.proofs.PlaceLemmas.{IsBehindFormat}
 use Rattle.term_vectors.proofs.StatedLemmas.{AreStated, tvx_stated, stated_once}
 use Rattle.term_vectors.proofs.DocumentLemmas.{no_places, reads_documents, documents-left, documents-broken, documents-done, tvd-from, tvd-broken}

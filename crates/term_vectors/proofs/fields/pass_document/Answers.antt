@@ -1,8 +1,8 @@
 use Rattle.std.proofs.Common.{◌≡◌, ◌-◌, ℕ, sym, ap, ◌∙◌, arith}
 use Rattle.lu_types.specs.declared.kind.FileKind.TheVariants.{Tvd}
 use Rattle.lu_grammar.specs.Plans.{read_plan}
+use Rattle.lu_types.proofs.SpotLemmas.{spot-broken}
 use Rattle.term_vectors.specs.Fields.{document_plan}
-use Rattle.term_vectors.proofs.Endings.{spot-broken}
 use Rattle.term_vectors.proofs.FieldLemmas.{reads_further, document-count_broken, document-numbers_broken, document-further_broken, document-read}
 use Rattle.term_vectors.proofs.fields.pass_document.Goals as goal
 

@@ -1,8 +1,8 @@
 use Rattle.std.proofs.Common.{◌≡◌, false, ℕ, List, [], ◌∷◌, sym, arith}
 use Rattle.std.proofs.lemmas.Grind.{common_steps}
 use Rattle.lu_types.specs.declared.kind.FileKind.TheVariants.{Tvd}
+use Rattle.lu_types.proofs.SpotLemmas.{spot-broken}
 use Rattle.term_vectors.proofs.TurnLemmas.{none-passed, one-passed, turn-broken, all-passed}
-use Rattle.term_vectors.proofs.Endings.{spot-broken}
 use Rattle.term_vectors.proofs.FieldLemmas.{reads_numbers, numbers-left, numbers-broken, numbers-done, numbers-more}
 use Rattle.term_vectors.proofs.fields.pass_numbers.Goals as goal
 

@@ -1,8 +1,8 @@
 use Rattle.std.proofs.Common.{◌+◌, ℕ, suc, sym, subst, arith}
 use Rattle.lu_types.specs.declared.kind.FileKind.TheVariants.{Tvd}
+use Rattle.lu_types.proofs.SpotLemmas.{spot-broken}
 use Rattle.term_vectors.proofs.Steps.{Continues}
 use Rattle.term_vectors.proofs.TurnLemmas.{none-passed, one-passed, turn-broken, all-passed}
-use Rattle.term_vectors.proofs.Endings.{spot-broken}
 use Rattle.term_vectors.proofs.FieldLemmas.{reads_further, further-left, further-broken, further-done}
 use Rattle.term_vectors.proofs.fields.pass_places.Goals as goal
 

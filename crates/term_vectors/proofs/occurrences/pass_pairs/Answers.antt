@@ -1,9 +1,9 @@
 use Rattle.std.proofs.Common.{ℕ, suc, sym, ap, subst, arith}
 use Rattle.lu_model.specs.Index.{Span}
 use Rattle.lu_types.specs.declared.kind.FileKind.TheVariants.{Tvf}
+use Rattle.lu_types.proofs.SpotLemmas.{spot-broken}
 use Rattle.term_vectors.proofs.Steps.{Continues}
 use Rattle.term_vectors.proofs.TurnLemmas.{none-passed, one-passed, turn-broken, all-passed}
-use Rattle.term_vectors.proofs.Endings.{spot-broken}
 use Rattle.term_vectors.proofs.OccurrenceLemmas.{reads_spans, spans-left, spans-broken, spans-done}
 use Rattle.term_vectors.proofs.occurrences.pass_pairs.Goals as goal
 

@@ -1,8 +1,8 @@
 use Rattle.std.proofs.Common.{ℕ, suc, sym, subst, arith}
 use Rattle.lu_types.specs.declared.kind.FileKind.TheVariants.{Tvf}
+use Rattle.lu_types.proofs.SpotLemmas.{spot-broken}
 use Rattle.term_vectors.proofs.Steps.{Continues}
 use Rattle.term_vectors.proofs.TurnLemmas.{none-passed, one-passed, turn-broken, all-passed}
-use Rattle.term_vectors.proofs.Endings.{spot-broken}
 use Rattle.term_vectors.proofs.OccurrenceLemmas.{reads_positions, positions-left, positions-broken, positions-done}
 use Rattle.term_vectors.proofs.occurrences.pass_positions.Goals as goal
 

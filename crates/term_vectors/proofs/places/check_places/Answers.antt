@@ -2,10 +2,11 @@ use Rattle.std.proofs.Common.{ℕ, suc, [], Some, None, sym, subst, ◌∙◌, a
 use Rattle.lu_types.specs.declared.kind.FileKind.TheVariants.{Tvx}
 use Rattle.lu_grammar.specs.Bytes.{start_of}
 use Rattle.lu_grammar.specs.Plans.{read_plan}
+use Rattle.lu_types.proofs.SpotLemmas.{spot-broken}
 use Rattle.term_vectors.specs.Places.{tvx_plan}
 use Rattle.term_vectors.proofs.Steps.{Continues}
 use Rattle.term_vectors.proofs.TurnLemmas.{none-passed, one-passed, turn-broken, all-passed}
-use Rattle.term_vectors.proofs.Endings.{spot-broken, file-broken, file-trailing, file-whole}
+use Rattle.term_vectors.proofs.Endings.{file-broken, file-trailing, file-whole}
 use Rattle.term_vectors.proofs.PlaceLemmas.{reads_places, places-left, places-broken, places-done, IsBehindFormat, tvx-from, tvx-broken}
 use Rattle.term_vectors.proofs.places.check_places.Goals as goal
 

@@ -2,11 +2,11 @@ use Rattle.std.proofs.Common.{◌≡◌, ℕ, Ok, Err, sym, ap, subst, ◌∙◌
 use Rattle.lu_types.specs.Judging.{IsBroken}
 use Rattle.lu_types.specs.declared.kind.FileKind.TheVariants.{Tvf}
 use Rattle.lu_grammar.specs.Plans.{read_plan}
+use Rattle.lu_types.proofs.SpotLemmas.{spot-broken}
 use Rattle.term_vectors.specs.Format.{bit_positions, bit_offsets}
 use Rattle.term_vectors.specs.Vectors.{kept_count, term_plan, freq_of}
 use Rattle.term_vectors.specs.InnerTexts.{text_before}
 use Rattle.term_vectors.specs.InnerVectors.{IsTermTaken}
-use Rattle.term_vectors.proofs.Endings.{spot-broken}
 use Rattle.term_vectors.proofs.OccurrenceLemmas.{reads_positions, reads_spans}
 use Rattle.term_vectors.proofs.TermLemmas.{term_of, term-broken, term-positions_broken, term-spans_broken, term-read}
 use Rattle.term_vectors.proofs.vectors.pass_term.Goals as goal

@@ -1,13 +1,13 @@
 use Rattle.std.proofs.Common.{◌≡◌, ℕ, suc, List, Option, None, refl, sym, ap, subst, ◌∙◌, arith}
 use Rattle.lu_types.specs.declared.kind.FileKind.TheVariants.{Tvf}
 use Rattle.lu_grammar.specs.Plans.{read_plan}
+use Rattle.lu_types.proofs.SpotLemmas.{spot-broken}
 use Rattle.term_vectors.specs.Fields.{VectorPlace}
 use Rattle.term_vectors.specs.Vectors.{vector_plan}
 use Rattle.term_vectors.specs.InnerTexts.{text_before}
 use Rattle.term_vectors.specs.InnerVectors.{heading_record}
 use Rattle.term_vectors.proofs.Steps.{Continues}
 use Rattle.term_vectors.proofs.TurnLemmas.{AreLeft, none-passed, one-passed, turn-broken_so, all-passed}
-use Rattle.term_vectors.proofs.Endings.{spot-broken}
 use Rattle.term_vectors.proofs.TermLemmas.{reads_terms, terms-left, terms-broken, terms-done}
 use Rattle.term_vectors.proofs.VectorLemmas.{vector_of, vector-broken, vector-terms_broken, vector-read}
 use Rattle.term_vectors.proofs.vectors.pass_vector.Goals as goal

@@ -2,7 +2,7 @@ use Rattle.std.proofs.Common.{◌≡◌, pos, Ok, Err, refl, arith}
 use Rattle.lu_grammar.specs.Bytes.{start_of}
 use Rattle.lu_grammar.specs.Records.{record_at}
 use Rattle.doc_marks.specs.Deletions.{header as header_of, header_shape, header_conditions}
-use Rattle.doc_marks.specs.Lent.{documents_in}
+use Rattle.doc_marks.specs.Lent.{deleted_in}
 use Rattle.doc_marks.proofs.FileLemmas.{heading_was, del-heading_fault, del-fault, del-left, del-read}
 use Rattle.doc_marks.proofs.live.Live.check_del.Goals as goal
 
@@ -28,12 +28,12 @@ returns-then-left-gt0-clause-checks c =
     let heading : record_at header_shape (header_conditions c.args.size c.args.count) (start_of c.args.del.now) ≡ Ok (header_of c.in-Ok.is_sparse (pos c.args.size) (pos c.args.count), c.pass_heading.new.cur) = rw c.at-cur.ensures at c.in-Ok.ensures in
     rw (c.at-then-left-gt0.ensures, c.place.ensures) (
       refl,
-      del-left c.args.size c.args.count c.args.del.now (λ i. (c.type_inv.del i).fits) c.in-Ok.is_sparse c.pass_heading.new.cur heading (documents_in c.in-Ok-check_body.form (record { size = c.args.size; count = c.args.count })) c.check_body.new.cur
+      del-left c.args.size c.args.count c.args.del.now (λ i. (c.type_inv.del i).fits) c.in-Ok.is_sparse c.pass_heading.new.cur heading (deleted_in c.in-Ok-check_body.form (record { size = c.args.size; count = c.args.count })) c.check_body.new.cur
           c.in-Ok-check_body.ensures.gives (omega (arith, c.left.ensures, c.if-left-gt0.true)),
     )
 
 pub returns-clause-checks : goal.returns-clause-checks
 returns-clause-checks c =
     let heading : record_at header_shape (header_conditions c.args.size c.args.count) (start_of c.args.del.now) ≡ Ok (header_of c.in-Ok.is_sparse (pos c.args.size) (pos c.args.count), c.pass_heading.new.cur) = rw c.at-cur.ensures at c.in-Ok.ensures in
-    del-read c.args.size c.args.count c.args.del.now (λ i. (c.type_inv.del i).fits) c.in-Ok.is_sparse c.pass_heading.new.cur heading (documents_in c.in-Ok-check_body.form (record { size = c.args.size; count = c.args.count })) c.check_body.new.cur
+    del-read c.args.size c.args.count c.args.del.now (λ i. (c.type_inv.del i).fits) c.in-Ok.is_sparse c.pass_heading.new.cur heading (deleted_in c.in-Ok-check_body.form (record { size = c.args.size; count = c.args.count })) c.check_body.new.cur
     c.in-Ok-check_body.ensures.gives (omega (arith, c.left.ensures, c.if-left-gt0.false))

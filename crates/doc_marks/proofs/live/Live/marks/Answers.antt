@@ -1,7 +1,7 @@
 use Rattle.std.proofs.Common.{◌≡◌, ℕ, Bool, List, ◌-◌, ◌+◌, true, false, not, length, replicate, set, refl, sym, ap, subst, ◌∙◌, arith}
 use Rattle.std.proofs.lemmas.List.{length-append, length-replicate}
 use Rattle.doc_marks.specs.Marking.{flags_of, is_in, documents_of, AreRising}
-use Rattle.doc_marks.specs.Walking.{Walked}
+use Rattle.doc_marks.specs.Walking.{MarkWalk}
 use Rattle.doc_marks.proofs.MarkLemmas.{length-flags_of, places-flags_of}
 use Rattle.doc_marks.proofs.MarksLemmas.{next-marked, next-clear, all-marked}
 use Rattle.doc_marks.proofs.live.Live.marks.Goals as goal
@@ -21,8 +21,8 @@ loop-doc-init c =
     let size = c.size-size.result in
     record {
       marks = c.in_ok-marks.ensures ∙ ap (λ (n : ℕ). replicate n false) (let e : size ≡ size - 0 = omega arith in e);
-      documents = ap (λ (w : Walked). w.documents) c.walk-walk.ensures;
-      from = omega (arith, ap (λ (w : Walked). w.from) c.walk-walk.ensures);
+      documents = ap (λ (w : MarkWalk). w.documents) c.walk-walk.ensures;
+      from = omega (arith, ap (λ (w : MarkWalk). w.from) c.walk-walk.ensures);
     }
 
 pub set-requires : goal.set-requires
@@ -39,8 +39,8 @@ loop-doc-preserved c =
     let docs = c.args.self.now.documents in
     let h = c.loop-doc.invariant in
     let asked : c.is_live.result ≡ not (is_in doc docs) = c.is_live.ensures.live ∙ ap (λ (ds : List ℕ). not (is_in doc ds)) h.documents in
-    let same = ap (λ (w : Walked). w.documents) c.is_live.ensures.walk ∙ h.documents in
-    let at_doc = ap (λ (w : Walked). w.from) c.is_live.ensures.walk in
+    let same = ap (λ (w : MarkWalk). w.documents) c.is_live.ensures.walk ∙ h.documents in
+    let at_doc = ap (λ (w : MarkWalk). w.from) c.is_live.ensures.walk in
     elim c.if-not-is_live.branch [
       | then-not-is_live w ↦ record {
         marks = w.marks-is ∙ w.set.ensures.marked ∙ ap (λ (t : List Bool). set t doc true) h.marks ∙ next-marked size doc docs c.loop-doc-test.true (not_false (is_in doc docs) (sym asked ∙ w.if-not-is_live.true));

@@ -1,9 +1,9 @@
 use Rattle.std.proofs.Common.{ap, sym, subst, ◌∙◌, arith}
 use Rattle.lu_grammar.specs.Bytes.{Cursor}
-use Rattle.freq_skips.specs.Entries.{Stands}
+use Rattle.freq_skips.specs.Entries.{IsBehindEntries}
 use Rattle.freq_skips.specs.Terms.{TermData, term_of}
 use Rattle.freq_skips.specs.Walks.{WalkState, start_in}
-use Rattle.freq_skips.proofs.EntryLemmas.{Stands-none}
+use Rattle.freq_skips.proofs.EntryLemmas.{IsBehindEntries-none}
 use Rattle.freq_skips.proofs.TermLemmas.{TermParts-ReadsTo}
 use Rattle.freq_skips.proofs.WalkLemmas.{value_from-is}
 use Rattle.freq_skips.proofs.entries.Entries.at.Goals as goal
@@ -20,7 +20,7 @@ invariant_of-result c =
       begin_within = good.within;
       all = (parts.mid, parts.all);
       postings = ap (λ (v : TermData). v.postings) (value_from-is t (start_in t frq) good.value good.end good.reads) ∙ parts.postings;
-      stands = subst (λ (here : Cursor). Stands t (start_in t frq) 0 0 here) (sym c.at-cur.ensures) (Stands-none t (start_in t frq));
+      stands = subst (λ (here : Cursor). IsBehindEntries t (start_in t frq) 0 0 here) (sym c.at-cur.ensures) (IsBehindEntries-none t (start_in t frq));
       within = omega arith;
     }
 

@@ -1,6 +1,6 @@
 use Rattle.std.proofs.Common.{ℕ, length, ap, sym, subst, ◌∙◌, arith}
 use Rattle.lu_grammar.specs.Bytes.{Cursor}
-use Rattle.freq_skips.specs.Entries.{Stands}
+use Rattle.freq_skips.specs.Entries.{IsBehindEntries}
 use Rattle.freq_skips.specs.Points.{IsPoint}
 use Rattle.freq_skips.specs.Walks.{WalkState, start_in, value_from}
 use Rattle.freq_skips.proofs.JumpLemmas.{point-stands}
@@ -28,7 +28,7 @@ invariant_of-self c =
       begin_within = i.begin_within;
       all = i.all;
       postings = i.postings;
-      stands = subst (λ (d : Cursor). Stands t (start_in t frq) p.passed p.doc d) (sym c.at.ensures) there.stands;
+      stands = subst (λ (d : Cursor). IsBehindEntries t (start_in t frq) p.passed p.doc d) (sym c.at.ensures) there.stands;
       within = there.within;
     }
 

@@ -1,13 +1,13 @@
 use Rattle.std.proofs.Common.{refl}
 use Rattle.freq_skips.specs.Levels.{level_of}
-use Rattle.freq_skips.proofs.LevelLemmas.{Passes-read, never_unread}
+use Rattle.freq_skips.proofs.LevelLemmas.{IsNextDatum-read, never_unread}
 use Rattle.freq_skips.proofs.following.Following.pass.Goals as goal
 
 pub returns-in-Some-clause-goes_on : goal.returns-in-Some-clause-goes_on
 returns-in-Some-clause-goes_on c = λ postings stated above begin points end all h lt.
     let f = c.args.self.now in
     let read = c.in-Some.ensures.read in
-    (Passes-read c.args.term.now postings (level_of c.args.level stated above) begin points end f.count f.last f.cur read.0 c.in-Some.point c.good_datum.new.cur read.1 read.2 c.in-Some.ensures.point.0 all h lt, refl)
+    (IsNextDatum-read c.args.term.now postings (level_of c.args.level stated above) begin points end f.count f.last f.cur read.0 c.in-Some.point c.good_datum.new.cur read.1 read.2 c.in-Some.ensures.point.0 all h lt, refl)
 
 pub returns-in_default-clause-goes_on : goal.returns-in_default-clause-goes_on
 returns-in_default-clause-goes_on c = λ postings stated above begin points end all h lt.

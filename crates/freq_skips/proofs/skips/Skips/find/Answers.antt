@@ -5,12 +5,13 @@ use Rattle.freq_skips.specs.declared.rules.RuledTerm.{RuledTerm}
 use Rattle.freq_skips.specs.declared.datum.Point.{Point}
 use Rattle.freq_skips.specs.Walks.{start_in, value_from}
 use Rattle.freq_skips.specs.ProxPlaces.{HasProxPlaces}
-use Rattle.freq_skips.specs.Points.{KnownTerm, IsLastBelow, find_steps, most_steps, ticked}
-use Rattle.freq_skips.specs.Finding.{CanSearch, IsPassed}
+use Rattle.lu_prims.specs.Steps.{ticked}
+use Rattle.freq_skips.specs.Points.{KnownTerm, IsLastBelow, find_steps, most_steps}
+use Rattle.freq_skips.specs.Finding.{CanSearch, HasPassedData}
 use Rattle.freq_skips.proofs.FoundLemmas.{reached, reached-if, entries-small, found-last, found-prox}
 use Rattle.freq_skips.proofs.SearchedLemmas.{steps-few}
-use Rattle.freq_skips.proofs.StepLemmas.{ticked-le}
-use Rattle.freq_skips.proofs.PassLemmas.{IsPassed-small}
+use Rattle.lu_prims.proofs.StepLemmas.{ticked-le}
+use Rattle.freq_skips.proofs.PassLemmas.{HasPassedData-small}
 use Rattle.freq_skips.proofs.skips.Skips.find.Goals as goal
 
 pub point_behind-requires-clause-entries : goal.point_behind-requires-clause-entries
@@ -22,19 +23,19 @@ point_behind-requires-clause-entries g c =
 pub point_behind-requires-clause-doc : goal.point_behind-requires-clause-doc
 point_behind-requires-clause-doc g c =
     let w = c.descended-walk.result in
-    (IsPassed-small c.self.inside.term c.self.inside.frq.now 0 w.count w.last c.self.invariant.search c.descended-walk.ensures.passed).doc
+    (HasPassedData-small c.self.inside.term c.self.inside.frq.now 0 w.count w.last c.self.invariant.search c.descended-walk.ensures.passed).doc
 
 pub point_behind-requires-clause-freq : goal.point_behind-requires-clause-freq
 point_behind-requires-clause-freq g c =
     let w = c.descended-walk.result in
     let can = c.self.invariant.search in
-    let sums = IsPassed-small c.self.inside.term c.self.inside.frq.now 0 w.count w.last can c.descended-walk.ensures.passed in
+    let sums = HasPassedData-small c.self.inside.term c.self.inside.frq.now 0 w.count w.last can c.descended-walk.ensures.passed in
     omega (arith, sums.freq, can.small)
 
 pub point_behind-requires-clause-prox : goal.point_behind-requires-clause-prox
 point_behind-requires-clause-prox g c =
     let w = c.descended-walk.result in
-    (IsPassed-small c.self.inside.term c.self.inside.frq.now 0 w.count w.last c.self.invariant.search c.descended-walk.ensures.passed).prox
+    (HasPassedData-small c.self.inside.term c.self.inside.frq.now 0 w.count w.last c.self.invariant.search c.descended-walk.ensures.passed).prox
 
 pub returns-clause-found : goal.returns-clause-found
 returns-clause-found g c =

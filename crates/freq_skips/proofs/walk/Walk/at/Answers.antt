@@ -1,9 +1,9 @@
 use Rattle.std.proofs.Common.{inl, refl, ap, sym, subst, ◌∙◌, arith}
 use Rattle.lu_grammar.specs.Bytes.{Cursor}
-use Rattle.freq_skips.specs.Entries.{Stands}
+use Rattle.freq_skips.specs.Entries.{IsBehindEntries}
 use Rattle.freq_skips.specs.Terms.{TermData, term_of}
 use Rattle.freq_skips.specs.Walks.{WalkState, start_in}
-use Rattle.freq_skips.proofs.EntryLemmas.{Stands-none}
+use Rattle.freq_skips.proofs.EntryLemmas.{IsBehindEntries-none}
 use Rattle.freq_skips.proofs.TermLemmas.{TermParts-ReadsTo}
 use Rattle.freq_skips.proofs.WalkLemmas.{value_from-is}
 use Rattle.freq_skips.proofs.walk.Walk.at.Goals as goal
@@ -23,9 +23,9 @@ invariant_of-result c =
       postings = ap (λ (v : TermData). v.postings) (value_from-is t (start_in t frq) good.value good.end good.reads) ∙ parts.postings;
       levels = c.level_count-count.ensures.count;
       few = c.level_count-count.ensures.few;
-      stands = subst (λ (d : Cursor). Stands t (start_in t frq) 0 0 d) (sym c.at-cur.ensures) (Stands-none t (start_in t frq));
+      stands = subst (λ (d : Cursor). IsBehindEntries t (start_in t frq) 0 0 d) (sym c.at-cur.ensures) (IsBehindEntries-none t (start_in t frq));
       within = omega arith;
-      on = c.first_rungs-rungs.ensures;
+      on = c.level_starts-places.ensures;
       fresh_within = omega arith;
       low = λ n lt. absurd (omega arith);
       some = λ lt. absurd (omega arith);

@@ -1,12 +1,12 @@
 use Rattle.std.proofs.Common.{◌≡◌, ℕ, ◌+◌, ◌-◌, ◌^◌, ◌<◌, length, inl, inr, rules, ap, sym, subst, ◌∙◌, arith}
 use Rattle.std.specs.Prelude.{slice_index_or}
 use Rattle.lu_grammar.specs.Plans.{times}
-use Rattle.freq_skips.specs.declared.walk.Walked.{Walked}
+use Rattle.freq_skips.specs.declared.walk.WalkedEntry.{WalkedEntry}
 use Rattle.freq_skips.specs.declared.rules.RuledTerm.{RuledTerm}
 use Rattle.freq_skips.specs.Entries.{Posting, no_posting, no_entry, entry_kind, postings_from}
 use Rattle.freq_skips.specs.Terms.{TermData}
-use Rattle.freq_skips.specs.Walks.{WalkState, AreOnLevels, IsFresh, IsStale, StandsBefore, no_rung, start_in, value_from}
-use Rattle.freq_skips.proofs.EntryLemmas.{Stands-as, postings_from-length}
+use Rattle.freq_skips.specs.Walks.{WalkState, AreOnLevels, IsDatumOfLast, HasNoDatumForLast, IsBeforeLast, no_level_place, start_in, value_from}
+use Rattle.freq_skips.proofs.EntryLemmas.{IsBehindEntries-as, postings_from-length}
 use Rattle.lu_grammar.proofs.Codecs.{place_in-after}
 use Rattle.freq_skips.proofs.walk.Walk.next.Goals as goal
 
@@ -38,17 +38,17 @@ invariant_of-self-2 c =
       postings = i.postings;
       levels = i.levels;
       few = i.few;
-      stands = Stands-as t start (k + 1) c.in-Ok.entry.doc c.step.new.self.cur c.step.new.self.index c.step.new.self.doc index c.in-Ok.ensures.1 next.stands;
+      stands = IsBehindEntries-as t start (k + 1) c.in-Ok.entry.doc c.step.new.self.cur c.step.new.self.index c.step.new.self.doc index c.in-Ok.ensures.1 next.stands;
       within = omega (arith, index, i.within);
-      on = subst (λ (n : ℕ). AreOnLevels t frq n c.climb-self-inside.new.rungs) (sym index) c.climb-self-inside.ensures.on;
-      fresh_within = c.climb-self-inside.ensures.within;
-      low = λ n lt. subst (λ (m : ℕ). IsFresh t frq n m (slice_index_or c.climb-self-inside.new.rungs n no_rung).last) (sym index) (c.climb-self-inside.ensures.low n lt);
+      on = subst (λ (n : ℕ). AreOnLevels t frq n c.pass_data_of-self-inside.new.places) (sym index) c.pass_data_of-self-inside.ensures.on;
+      fresh_within = c.pass_data_of-self-inside.ensures.within;
+      low = λ n lt. subst (λ (m : ℕ). IsDatumOfLast t frq n m (slice_index_or c.pass_data_of-self-inside.new.places n no_level_place).last) (sym index) (c.pass_data_of-self-inside.ensures.low n lt);
       some = λ lt. omega (arith, index);
-      high = λ n ge lt. subst (λ (m : ℕ). IsStale t n m) (sym index) (elim (c.climb-self-inside.ensures.high n ge) [
+      high = λ n ge lt. subst (λ (m : ℕ). HasNoDatumForLast t n m) (sym index) (elim (c.pass_data_of-self-inside.ensures.high n ge) [
         | inl ne ↦ inr ne
         | inr le ↦ absurd (omega arith)
       ]);
-      before = λ lt. subst (λ (m : ℕ). StandsBefore t frq m c.self.inside.passing.doc c.saturating_sub.result) (sym index) (record {
+      before = λ lt. subst (λ (m : ℕ). IsBeforeLast t frq m c.self.inside.passing.doc c.saturating_sub.result) (sym index) (record {
         doc_is = sym (ap (λ (n : ℕ). (slice_index_or (postings_from t start) n no_posting).before) one ∙ ap (λ (q : Posting). q.before) p);
         freq_is = c.saturating_sub.ensures ∙ ap (λ (n : ℕ). n - t.info.freq) c.place-place.ensures
             ∙ sym (ap (λ (n : ℕ). (slice_index_or (postings_from t start) n no_posting).place - t.info.freq) one ∙ ap (λ (q : Posting). q.place - t.info.freq) p);
@@ -68,8 +68,8 @@ returns c =
     let next = c.in-Ok.ensures.2 start i.stands in
     let p = ap (λ (n : _). slice_index_or n k no_posting) i.postings ∙ next.posting i.all.0 i.all.1 in
     let count : length v.postings ≡ t.info.doc_freq = ap length i.postings ∙ postings_from-length t start i.all.0 i.all.1 in
-    let walked : Posting → Walked = λ q. record { index = k; doc = q.doc; freq = q.freq } in
-    let state : WalkState → Walked = λ w. record { index = w.passed; doc = (slice_index_or w.value.postings w.passed no_posting).doc; freq = (slice_index_or w.value.postings w.passed no_posting).freq } in
+    let walked : Posting → WalkedEntry = λ q. record { index = k; doc = q.doc; freq = q.freq } in
+    let state : WalkState → WalkedEntry = λ w. record { index = w.passed; doc = (slice_index_or w.value.postings w.passed no_posting).doc; freq = (slice_index_or w.value.postings w.passed no_posting).freq } in
     let below : k < length v.postings = omega (arith, count, i.within) in (
       subst (λ (w : WalkState). w.passed < length w.value.postings) c.self.view_is below,
       sym (ap walked p) ∙ ap state c.self.view_is,

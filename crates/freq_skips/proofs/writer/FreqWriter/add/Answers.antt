@@ -4,7 +4,7 @@ use Rattle.std.proofs.lemmas.List.{length-append}
 use Rattle.freq_skips.specs.declared.writer.Mark.{Mark}
 use Rattle.freq_skips.specs.Written.{Handed, canonical_parts, entry_parts_bytes, entry_bytes, entries_bytes, last_doc, AreInOrder}
 use Rattle.freq_skips.specs.InnerLevels.{HasMarks}
-use Rattle.freq_skips.specs.Writing.{FrqWriting, added}
+use Rattle.freq_skips.specs.Writing.{FrqWriting, entry_added}
 use Rattle.freq_skips.proofs.WriterLemmas.{AreWithin, AreWithin-more, AreWithin-same}
 use Rattle.freq_skips.proofs.HandedLemmas.{HasMarks-more, HasMarks-same, order-more, entries-few, last-small, last_doc-more, written-more, entries-long}
 use Rattle.freq_skips.proofs.writer.FreqWriter.add.Goals as goal
@@ -99,10 +99,10 @@ returns-clause-ok c =
     let h : Handed = record { doc = c.args.doc; freq = c.args.freq; prox = c.args.prox } in
     let grown = entry-put s.omit_tf c.args.doc s.doc c.args.freq c.args.prox s.bytes.items c.put_entry.new.out.items c.canonical-delta.result s.entries.items c.canonical-delta.ensures i.last c.in_ok-put_entry.ensures.ok in
     let more = written-more s.omit_tf s.start s.bytes.items c.put_entry.new.out.items s.entries.items h i.start_within i.written grown in
-    let is : state s.skip_interval s.max_levels (take s.start c.put_entry.new.out.items) s.omit_tf s.payloads c.push.new.self.items ≡ added c.args.self.now h =
+    let is : state s.skip_interval s.max_levels (take s.start c.put_entry.new.out.items) s.omit_tf s.payloads c.push.new.self.items ≡ entry_added c.args.self.now h =
     ap (λ (b : List ℕ). state s.skip_interval s.max_levels b s.omit_tf s.payloads c.push.new.self.items) more.0
     ∙ ap (λ (l : List Handed). state s.skip_interval s.max_levels (take s.start s.bytes.items) s.omit_tf s.payloads l) c.in-Ok.ensures.items
-    ∙ ap (λ (w : FrqWriting). added w h) c.self.view_is in
+    ∙ ap (λ (w : FrqWriting). entry_added w h) c.self.view_is in
     elim c.if-self-eq0.branch [
       | then-self-eq0+in-Ok-push w ↦ rw w.self-inside-is is
       | else-self-eq0 w ↦ rw w.self-inside-is is

@@ -1,7 +1,7 @@
 use Rattle.std.proofs.Common.{List, [], refl, subst}
+use Rattle.lu_types.specs.Occurrences.{Occurrence}
 use Rattle.freq_skips.specs.Terms.{TermData}
 use Rattle.freq_skips.specs.Points.{IsPoint}
-use Rattle.positions.specs.Occurrences.{Occurrence}
 use Rattle.positions.specs.Cursors.{CursorState, StandsInBoth, IsAmong}
 use Rattle.positions.proofs.AmongLemmas.{among-begun}
 use Rattle.positions.proofs.occurrences.Occurrences.jump.Goals as goal

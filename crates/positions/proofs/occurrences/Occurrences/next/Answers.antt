@@ -3,7 +3,7 @@ use Rattle.std.specs.Prelude.{min}
 use Rattle.lu_grammar.specs.Records.{read_shape}
 use Rattle.freq_skips.specs.declared.rules.RuledTerm.{RuledTerm}
 use Rattle.positions.specs.Records.{occurrence_shape, position_gap}
-use Rattle.positions.specs.Parts.{record_of}
+use Rattle.positions.specs.Views.{occurrence_record_of}
 use Rattle.positions.specs.Cursors.{CursorState, IsAmong}
 use Rattle.positions.proofs.AmongLemmas.{among-next, among-never}
 use Rattle.positions.proofs.occurrences.Occurrences.next.Goals as goal
@@ -22,7 +22,7 @@ pub returns-in-Ok : goal.returns-in-Ok
 returns-in-Ok c = λ t value occurrences passed left h.
     let i = c.self.inside in
     let two = c.take.new.self in
-    let r = record_of c.in-Ok.parts in
+    let r = occurrence_record_of c.in-Ok.parts in
     let position = c.saturating_add-self-inside.result in
     let old : CursorState = record { term = i.term; prx = i.prx.now; here = i.reading.cur; force = i.reading.force; position = i.reading.position; left = i.left } in
     let new : CursorState = record { term = i.term; prx = i.prx.now; here = two.cur; force = two.force; position = position; left = i.left - 1 } in

@@ -3,7 +3,7 @@ use Rattle.lu_grammar.specs.Bytes.{Cursor}
 use Rattle.lu_grammar.specs.Plans.{one, times, read_plan}
 use Rattle.lu_grammar.proofs.Records.{same_pair}
 use Rattle.lu_grammar.proofs.Loops.{each-none}
-use Rattle.positions.specs.Parts.{record_of}
+use Rattle.positions.specs.Views.{occurrence_record_of}
 use Rattle.positions.specs.Standing.{passed_kind}
 use Rattle.positions.proofs.PassLemmas.{passes-more, passes-never}
 use Rattle.positions.proofs.reading.Reading.pass.Goals as goal
@@ -28,7 +28,7 @@ loop-turn-preserved c =
     let read = c.in-Ok.ensures in
     record {
       payloads = read.payloads ∙ i.payloads;
-      passes = λ f d all. passes-more s.payloads r.payloads c.loop-turn._turn s.force s.cur r.force r.cur (record_of c.in-Ok._parts) new.cur new.force i.payloads (i.passes f d all) read.taken.0 read.taken.1;
+      passes = λ f d all. passes-more s.payloads r.payloads c.loop-turn._turn s.force s.cur r.force r.cur (occurrence_record_of c.in-Ok._parts) new.cur new.force i.payloads (i.passes f d all) read.taken.0 read.taken.1;
     }
 
 pub returns-clause-passes : goal.returns-clause-passes

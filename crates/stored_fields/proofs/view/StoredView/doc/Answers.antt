@@ -1,6 +1,7 @@
 use Rattle.std.proofs.Common.{◌≡◌, ◌<◌, ◌^◌, [], List, get_or, sym, ap, ◌∙◌, arith, rules, pos, to_z, of_z, w64}
-use Rattle.stored_fields.specs.Values.{Document}
-use Rattle.stored_fields.specs.Stores.{documents_in, windowed}
+use Rattle.lu_types.specs.Stores.{windowed}
+use Rattle.stored_fields.specs.Values.{StoredDocument}
+use Rattle.stored_fields.specs.Stores.{documents_in}
 use Rattle.stored_fields.proofs.StoreLemmas.{number_in_window, number_in_store, stands_here, not_counted, document_values}
 use Rattle.stored_fields.proofs.view.StoredView.doc.Goals as goal
 
@@ -61,4 +62,4 @@ returns c =
     let e : to_z w64 (of_z w64 c.place_at-place.result) ≡ c.place_at-place.result = search rules in
     let is : to_z w64 (of_z w64 c.place_at-place.result) ≡ pos there.here.place = e ∙ sym there.place in
     (document_values s.fdt.now c.place_at-place.result (get_or (windowed s.window (documents_in s.fields s.total s.window s.fdx.now s.fdt.now)) c.args.number []) there c.at-here.result c.in-Ok.left c.num.new.self (rw is at c.at-here.ensures) c.in-Ok.ensures.takes).1
-    ∙ ap (λ (ds : List Document). get_or ds c.args.number []) c.self.view_is
+    ∙ ap (λ (ds : List StoredDocument). get_or ds c.args.number []) c.self.view_is

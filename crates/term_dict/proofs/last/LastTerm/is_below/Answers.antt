@@ -1,9 +1,9 @@
 use Rattle.std.proofs.Common.{◌≡◌, ℕ, List, drop, sym, ap, ◌∙◌}
 use Rattle.std.specs.Ordering.{ordering_then, is_lt}
 use Rattle.std.specs.declared.cmp.Ordering.{Ordering}
-use Rattle.lu_prims.specs.Order.{text_cmp}
+use Rattle.lu_prims.specs.Order.{text_cmp, bytes_cmp}
 use Rattle.term_dict.specs.Entries.{term_record_of}
-use Rattle.term_dict.specs.Terms.{bytes_cmp, field_of}
+use Rattle.term_dict.specs.Terms.{field_of}
 use Rattle.term_dict.specs.Last.{term_of_last}
 use Rattle.term_dict.proofs.ConditionLemmas.{is_above-tail}
 use Rattle.term_dict.proofs.last.LastTerm.is_below.Goals as goal

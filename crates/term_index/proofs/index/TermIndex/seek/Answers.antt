@@ -4,7 +4,8 @@ use Rattle.term_dict.specs.Index.{entry_count}
 use Rattle.term_dict.specs.Walk.{TermWalk}
 use Rattle.term_index.specs.declared.mark.Mark.{Mark}
 use Rattle.term_index.specs.declared.search.Sought.{Sought}
-use Rattle.term_index.specs.Seeking.{Searched, searched, rank, interval_of, digits, read_up_to, seek_steps, most_steps, ticked}
+use Rattle.lu_prims.specs.Steps.{ticked}
+use Rattle.term_index.specs.Seeking.{Searched, searched, rank, interval_of, digits, read_up_to, seek_steps, most_seek_steps}
 use Rattle.term_index.specs.InnerSearch.{IsSearchable, AreBelow, index_mark_of, marks_to}
 use Rattle.term_index.proofs.MarkLemmas.{below-marks, interval-before, steps-few, steps-all}
 use Rattle.term_index.proofs.index.TermIndex.seek.Goals as goal
@@ -58,5 +59,5 @@ returns-clause-bound g c =
     let all =
     steps i.cursor.dictionary i.names c.args.field.now c.args.text.now i.marks.items c.as_slice.result.now c.args.steps.now c.count_below-number.new.steps c.find_from.new.steps c.count_below-number.result i.index_interval c.enter_interval.new.cursor c.self.invariant.2
     c.as_slice.ensures.value (counted (searched i.cursor.dictionary i.names) (record { field = c.args.field; text = c.args.text }) i.marks.items c.as_slice.result.now c.count_below-number.result c.as_slice.ensures.value c.self.invariant.0 c.self.invariant.2 c.count_below-number.ensures.count).0 c.self.invariant.1 c.enter_interval.ensures c.count_below-number.ensures.steps c.find_from.ensures.steps in
-    subst (λ (x : Searched). c.find_from.new.steps ≤ c.args.steps.now + most_steps x.dictionary) c.self.view_is
+    subst (λ (x : Searched). c.find_from.new.steps ≤ c.args.steps.now + most_seek_steps x.dictionary) c.self.view_is
     (steps-few (searched i.cursor.dictionary i.names) c.args.field.now c.args.text.now c.args.steps.now c.find_from.new.steps c.self.invariant.0 all)

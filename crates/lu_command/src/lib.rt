@@ -30,6 +30,8 @@ mod check_tests;
 #[cfg(test)]
 mod docs_tests;
 #[cfg(test)]
+mod finishing_tests;
+#[cfg(test)]
 mod run_tests;
 #[cfg(test)]
 mod tests;

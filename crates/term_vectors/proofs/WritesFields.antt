@@ -41,7 +41,7 @@ apart_from [] before differ apart = tt
 apart_from (v ∷ vs) before differ apart = (
   differ 0 v (omega arith),
   apart_from vs (v.field ∷ before) (differ_more v before vs (λ k d lt. apart 0 (suc k) d (omega arith) (omega (arith, lt))) (λ k d lt. differ (suc k) d (omega (arith, lt))))
-  (λ i j d lt le. apart (suc i) (suc j) d (omega (arith, lt)) (omega (arith, le))),
+      (λ i j d lt le. apart (suc i) (suc j) d (omega (arith, lt)) (omega (arith, le))),
 )
 
 -- the field has vectors, where this is asked

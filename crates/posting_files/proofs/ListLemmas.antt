@@ -24,7 +24,7 @@ by_within P s t made stopped = elim (is_within s) as (λ b. is_within s ≡ b �
 unmade : (s t : ListState) → is_within s ≡ false → cond (is_within s) t s ≡ s
 unmade s t e = ap (λ b. cond b t s) e
 
-passed : (s : ListState) → is_within s ≡ false → s.limit < length (bytes_so_far s.freq)
+pub passed : (s : ListState) → is_within s ≡ false → s.limit < length (bytes_so_far s.freq)
 passed s e = leb-false (length (bytes_so_far s.freq)) s.limit e
 
 -- more bytes pass the limit too

@@ -1,6 +1,8 @@
 -- The canonical bytes of the terms of an index, term by term: the lines of the dictionary, `.frq` and `.prx` (format page, "Canonical files").
-use Rattle.std.specs.Prelude.{ℕ, ◌+◌, Bool, List, [], ◌∷◌, ◌++◌, length, map, None}
+use Rattle.std.specs.Prelude.{ℕ, ◌+◌, Bool, List, [], ◌∷◌, ◌++◌, length, map, cond, nat_lt, Option, None, Some}
 use Rattle.std.specs.List.{fold}
+use Rattle.lu_types.specs.declared.kind.FileKind.{FileKind}
+use Rattle.lu_types.specs.declared.named_file.NamedFile.{NamedFile}
 use Rattle.lu_types.specs.Bits as bit
 use Rattle.lu_types.specs.Bits.{has_bit}
 use Rattle.lu_types.specs.Tables.{TableField, bits_at}
@@ -127,3 +129,8 @@ tis_bytes w = canonical_tis (numbers_written w) w.terms
 
 abbrev pub tii_bytes : TermsWritten → List ℕ
 tii_bytes w = canonical_tii (numbers_written w) w.terms
+
+-- the kind of the first file that is longer than the limit
+abbrev pub first_past : ℕ → List NamedFile → Option FileKind
+first_past limit [] = None
+first_past limit (file ∷ files) = cond (nat_lt limit (length file.bytes)) (Some file.kind) (first_past limit files)

@@ -1,5 +1,5 @@
 -- Writers of terms, and of which terms they hold the canonical files.
-use Rattle.std.specs.Prelude.{◌≡◌, ◌<◌, ◌≤◌, ◌⊎◌, ℕ, Bool, true, false, cond, List, [], ◌∷◌, ◌++◌, length, map, nat_le, None, Result, Ok, Err}
+use Rattle.std.specs.Prelude.{◌≡◌, ◌<◌, ◌≤◌, ◌⊎◌, ℕ, Bool, true, false, cond, List, [], ◌∷◌, ◌++◌, length, map, nat_le, nat_lt, Option, None, Some, Result, Ok, Err}
 use Rattle.lu_model.specs.Index.{Occurrence as IndexedOccurrence, given, omitted, frequency, IndexedEntry, IndexedTerm}
 use Rattle.freq_skips.specs.declared.writer.Handed.{Handed}
 use Rattle.freq_skips.specs.Written.{entries_bytes}
@@ -10,10 +10,13 @@ use Rattle.positions.specs.Writing as prx
 use Rattle.positions.specs.Writing.{WriterState, HoldsTerm, HoldsDocument}
 use Rattle.term_dict.specs.Terms.{DictionaryTerm}
 use Rattle.term_dict.specs.Writing.{TermsWritten, no_terms_written, with_written}
-use Rattle.lu_types.specs.declared.kind.FileKind.TheVariants.{Prx}
+use Rattle.lu_types.specs.declared.kind.FileKind.TheVariants.{Prx, Frq, Tis, Tii}
+use Rattle.lu_types.specs.declared.kind.FileKind.{FileKind}
+use Rattle.lu_types.specs.declared.named_file.NamedFile.{NamedFile}
+use Rattle.posting_files.specs.declared.writer.PostingFiles.{PostingFiles}
 use Rattle.posting_files.specs.declared.fault.PostingFault.{PostingFault}
 use Rattle.posting_files.specs.declared.fault.PostingFault.TheVariants.{TooLarge, OutOfMemory}
-use Rattle.posting_files.specs.Postings.{PostingIntervals, PostingParts, KeptTerm, lines_written, parts_of, frq_writing, handed_from, prx_bytes, prx_entries, prx_occurrence, prx_occurrences}
+use Rattle.posting_files.specs.Postings.{PostingIntervals, PostingParts, KeptTerm, first_past, lines_written, tis_bytes, tii_bytes, parts_of, frq_writing, handed_from, prx_bytes, prx_entries, prx_occurrence, prx_occurrences}
 
 -- ---- the files of terms and entries
 
@@ -161,3 +164,31 @@ pub record IsEntryBegun (intervals : PostingIntervals) (limit : ℕ) (terms : Li
   pub bound : s.lists.limit ≡ limit
   pub lists : AreTermLists intervals (parts_of intervals terms) omit payloads entries s.lists
   pub prx : HoldsDocument s.prox payloads (parts_of intervals terms).prx (prx_entries entries) (map prx_occurrence now)
+
+-- ---- at the end
+
+-- a file of a kind
+abbrev pub named : FileKind → List ℕ → NamedFile
+named kind bytes = record { kind = kind; bytes = bytes }
+
+-- the files of terms, in the order in which they are written
+abbrev pub in_written_order : List ℕ → List ℕ → TermsWritten → List NamedFile
+in_written_order prx frq terms = named Prx prx ∷ named Frq frq ∷ named Tis (tis_bytes terms) ∷ named Tii (tii_bytes terms) ∷ []
+
+-- those that a writer holds
+abbrev pub held_files : PostingState → List NamedFile
+held_files s = in_written_order s.prox.bytes (bytes_so_far s.lists.freq) s.lists.terms
+
+-- those of terms
+abbrev pub canonical_postings : PostingIntervals → List KeptTerm → List NamedFile
+canonical_postings intervals terms = let parts = parts_of intervals terms in in_written_order parts.prx parts.frq (lines_written intervals parts.lines)
+
+-- the files that a call gave
+abbrev pub given_files : PostingFiles → List NamedFile
+given_files f = named Prx f.prx ∷ named Frq f.frq ∷ named Tis f.tis ∷ named Tii f.tii ∷ []
+
+-- what the writer's end answers, of which these are the files: them, where none passes the limit; the kind of the first that does; or that there was no memory
+abbrev pub Finishes : ℕ → List NamedFile → Result PostingFiles PostingFault → Type 0
+Finishes limit files (Ok f) = (first_past limit files ≡ None) × (given_files f ≡ files)
+Finishes limit files (Err (TooLarge kind)) = first_past limit files ≡ Some kind
+Finishes limit files (Err OutOfMemory) = Unit {0}

@@ -3,6 +3,7 @@ ghost use Rattle.std.specs.Prelude.{◌≡◌, ◌⊎◌, ◌<◌, ◌≤◌, �
 ghost use Rattle.freq_skips.specs.Written.{last_doc};
 ghost use Rattle.term_dict.specs.Terms.{last_term};
 ghost use Rattle.term_dict.specs.Writing.{AreIntervals, no_terms_written};
+ghost use Rattle.posting_files.specs.Postings.{tis_bytes, tii_bytes};
 ghost use Rattle.posting_files.specs.States.{is_within, no_lists, list_begun, list_added, list_finished};
 
 use freq_skips::FreqWriter;
@@ -26,7 +27,8 @@ pub struct ListWriter {
 impl Model for ListWriter {
     ghost use Rattle.std.specs.Prelude.{◌≡◌, ◌≤◌, ◌<◌, ◌^◌, length};
     ghost use Rattle.term_dict.specs.Terms.{last_term};
-    ghost use Rattle.posting_files.specs.States.{ListState};
+    ghost use Rattle.posting_files.specs.Postings.{tis_bytes, tii_bytes};
+ghost use Rattle.posting_files.specs.States.{ListState};
 
     ghost Value = { ListState };
 
@@ -126,6 +128,9 @@ impl ListWriter {
     /// The files of terms and of their index, and the bytes of entries. The file of entries is within the limit.
     pub fn finish(self) -> Result<(TermFiles, Vec<u8>), OutOfMemory>
         requires { self.freq.entries ≡ [] }
+        ensures tis { IfOk result (λ files. files.0.tis ≡ tis_bytes self.terms) }
+        ensures tii { IfOk result (λ files. files.0.tii ≡ tii_bytes self.terms) }
+        ensures frq { IfOk result (λ files. files.1.items ≡ self.freq.bytes) }
     {
         let ListWriter {
             limit: _,

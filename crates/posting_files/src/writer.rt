@@ -2,7 +2,7 @@
 ghost use Rattle.std.specs.Prelude.{◌≡◌, ◌⊎◌, ◌<◌, ◌≤◌, ◌^◌, ◌-◌, [], length, true, OnOk, OnErr, IfOk};
 ghost use Rattle.freq_skips.specs.Written.{last_doc};
 ghost use Rattle.term_dict.specs.Writing.{AreIntervals, no_terms_written};
-ghost use Rattle.posting_files.specs.States.{IsProxPast, Steps, StepsTo, is_within, no_postings, term_begun, entry_begun, occurrence_added, entry_added, term_finished};
+ghost use Rattle.posting_files.specs.States.{Finishes, Steps, StepsTo, held_files, is_within, no_postings, term_begun, entry_begun, occurrence_added, entry_added, term_finished};
 
 use crate::fault::PostingFault;
 use crate::lists::ListWriter;
@@ -128,6 +128,7 @@ impl PostingWriter {
     /// The files of the terms; or which of them passes the limit, the first of positions, entries, terms and index.
     pub fn finish(self) -> Result<PostingFiles, PostingFault>
         requires { is_within self.lists ≡ true → self.lists.freq.entries ≡ [] }
+        ensures { Finishes self.lists.limit (held_files self) result }
     {
         let PostingWriter {
             limit,

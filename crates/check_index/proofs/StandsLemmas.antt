@@ -9,11 +9,11 @@ use Rattle.lu_types.specs.Tables.{TableField}
 use Rattle.lu_types.specs.declared.stored.Window.{Window}
 use Rattle.stored_fields.specs.Values.{Document}
 use Rattle.stored_fields.specs.Stores.{store_files}
-use Rattle.term_vectors.specs.declared.fields.StorePart.{StorePart}
+use Rattle.term_vectors.specs.declared.fields.StoreWindow.{StoreWindow}
 use Rattle.term_vectors.specs.declared.layout.DocumentPlaces.{DocumentPlaces}
 use Rattle.term_vectors.specs.Places.{tvx_plan}
 use Rattle.term_vectors.specs.Fields.{VectorPlace, tvd_plan}
-use Rattle.term_vectors.specs.Vectors.{Vector, tvf_plan}
+use Rattle.term_vectors.specs.Vectors.{StoredVector, tvf_plan}
 use Rattle.term_vectors.specs.Stores.{windowed as windowed_vectors}
 use Rattle.segment_infos.specs.declared.infos.SegInfo.{SegInfo}
 use Rattle.check_index.specs.Files.{DocumentFiles}
@@ -50,11 +50,11 @@ store-stand total window fields (Some fdx) None stored h = absurd h.documents_he
 store-stand total window fields (Some fdx) (Some fdt) stored h = (h.places, h.places_held, (h.all, h.documents_held, h.windowed_is))
 
 -- vectors
-module _ (part : StorePart) (fields : List TableField) (files : DocumentFiles) (vectors : List (List Vector)) where
-  abbrev after_slots : List (List VectorPlace) → FilePlan (List (List Vector))
+module _ (part : StoreWindow) (fields : List TableField) (files : DocumentFiles) (vectors : List (List StoredVector)) where
+  abbrev after_slots : List (List VectorPlace) → FilePlan (List (List StoredVector))
   after_slots slots = needs Tvf files.tvf (λ _. tvf_plan slots) (λ _ all. stands (windowed_vectors part.window all))
 
-  abbrev after_places : List DocumentPlaces → FilePlan (List (List Vector))
+  abbrev after_places : List DocumentPlaces → FilePlan (List (List StoredVector))
   after_places places = needs Tvd files.tvd (λ _. tvd_plan fields part.window places) (λ _ slots. after_slots slots)
 
   part-was : StandFor (part_vectors part files fields) vectors → AreVectors part fields files vectors
@@ -70,8 +70,8 @@ module _ (part : StorePart) (fields : List TableField) (files : DocumentFiles) (
       (holds-stand Tvd files.tvd (λ _. tvd_plan fields part.window h.places) after_slots h.slots vectors h.slots_held
       (holds-stand Tvf files.tvf (λ _. tvf_plan h.slots) (λ all. stands (windowed_vectors part.window all)) h.all vectors h.vectors_held h.windowed_is))
 
-module _ (line : SegInfo) (fields : List TableField) (files : DocumentFiles) (vectors : List (List Vector)) where
-  abbrev part_of : StorePart
+module _ (line : SegInfo) (fields : List TableField) (files : DocumentFiles) (vectors : List (List StoredVector)) where
+  abbrev part_of : StoreWindow
   part_of = store_part line.store line.size files.fdx
 
   pub vectors-was : StandFor (document_vectors files line fields) vectors → HoldVectors line fields files vectors

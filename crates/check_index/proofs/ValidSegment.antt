@@ -19,7 +19,7 @@ use Rattle.stored_fields.specs.Stores.{total_of}
 use Rattle.stored_fields.proofs.PlaceLemmas.{has_places}
 use Rattle.compound_file.specs.Entries.{NamedPart}
 use Rattle.compound_file.specs.Cfs.{cfs_plan}
-use Rattle.term_vectors.specs.Vectors.{Vector}
+use Rattle.term_vectors.specs.Vectors.{StoredVector}
 use Rattle.term_vectors.specs.Stores.{AreVectors}
 use Rattle.segment_infos.specs.Values.{IsLine}
 use Rattle.segment_infos.specs.declared.infos.SegInfo.{SegInfo}
@@ -64,7 +64,7 @@ tvf-short (Some store) folder own documents short few h = shared-short store.com
 -- ---- the vectors
 
 -- as many documents as the segment has, each with its vectors
-abbrev AreAll : ℕ → List TableField → List (List Vector) → Type 0
+abbrev AreAll : ℕ → List TableField → List (List StoredVector) → Type 0
 AreAll size fields vectors = (length vectors ≡ size) × All (AreVectors fields) vectors
 
 module _ (fields : List TableField) where
@@ -76,7 +76,7 @@ module _ (fields : List TableField) where
   none-many zero = refl
   none-many (suc size) = ap suc (none-many size)
 
-  part-are : (store : Option SharedStore) (size : ℕ) (files : DocumentFiles) (stored : List Document) (vectors : List (List Vector)) → HoldStored store size (length fields) files.fdx files.fdt stored → IsShort files.tvf
+  part-are : (store : Option SharedStore) (size : ℕ) (files : DocumentFiles) (stored : List Document) (vectors : List (List StoredVector)) → HoldStored store size (length fields) files.fdx files.fdt stored → IsShort files.tvf
       → StandFor (part_vectors (store_part store size files.fdx) files fields) vectors → AreAll size fields vectors
   part-are None size files stored vectors held short h = let part = store_part None size files.fdx in vectors-of fields part.total part.window files.tvx files.tvd files.tvf vectors (omega arith) short h
   part-are (Some store) size files stored vectors held short h = go files.fdx held h
@@ -87,7 +87,7 @@ module _ (fields : List TableField) where
           let places = has_places (total_of fdx) (window_of store size) fdx held.places (read_file-Reads (fdx_plan (total_of fdx) (window_of store size)) fdx held.places held.places_held) in
           vectors-of fields (total_of fdx) (window_of store size) files.tvx files.tvd files.tvf vectors places.within short h
 
-  all-are : (asked : Bool) (store : Option SharedStore) (size : ℕ) (files : DocumentFiles) (stored : List Document) (vectors : List (List Vector)) → HoldStored store size (length fields) files.fdx files.fdt stored → IsShort files.tvf
+  all-are : (asked : Bool) (store : Option SharedStore) (size : ℕ) (files : DocumentFiles) (stored : List Document) (vectors : List (List StoredVector)) → HoldStored store size (length fields) files.fdx files.fdt stored → IsShort files.tvf
       → StandFor (where_needed asked (no_vectors size) (part_vectors (store_part store size files.fdx) files fields)) vectors → AreAll size fields vectors
   all-are true store size files stored vectors held short h = part-are store size files stored vectors held short h
   all-are false store size files stored vectors held short is = subst (AreAll size fields) (sym is) (none-many size, all-from_each (AreVectors fields) (no_vectors size) (none-each size))

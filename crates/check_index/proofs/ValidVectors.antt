@@ -31,7 +31,7 @@ use Rattle.term_vectors.specs.declared.layout.DocumentPlaces.{DocumentPlaces}
 use Rattle.term_vectors.specs.Format.{format_shape, headed}
 use Rattle.term_vectors.specs.Places as tvx
 use Rattle.term_vectors.specs.Fields.{VectorPlace, has_vectors, is_within, tvd_plan}
-use Rattle.term_vectors.specs.Vectors.{TvfRecord, format, heading, Vector, format_conditions, heading_shape, count_of, bits_of, heading_conditions, terms_plan, vector_plan, vectors_plan, all_plan, tvf_plan}
+use Rattle.term_vectors.specs.Vectors.{TvfRecord, format, heading, StoredVector, format_conditions, heading_shape, count_of_heading, bits_of_heading, heading_conditions, terms_plan, vector_plan, vectors_plan, all_plan, tvf_plan}
 use Rattle.term_vectors.specs.Stores.{windowed, vector_files, AreVectors}
 use Rattle.term_vectors.proofs.FixedLemmas.{int32_read}
 use Rattle.term_vectors.proofs.LeftLemmas.{plan_in}
@@ -62,7 +62,7 @@ tvx-many total bytes places reads =
 -- ---- the vectors
 
 -- the vector at a place, of its field
-record IsVectorAt (at : VectorPlace) (v : Vector) : Type 0 where
+record IsVectorAt (at : VectorPlace) (v : StoredVector) : Type 0 where
   field : v.field ≡ at.field
   bits : v.bits < 4
   few : length v.terms < 2 ^ 31
@@ -70,16 +70,16 @@ record IsVectorAt (at : VectorPlace) (v : Vector) : Type 0 where
   terms : All (IsVectorTerm v.bits) v.terms
 
 -- the vector of a heading with these terms
-abbrev made : VectorPlace → TvfRecord → List VectorTerm → Vector
-made at r terms = record { field = at.field; bits = bits_of r; terms = terms }
+abbrev made : VectorPlace → TvfRecord → List VectorTerm → StoredVector
+made at r terms = record { field = at.field; bits = bits_of_heading r; terms = terms }
 
-low-bits : (place wanted : ℕ) (r : TvfRecord) → first_broken (heading_conditions wanted place r) ≡ None → bits_of r < 4
-low-bits place wanted r e = go (not (eqb place wanted)) (nat_lt 3 (bits_of r)) refl e
+low-bits : (place wanted : ℕ) (r : TvfRecord) → first_broken (heading_conditions wanted place r) ≡ None → bits_of_heading r < 4
+low-bits place wanted r e = go (not (eqb place wanted)) (nat_lt 3 (bits_of_heading r)) refl e
   where
-    go : (elsewhere high : Bool) → nat_lt 3 (bits_of r) ≡ high → first_broken (record { rule = rules.tvf_place; broken = elsewhere } ∷ record { rule = rules.vector_bits; broken = high } ∷ []) ≡ None → bits_of r < 4
+    go : (elsewhere high : Bool) → nat_lt 3 (bits_of_heading r) ≡ high → first_broken (record { rule = rules.tvf_place; broken = elsewhere } ∷ record { rule = rules.vector_bits; broken = high } ∷ []) ≡ None → bits_of_heading r < 4
     go true high is e = absurd cc
     go false true is e = absurd cc
-    go false false is e = let le = ltb-false 3 (bits_of r) is in omega (arith, le)
+    go false false is e = let le = ltb-false 3 (bits_of_heading r) is in omega (arith, le)
 
 module _ (bytes : List ℕ) (fits : IsBytes bytes) (short : length bytes < 2 ^ 31) where
   -- the cursor stands in the file
@@ -89,10 +89,10 @@ module _ (bytes : List ℕ) (fits : IsBytes bytes) (short : length bytes < 2 ^ 3
   rest-fits : (c : Cursor) → IsInFile c → IsBytes c.rest
   rest-fits c h = subst (λ (x : Cursor). IsBytes x.rest) (sym h.0) (IsBytes-drop c.place bytes fits)
 
-  vector-is : (at : VectorPlace) (c : Cursor) (v : Vector) (d : Cursor) → IsInFile c → read_plan (vector_plan at) c ≡ ok_pair v d → IsVectorAt at v
+  vector-is : (at : VectorPlace) (c : Cursor) (v : StoredVector) (d : Cursor) → IsInFile c → read_plan (vector_plan at) c ≡ ok_pair v d → IsVectorAt at v
   unfolding read_plan
   vector-is at c v d h e =
-      let head = due_was heading_shape (λ place r. heading_conditions at.place place r) (λ _ r. and_then (terms_plan (bits_of r) (count_of r) None) (λ terms. done (made at r terms))) c (v, d) e in
+      let head = due_was heading_shape (λ place r. heading_conditions at.place place r) (λ _ r. and_then (terms_plan (bits_of_heading r) (count_of_heading r) None) (λ terms. done (made at r terms))) c (v, d) e in
       let r = head.0.0 in
       let judged = record_at-was heading_shape (heading_conditions at.place c.place) c r head.0.1 head.1 in
       let count = then_ok (read_part num c) (λ x. read_shape (part byte (λ bits. whole (heading x.0 bits))) x.1) (r, head.0.1) judged.0 in
@@ -101,40 +101,40 @@ module _ (bytes : List ℕ) (fits : IsBytes bytes) (short : length bytes < 2 ^ 3
       let counted = read_part-place num c count.0.0 count.0.1 (rest-fits c h) count.1 in
       let behind = read_part-place byte count.0.1 bits.0.0 bits.0.1 counted.1 bits.1 in
       let few : count.0.0 < 2 ^ 31 = part_value num c count.0.0 count.0.1 (rest-fits c h) count.1 in
-      let plan = terms_plan (bits_of r) (count_of r) None in
+      let plan = terms_plan (bits_of_heading r) (count_of_heading r) None in
       let first = then_ok (read_plan plan head.0.1) (λ x. read_plan {R = TvfRecord} (done (made at r x.0)) x.1) (v, d) (sym (read_plan-and_then plan (λ (terms : List VectorTerm). done (made at r terms)) head.0.1) ∙ head.2) in
       let is = same_pair (made at r first.0.0) v first.0.1 d first.2 in
       let none : 0 ≤ head.0.1.place = omega arith in
-      let are = terms_are (bits_of r) (count_of r) None head.0.1 first.0.0 first.0.1 (subst (λ (x : Cursor). IsBytes x.rest) same.1 behind.1) none first.1 in
+      let are = terms_are (bits_of_heading r) (count_of_heading r) None head.0.1 first.0.0 first.0.1 (subst (λ (x : Cursor). IsBytes x.rest) same.1 behind.1) none first.1 in
       let end = plan_in (vector_plan at) bytes c v d fits h e in
       let place : first.0.1.place ≡ d.place = ap (λ (x : Cursor). x.place) is.1 in
       subst (IsVectorAt at) is.0 (record {
         field = refl;
         bits = low-bits c.place at.place r judged.1;
-        few = omega (arith, are.many, ap count_of same.0, few);
+        few = omega (arith, are.many, ap count_of_heading same.0, few);
         rise = are.rise;
         terms = are.valid (omega (arith, place, end.1, short));
       })
 
-  vectors-are : (slots : List VectorPlace) (c : Cursor) (vs : List Vector) (d : Cursor) → IsInFile c → read_plan (vectors_plan slots) c ≡ ok_pair vs d → AllZip IsVectorAt slots vs
+  vectors-are : (slots : List VectorPlace) (c : Cursor) (vs : List StoredVector) (d : Cursor) → IsInFile c → read_plan (vectors_plan slots) c ≡ ok_pair vs d → AllZip IsVectorAt slots vs
   unfolding vectors_plan read_plan
   vectors-are [] c vs d h e = subst (AllZip IsVectorAt []) (same_pair [] vs c d e).0 tt
   vectors-are (at ∷ slots) c vs d h e =
-      let first = then_ok (read_plan (vector_plan at) c) (λ x. read_plan (headed x.0 (vectors_plan slots)) x.1) (vs, d) (sym (read_plan-and_then (vector_plan at) (λ (v : Vector). headed v (vectors_plan slots)) c) ∙ e) in
+      let first = then_ok (read_plan (vector_plan at) c) (λ x. read_plan (headed x.0 (vectors_plan slots)) x.1) (vs, d) (sym (read_plan-and_then (vector_plan at) (λ (v : StoredVector). headed v (vectors_plan slots)) c) ∙ e) in
       let here = vector-is at c first.0.0 first.0.1 h first.1 in
       let rest = headed-was first.0.0 (vectors_plan slots) first.0.1 vs d first.2 in
       subst (AllZip IsVectorAt (at ∷ slots)) (sym rest.2) (here, vectors-are slots first.0.1 rest.0 d (plan_in (vector_plan at) bytes c first.0.0 first.0.1 fits h first.1) rest.1)
 
-  all-are : (documents : List (List VectorPlace)) (c : Cursor) (all : List (List Vector)) (d : Cursor) → IsInFile c → read_plan (all_plan documents) c ≡ ok_pair all d → AllZip (AllZip IsVectorAt) documents all
+  all-are : (documents : List (List VectorPlace)) (c : Cursor) (all : List (List StoredVector)) (d : Cursor) → IsInFile c → read_plan (all_plan documents) c ≡ ok_pair all d → AllZip (AllZip IsVectorAt) documents all
   unfolding all_plan read_plan
   all-are [] c all d h e = subst (AllZip (AllZip IsVectorAt) []) (same_pair [] all c d e).0 tt
   all-are (slots ∷ documents) c all d h e =
-      let first = then_ok (read_plan (vectors_plan slots) c) (λ x. read_plan (headed x.0 (all_plan documents)) x.1) (all, d) (sym (read_plan-and_then (vectors_plan slots) (λ (vs : List Vector). headed vs (all_plan documents)) c) ∙ e) in
+      let first = then_ok (read_plan (vectors_plan slots) c) (λ x. read_plan (headed x.0 (all_plan documents)) x.1) (all, d) (sym (read_plan-and_then (vectors_plan slots) (λ (vs : List StoredVector). headed vs (all_plan documents)) c) ∙ e) in
       let here = vectors-are slots c first.0.0 first.0.1 h first.1 in
       let rest = headed-was first.0.0 (all_plan documents) first.0.1 all d first.2 in
       subst (AllZip (AllZip IsVectorAt) (slots ∷ documents)) (sym rest.2) (here, all-are documents first.0.1 rest.0 d (plan_in (vectors_plan slots) bytes c first.0.0 first.0.1 fits h first.1) rest.1)
 
-  tvf-are : (documents : List (List VectorPlace)) (all : List (List Vector)) → Reads (tvf_plan documents) bytes all → AllZip (AllZip IsVectorAt) documents all
+  tvf-are : (documents : List (List VectorPlace)) (all : List (List StoredVector)) → Reads (tvf_plan documents) bytes all → AllZip (AllZip IsVectorAt) documents all
   tvf-are documents all reads =
       let plan = tvf_plan documents in
       let file = file_was plan bytes all (read_file-Reads plan bytes all reads) in
@@ -150,7 +150,7 @@ module _ (bytes : List ℕ) (fits : IsBytes bytes) (short : length bytes < 2 ^ 3
 -- ---- what an index asks of them
 
 module _ (fields : List TableField) where
-  of-field : (asked : Bool) (a : VectorPlace) (v : Vector) → asked ≡ true → (asked && not (has_vectors fields a.field)) ≡ false → IsVectorAt a v → IsVector fields v
+  of-field : (asked : Bool) (a : VectorPlace) (v : StoredVector) → asked ≡ true → (asked && not (has_vectors fields a.field)) ≡ false → IsVectorAt a v → IsVector fields v
   of-field false a v within named h = absurd (true≢false (sym within))
   of-field true a v within named h =
       record {
@@ -165,33 +165,33 @@ module _ (fields : List TableField) where
       kept true e = refl
       kept false e = absurd (true≢false e)
 
-  of-fields : (asked : Bool) (slots : List VectorPlace) (vs : List Vector) → asked ≡ true → Each (λ (a : VectorPlace). (asked && not (has_vectors fields a.field)) ≡ false) slots → AllZip IsVectorAt slots vs → Each (IsVector fields) vs
+  of-fields : (asked : Bool) (slots : List VectorPlace) (vs : List StoredVector) → asked ≡ true → Each (λ (a : VectorPlace). (asked && not (has_vectors fields a.field)) ≡ false) slots → AllZip IsVectorAt slots vs → Each (IsVector fields) vs
   of-fields asked [] [] within named h = tt
   of-fields asked [] (v ∷ vs) within named h = absurd h
   of-fields asked (a ∷ slots) [] within named h = absurd h
   of-fields asked (a ∷ slots) (v ∷ vs) within named h = (of-field asked a v within named.0 h.0, of-fields asked slots vs within named.1 h.1)
 
-  apart-from : (a : VectorPlace) (v : Vector) (slots : List VectorPlace) (vs : List Vector) → v.field ≡ a.field → Each (λ (b : VectorPlace). a.field ≢ b.field) slots → AllZip IsVectorAt slots vs → Each (λ (w : Vector). v.field ≢ w.field) vs
+  apart-from : (a : VectorPlace) (v : StoredVector) (slots : List VectorPlace) (vs : List StoredVector) → v.field ≡ a.field → Each (λ (b : VectorPlace). a.field ≢ b.field) slots → AllZip IsVectorAt slots vs → Each (λ (w : StoredVector). v.field ≢ w.field) vs
   apart-from a v [] [] is h all = tt
   apart-from a v [] (w ∷ vs) is h all = absurd all
   apart-from a v (b ∷ slots) [] is h all = absurd all
   apart-from a v (b ∷ slots) (w ∷ vs) is h all = ((λ same. h.0 (sym is ∙ same ∙ all.0.field)), apart-from a v slots vs is h.1 all.1)
 
-  apart-all : (slots : List VectorPlace) (vs : List Vector) → EachPair (λ a b. a.field ≢ b.field) slots → AllZip IsVectorAt slots vs → EachPair (λ v w. v.field ≢ w.field) vs
+  apart-all : (slots : List VectorPlace) (vs : List StoredVector) → EachPair (λ a b. a.field ≢ b.field) slots → AllZip IsVectorAt slots vs → EachPair (λ v w. v.field ≢ w.field) vs
   apart-all [] [] h all = tt
   apart-all [] (v ∷ vs) h all = absurd all
   apart-all (a ∷ slots) [] h all = absurd all
   apart-all (a ∷ slots) (v ∷ vs) h all = (apart-from a v slots vs all.0.field h.0 all.1, apart-all slots vs h.1 all.1)
 
-  vectors-good : (asked : Bool) (slots : List VectorPlace) (vs : List Vector) → asked ≡ true → AreSlots asked fields slots → AllZip IsVectorAt slots vs → AreVectors fields vs
+  vectors-good : (asked : Bool) (slots : List VectorPlace) (vs : List StoredVector) → asked ≡ true → AreSlots asked fields slots → AllZip IsVectorAt slots vs → AreVectors fields vs
   vectors-good asked slots vs within h all = record {
     few = omega (arith, AllZip-long IsVectorAt slots vs all, h.few);
-    apart = pairs-from_each (λ (v w : Vector). v.field ≢ w.field) vs (apart-all slots vs h.apart all);
+    apart = pairs-from_each (λ (v w : StoredVector). v.field ≢ w.field) vs (apart-all slots vs h.apart all);
     each = all-from_each (IsVector fields) vs (of-fields asked slots vs within h.named all);
   }
 
-  good-at : (window : Window) (nth : ℕ) (documents : List (List VectorPlace)) (all : List (List Vector)) → DocumentsFrom fields window nth documents → AllZip (AllZip IsVectorAt) documents all
-      → (i : ℕ) (o : List Vector) → i < length all → is_within window (nth + i) ≡ true → AreVectors fields (get_or all i o)
+  good-at : (window : Window) (nth : ℕ) (documents : List (List VectorPlace)) (all : List (List StoredVector)) → DocumentsFrom fields window nth documents → AllZip (AllZip IsVectorAt) documents all
+      → (i : ℕ) (o : List StoredVector) → i < length all → is_within window (nth + i) ≡ true → AreVectors fields (get_or all i o)
   good-at window nth [] [] h all i o lt within = absurd (omega (arith, lt))
   good-at window nth [] (vs ∷ more) h all i o lt within = absurd all
   good-at window nth (slots ∷ documents) [] h all i o lt within = absurd all
@@ -202,7 +202,7 @@ module _ (fields : List TableField) where
 
   -- ---- the three files
 
-  of-files : (total : ℕ) (window : Window) (tvx_bytes tvd tvf : List ℕ) (places : List DocumentPlaces) (slots : List (List VectorPlace)) (all : List (List Vector)) → window.offset + window.count ≤ total → length tvf < 2 ^ 31
+  of-files : (total : ℕ) (window : Window) (tvx_bytes tvd tvf : List ℕ) (places : List DocumentPlaces) (slots : List (List VectorPlace)) (all : List (List StoredVector)) → window.offset + window.count ≤ total → length tvf < 2 ^ 31
       → Reads (tvx.tvx_plan total) tvx_bytes places → Reads (tvd_plan fields window places) tvd slots → Reads (tvf_plan slots) tvf all → (length (windowed window all) ≡ window.count) × All (AreVectors fields) (windowed window all)
   of-files total window tvx_bytes tvd tvf places slots all room short first second third =
       let many = tvx-many total tvx_bytes places first in
@@ -222,10 +222,10 @@ module _ (fields : List TableField) where
       )
 
   -- the vectors that the three files stand for
-  pub vectors-of : (total : ℕ) (window : Window) (tvx tvd tvf : Option (List ℕ)) (vectors : List (List Vector)) → window.offset + window.count ≤ total → IsShort tvf → StandFor (vector_files total window fields tvx tvd tvf) vectors
+  pub vectors-of : (total : ℕ) (window : Window) (tvx tvd tvf : Option (List ℕ)) (vectors : List (List StoredVector)) → window.offset + window.count ≤ total → IsShort tvf → StandFor (vector_files total window fields tvx tvd tvf) vectors
       → (length vectors ≡ window.count) × All (AreVectors fields) vectors
   vectors-of total window None tvd tvf vectors room short h = absurd h
   vectors-of total window (Some tvx_bytes) None tvf vectors room short (places, first, h) = absurd h
   vectors-of total window (Some tvx_bytes) (Some tvd) None vectors room short (places, first, (slots, second, h)) = absurd h
   vectors-of total window (Some tvx_bytes) (Some tvd) (Some tvf) vectors room short (places, first, (slots, second, (all, third, is))) =
-      subst (λ (vs : List (List Vector)). (length vs ≡ window.count) × All (AreVectors fields) vs) (sym is) (of-files total window tvx_bytes tvd tvf places slots all room short first second third)
+      subst (λ (vs : List (List StoredVector)). (length vs ≡ window.count) × All (AreVectors fields) vs) (sym is) (of-files total window tvx_bytes tvd tvf places slots all room short first second third)

@@ -15,8 +15,8 @@ use Rattle.stored_fields.specs.Values.{Document}
 use Rattle.stored_fields.specs.Places.{fdx_plan}
 use Rattle.stored_fields.specs.Stores.{total_of}
 use Rattle.stored_fields.proofs.PlaceLemmas.{has_places}
-use Rattle.term_vectors.specs.declared.fields.StorePart.{StorePart}
-use Rattle.term_vectors.specs.Vectors.{Vector}
+use Rattle.term_vectors.specs.declared.fields.StoreWindow.{StoreWindow}
+use Rattle.term_vectors.specs.Vectors.{StoredVector}
 use Rattle.term_vectors.specs.Stores.{vector_files}
 use Rattle.segment_infos.specs.declared.infos.SegInfo.{SegInfo}
 use Rattle.check_index.specs.Files.{DocumentFiles, PartFiles}
@@ -65,11 +65,11 @@ have-none fields number lt before is =
 -- ---- the files
 
 -- vectors that stand in the files that are asked for
-pub part-stands : (files : DocumentFiles) (line : SegInfo) (fields : List TableField) (tvx : List ℕ) (part : StorePart) (vectors : List (List Vector)) → have_vectors fields ≡ true → files.tvx ≡ Some tvx → part ≡ store_part line.store line.size files.fdx
+pub part-stands : (files : DocumentFiles) (line : SegInfo) (fields : List TableField) (tvx : List ℕ) (part : StoreWindow) (vectors : List (List StoredVector)) → have_vectors fields ≡ true → files.tvx ≡ Some tvx → part ≡ store_part line.store line.size files.fdx
     → StandFor (vector_files part.total part.window fields (Some tvx) files.tvd files.tvf) vectors → StandFor (document_vectors files line fields) vectors
 part-stands files line fields tvx part vectors have there is h =
     let found : StandFor (part_vectors part files fields) vectors = subst (λ (o : Option (List ℕ)). StandFor (vector_files part.total part.window fields o files.tvd files.tvf) vectors) (sym there) h in
-    let here : StandFor (part_vectors (store_part line.store line.size files.fdx) files fields) vectors = subst (λ (p : StorePart). StandFor (part_vectors p files fields) vectors) is found in
+    let here : StandFor (part_vectors (store_part line.store line.size files.fdx) files fields) vectors = subst (λ (p : StoreWindow). StandFor (part_vectors p files fields) vectors) is found in
     let asked : (have_vectors fields && is_some files.tvx) ≡ true = ap (λ (b : Bool). b && is_some files.tvx) have ∙ ap (λ (o : Option (List ℕ)). is_some o) there in
     subst (λ (b : Bool). StandFor (where_needed b (no_vectors line.size) (part_vectors (store_part line.store line.size files.fdx) files fields)) vectors) (sym asked) here
 
@@ -82,9 +82,9 @@ window-count (Some store) size None = refl
 window-count (Some store) size (Some fdx) = refl
 
 -- where none of them has one, that is what they stand for
-pub none-has : (size : ℕ) (documents : List (List Vector)) → length documents ≡ size → ((i : ℕ) → i < size → get_or documents i [] ≡ []) → no_vectors size ≡ documents
+pub none-has : (size : ℕ) (documents : List (List StoredVector)) → length documents ≡ size → ((i : ℕ) → i < size → get_or documents i [] ≡ []) → no_vectors size ≡ documents
 none-has zero [] many none = refl
 none-has zero (d ∷ ds) many none = absurd (omega (arith, many))
 none-has (suc n) [] many none = absurd (omega (arith, many))
 none-has (suc n) (d ∷ ds) many none =
-    ap (λ (e : List Vector). e ∷ no_vectors n) (sym (none 0 (omega arith))) ∙ ap (λ (es : List (List Vector)). d ∷ es) (none-has n ds (omega (arith, many)) (λ i lt. none (suc i) (omega (arith, lt))))
+    ap (λ (e : List StoredVector). e ∷ no_vectors n) (sym (none 0 (omega arith))) ∙ ap (λ (es : List (List StoredVector)). d ∷ es) (none-has n ds (omega (arith, many)) (λ i lt. none (suc i) (omega (arith, lt))))

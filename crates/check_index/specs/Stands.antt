@@ -20,11 +20,11 @@ use Rattle.doc_marks.specs.Norms.{nrm_plan}
 use Rattle.doc_marks.specs.Deletions.{del_plan}
 use Rattle.compound_file.specs.Entries.{NamedPart}
 use Rattle.compound_file.specs.Cfs.{cfs_plan}
-use Rattle.term_vectors.specs.declared.fields.StorePart.{StorePart}
+use Rattle.term_vectors.specs.declared.fields.StoreWindow.{StoreWindow}
 use Rattle.term_vectors.specs.declared.layout.DocumentPlaces.{DocumentPlaces}
 use Rattle.term_vectors.specs.Places.{tvx_plan}
 use Rattle.term_vectors.specs.Fields.{VectorPlace, tvd_plan}
-use Rattle.term_vectors.specs.Vectors.{Vector, tvf_plan}
+use Rattle.term_vectors.specs.Vectors.{StoredVector, tvf_plan}
 use Rattle.term_vectors.specs.Stores.{windowed as windowed_vectors}
 use Rattle.segment_infos.specs.declared.infos.SegInfo.{SegInfo}
 use Rattle.check_index.specs.Files.{DocumentFiles, PartFiles, FolderFiles}
@@ -84,17 +84,17 @@ HoldColumns size fields nrm norms =
     Either (nat_lt 0 (norm_count fields)) ((columns : List (List ℕ)) × Holds nrm (λ _. nrm_plan (norm_count fields) size) columns × (norms ≡ norms_from 0 columns fields)) norms (map (λ _. None) fields)
 
 -- the vectors are those of a store that the segment's part has
-pub record AreVectors (part : StorePart) (fields : List TableField) (files : DocumentFiles) (vectors : List (List Vector)) : Type 0 where
+pub record AreVectors (part : StoreWindow) (fields : List TableField) (files : DocumentFiles) (vectors : List (List StoredVector)) : Type 0 where
   pub places : List DocumentPlaces
   pub places_held : Holds files.tvx (λ _. tvx_plan part.total) places
   pub slots : List (List VectorPlace)
   pub slots_held : Holds files.tvd (λ _. tvd_plan fields part.window places) slots
-  pub all : List (List Vector)
+  pub all : List (List StoredVector)
   pub vectors_held : Holds files.tvf (λ _. tvf_plan slots) all
   pub windowed_is : vectors ≡ windowed_vectors part.window all
 
 -- they are where some field has vectors and there is a `.tvx`; otherwise no document has vectors
-abbrev pub HoldVectors : SegInfo → List TableField → DocumentFiles → List (List Vector) → Type 0
+abbrev pub HoldVectors : SegInfo → List TableField → DocumentFiles → List (List StoredVector) → Type 0
 HoldVectors line fields files vectors =
     Either (have_vectors fields && is_some files.tvx) (AreVectors (store_part line.store line.size files.fdx) fields files vectors) vectors (no_vectors line.size)
 

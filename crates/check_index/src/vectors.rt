@@ -5,7 +5,7 @@ ghost use Rattle.lu_types.specs.Bits.{has_bit};
 ghost use Rattle.lu_types.specs.FilePlans.{Judges};
 ghost use Rattle.lu_types.specs.Tables.{TableField, bits_at};
 ghost use Rattle.lu_types.specs.declared.stored.Window.{Window};
-ghost use Rattle.term_vectors.specs.Vectors.{Vector};
+ghost use Rattle.term_vectors.specs.Vectors.{StoredVector};
 ghost use Rattle.term_vectors.specs.Stores.{vector_files};
 ghost use Rattle.check_index.specs.Files.{IsShort};
 ghost use Rattle.check_index.specs.Locating.{document_files_of};
@@ -19,7 +19,7 @@ use lu_types::{CodecFault, FieldTable, FileKind, Window};
 use segment_infos::SegInfo;
 use std::alloc::Global;
 use stored_fields::stored_total;
-use term_vectors::{StorePart, VectorView, check_fields, check_places};
+use term_vectors::{StoreWindow, VectorView, check_fields, check_places};
 
 /// Whether the field with a number has vectors.
 fn has_vectors(fields: &FieldTable<'_>, number: u32) -> bool
@@ -44,7 +44,7 @@ fn have_vectors(fields: &FieldTable<'_>) -> bool
 }
 
 /// How many documents the store has, and which of them the segment takes.
-fn store_part(files: &DocumentParts<'_>, info: &SegInfo) -> StorePart
+fn store_part(files: &DocumentParts<'_>, info: &SegInfo) -> StoreWindow
     requires { IsShort (option_copied files.now.fdx) }
     ensures { result ≡ store_part info.now.store info.now.size (option_copied files.now.fdx) }
 {
@@ -53,7 +53,7 @@ fn store_part(files: &DocumentParts<'_>, info: &SegInfo) -> StorePart
             offset: 0,
             count: info.size,
         };
-        return StorePart {
+        return StoreWindow {
             total: info.size,
             window: all,
         };
@@ -62,7 +62,7 @@ fn store_part(files: &DocumentParts<'_>, info: &SegInfo) -> StorePart
         Some(fdx) => stored_total(fdx),
         None => 0,
     };
-    StorePart {
+    StoreWindow {
         total,
         window: window(store, info.size),
     }
@@ -70,7 +70,7 @@ fn store_part(files: &DocumentParts<'_>, info: &SegInfo) -> StorePart
 
 /// The first fault of vectors of which the file that tells their fields is not there.
 fn fault_without_fields(tvx: &[u8], total: u32) -> CodecFault
-    ensures { (window : Window) (fields : List TableField) (tvf : Option (List ℕ)) → Judges {Y = List (List Vector)} (λ all. all) (vector_files total window fields (Some tvx.now) None tvf) (Err result) }
+    ensures { (window : Window) (fields : List TableField) (tvf : Option (List ℕ)) → Judges {Y = List (List StoredVector)} (λ all. all) (vector_files total window fields (Some tvx.now) None tvf) (Err result) }
 {
     match check_places(tvx, total) {
         Err(spot) => CodecFault::Spot(spot),
@@ -84,9 +84,9 @@ fn fault_without_vectors(
     tvx: &[u8],
     tvd: &[u8],
     fields: &FieldTable<'_>,
-    part: StorePart,
+    part: StoreWindow,
 ) -> CodecFault
-    ensures { Judges {Y = List (List Vector)} (λ all. all) (vector_files part.total part.window fields.now (Some tvx.now) (Some tvd.now) None) (Err result) }
+    ensures { Judges {Y = List (List StoredVector)} (λ all. all) (vector_files part.total part.window fields.now (Some tvx.now) (Some tvd.now) None) (Err result) }
 {
     if let Err(spot) = check_places(tvx, part.total) {
         return CodecFault::Spot(spot);
@@ -103,7 +103,7 @@ fn check_part<'a>(
     tvx: &'a [u8],
     files: &DocumentParts<'a>,
     fields: &FieldTable<'_>,
-    part: StorePart,
+    part: StoreWindow,
 ) -> Result<VectorView<'a>, CodecFault>
     requires { IsWithin part }
     ensures judged { Judges (λ view. view) (vector_files part.total part.window fields.now (Some tvx.entry.now) (option_copied files.now.tvd) (option_copied files.now.tvf)) result }

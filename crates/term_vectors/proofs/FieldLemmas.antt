@@ -17,7 +17,7 @@ use Rattle.lu_grammar.proofs.Codecs.{read_due, read_due_broken, alone_read, alon
 use Rattle.term_vectors.specs.declared.layout.DocumentPlaces.{DocumentPlaces}
 use Rattle.term_vectors.specs.Format.{greatest_place, vector_format, format_shape, format_rule, headed}
 use Rattle.term_vectors.specs.Fields.{TvdRecord, VectorPlace, format, count, number, difference, stated, format_conditions, count_shape, count_conditions, is_among, number_shape, number_conditions, numbers_plan, difference_shape, difference_conditions, further_plan, placed, document_plan, is_within, documents_plan, tvd_plan}
-use Rattle.term_vectors.specs.InnerFields.{HasNumbers}
+use Rattle.term_vectors.specs.InnerFields.{HasFieldNumbers}
 use Rattle.term_vectors.proofs.Steps.{Continues, record-left, led-left, then-left, then-broken, then-broken_so, Continues-then, Continues-ok, Continues-err}
 use Rattle.term_vectors.proofs.FormatLemmas.{header-left, header-broken}
 use Rattle.term_vectors.proofs.PlaceLemmas.{IsBehindFormat}
@@ -61,7 +61,7 @@ unfolding numbers_plan read_plan
 numbers-done asked fields before c = refl
 
 -- the set with one more number
-pub numbers-more : (old new : BTreeSet ℕ) (field : ℕ) (before : List ℕ) → HasNumbers old before → Updates nat_cmp old new field true → HasNumbers new (field ∷ before)
+pub numbers-more : (old new : BTreeSet ℕ) (field : ℕ) (before : List ℕ) → HasFieldNumbers old before → Updates nat_cmp old new field true → HasFieldNumbers new (field ∷ before)
 numbers-more old new field before has updates = λ q. grind (arith, common_steps, updates.0 q, has q)
 
 -- ---- the places of further vectors

@@ -11,7 +11,7 @@ use Rattle.lu_grammar.specs.Plans.{Broken, read_plan, read_file}
 use Rattle.term_vectors.specs.declared.layout.DocumentPlaces.{DocumentPlaces}
 use Rattle.term_vectors.specs.Places.{places_plan, tvx_plan}
 use Rattle.term_vectors.specs.Fields.{VectorPlace, numbers_plan, further_plan, placed, documents_plan, tvd_plan}
-use Rattle.term_vectors.specs.Vectors.{Vector, positions_plan, spans_plan, terms_plan, vectors_plan, all_plan, tvf_plan}
+use Rattle.term_vectors.specs.Vectors.{StoredVector, positions_plan, spans_plan, terms_plan, vectors_plan, all_plan, tvf_plan}
 
 abbrev broken : {A : Type 0} → ℕ → ℕ → Result A Broken
 broken offset rule = Err (record { offset = offset; rule = rule })
@@ -62,7 +62,7 @@ tvd_outside : read_file (tvd_plan fields (record { offset = 0; count = 0 }) (at 
 unfolding read read_groups read_plan record_at numbers_plan further_plan placed documents_plan
 tvd_outside = refl
 
-abbrev vectors : List ℕ → Result (List (List Vector)) Broken
+abbrev vectors : List ℕ → Result (List (List StoredVector)) Broken
 vectors tvf = read_file (tvf_plan ((record { field = 1; place = 4 } ∷ []) ∷ [])) tvf
 
 -- `hello world`

@@ -12,8 +12,8 @@ use Rattle.lu_grammar.proofs.Codecs.{ok_pair, same_pair, ok_of, err_is_not_ok, t
 use Rattle.lu_model.specs.Index.{VectorTerm}
 use Rattle.term_vectors.specs.Format.{headed}
 use Rattle.term_vectors.specs.Fields.{TvdRecord, VectorPlace, number, stated, number_shape, number_conditions, numbers_plan, difference_shape, difference_conditions, further_plan, placed}
-use Rattle.term_vectors.specs.Vectors.{TvfRecord, Vector, bits_of, count_of, heading_shape, heading_conditions, terms_plan, vector_plan}
-use Rattle.term_vectors.specs.InnerViews.{no_slot, slots_plan, IsThere, AreAllThere}
+use Rattle.term_vectors.specs.Vectors.{TvfRecord, StoredVector, bits_of_heading, count_of_heading, heading_shape, heading_conditions, terms_plan, vector_plan}
+use Rattle.term_vectors.specs.InnerViews.{no_slot, slots_plan, IsVectorThere, AreAllThere}
 use Rattle.term_vectors.proofs.Steps.{headed_was}
 use Rattle.term_vectors.proofs.FieldLemmas.{reads_numbers, reads_further, further-broken}
 use Rattle.term_vectors.proofs.TermLemmas.{reads_terms}
@@ -182,16 +182,16 @@ place-no_fault count place further d i last beside rule w lt e =
 
 -- ---- a vector
 
-pub vector_was : (at : VectorPlace) (c : Cursor) (v : Vector) (d : Cursor) (r : TvfRecord) (b : Cursor) → read_plan (vector_plan at) c ≡ Ok (v, d) → record_at heading_shape (heading_conditions at.place c.place) c ≡ Ok (r, b)
-    → (terms : List VectorTerm) × (reads_terms (bits_of r) (count_of r) None b ≡ Ok (terms, d)) × (v ≡ vector_of at r terms)
+pub vector_was : (at : VectorPlace) (c : Cursor) (v : StoredVector) (d : Cursor) (r : TvfRecord) (b : Cursor) → read_plan (vector_plan at) c ≡ Ok (v, d) → record_at heading_shape (heading_conditions at.place c.place) c ≡ Ok (r, b)
+    → (terms : List VectorTerm) × (reads_terms (bits_of_heading r) (count_of_heading r) None b ≡ Ok (terms, d)) × (v ≡ vector_of at r terms)
 unfolding read_plan
 vector_was at c v d r b e here =
     let rest = sym (read_due heading_shape (λ place s. heading_conditions at.place place s) (λ _ s. rest_of_vector at s) c r b here) ∙ e in
-    let first = then_ok (reads_terms (bits_of r) (count_of r) None b) (λ x. ok_pair (vector_of at r x.0) x.1) (v, d) (sym (read_plan-and_then (terms_plan (bits_of r) (count_of r) None) (λ terms. done (vector_of at r terms)) b) ∙ rest) in
+    let first = then_ok (reads_terms (bits_of_heading r) (count_of_heading r) None b) (λ x. ok_pair (vector_of at r x.0) x.1) (v, d) (sym (read_plan-and_then (terms_plan (bits_of_heading r) (count_of_heading r) None) (λ terms. done (vector_of at r terms)) b) ∙ rest) in
     let same = same_pair (vector_of at r first.0.0) v first.0.1 d first.2 in
     (first.0.0, first.1 ∙ ap (λ (x : Cursor). ok_pair first.0.0 x) same.1, sym same.0)
 
-pub is_there : (tvf : List ℕ) (slots : List VectorPlace) (i : ℕ) → AreAllThere tvf slots → i < length slots → IsThere tvf (get_or slots i no_slot)
+pub is_there : (tvf : List ℕ) (slots : List VectorPlace) (i : ℕ) → AreAllThere tvf slots → i < length slots → IsVectorThere tvf (get_or slots i no_slot)
 is_there tvf [] i all lt = absurd (omega arith)
 is_there tvf (at ∷ slots) zero all lt = all.0
 is_there tvf (at ∷ slots) (suc i) all lt = is_there tvf slots i all.1 (omega arith)

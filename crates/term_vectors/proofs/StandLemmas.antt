@@ -11,9 +11,9 @@ use Rattle.lu_grammar.proofs.Codecs.{ok_pair, same_pair, ok_of, then_ok, due_was
 use Rattle.term_vectors.specs.declared.layout.DocumentPlaces.{DocumentPlaces}
 use Rattle.term_vectors.specs.Format.{format_shape, headed}
 use Rattle.term_vectors.specs.Fields.{VectorPlace, count, stated, count_shape, count_conditions, document_plan, is_within, no_window, documents_plan}
-use Rattle.term_vectors.specs.Vectors.{TvfRecord, Vector, format, format_conditions, bits_of, heading_shape, heading_conditions, vector_plan, vectors_plan, all_plan, tvf_plan}
-use Rattle.term_vectors.specs.Stores.{windowed, places_in, slots_in, vectors_in}
-use Rattle.term_vectors.specs.InnerViews.{no_vector, slots_plan, vector_here, IsThere, AreAllThere, HaveNoFault}
+use Rattle.term_vectors.specs.Vectors.{TvfRecord, StoredVector, format, format_conditions, bits_of_heading, heading_shape, heading_conditions, vector_plan, vectors_plan, all_plan, tvf_plan}
+use Rattle.term_vectors.specs.Stores.{windowed, places_in, slots_in, stored_vectors_in}
+use Rattle.term_vectors.specs.InnerViews.{no_vector, slots_plan, vector_here, IsVectorThere, AreAllThere, HaveNoFault}
 use Rattle.term_vectors.proofs.Steps.{headed_was}
 use Rattle.term_vectors.proofs.FixedLemmas.{int32_read}
 use Rattle.term_vectors.proofs.StatedLemmas.{tvx_stated}
@@ -33,11 +33,11 @@ IsIn bytes c = (c ≡ place_in bytes c.place) × (c.place ≤ length bytes)
 at_its_place : (wanted place : ℕ) (r : TvfRecord) → first_broken (heading_conditions wanted place r) ≡ None → place ≡ wanted
 at_its_place wanted place r h = same-of place wanted (go (not (eqb place wanted)) h)
   where
-    go : (b : Bool) → first_broken (record { rule = 106; broken = b } ∷ record { rule = 107; broken = ltb 3 (bits_of r) } ∷ []) ≡ None → b ≡ false
+    go : (b : Bool) → first_broken (record { rule = 106; broken = b } ∷ record { rule = 107; broken = ltb 3 (bits_of_heading r) } ∷ []) ≡ None → b ≡ false
     go true q = cc
     go false q = refl
 
-vector_stands : (tvf : List ℕ) (at : VectorPlace) (c : Cursor) (v : Vector) (d : Cursor) → IsIn tvf c → read_plan (vector_plan at) c ≡ ok_pair v d → IsThere tvf at × (v ≡ vector_here tvf at)
+vector_stands : (tvf : List ℕ) (at : VectorPlace) (c : Cursor) (v : StoredVector) (d : Cursor) → IsIn tvf c → read_plan (vector_plan at) c ≡ ok_pair v d → IsVectorThere tvf at × (v ≡ vector_here tvf at)
 vector_stands tvf at c v d (is, le) e =
     let head = due_was heading_shape (λ place r. heading_conditions at.place place r) (λ _ r. rest_of_vector at r) c (v, d) e in
     let judged = record_at-was heading_shape (heading_conditions at.place c.place) c head.0.0 head.0.1 head.1 in
@@ -46,39 +46,39 @@ vector_stands tvf at c v d (is, le) e =
     let settled = settled_left (read_plan (vector_plan at) (place_in tvf at.place)) (no_vector, place_in tvf at.place) v d (ap (λ (x : Cursor). read_plan (vector_plan at) x) (sym here) ∙ e) in
     ((d, settled.0, omega arith), settled.1)
 
-vectors_stand : (tvf : List ℕ) → IsBytes tvf → (slots : List VectorPlace) (c : Cursor) (all : List Vector) (d : Cursor) → IsIn tvf c → reads_vectors slots c ≡ Ok (all, d) → AreAllThere tvf slots × (all ≡ map (vector_here tvf) slots)
+vectors_stand : (tvf : List ℕ) → IsBytes tvf → (slots : List VectorPlace) (c : Cursor) (all : List StoredVector) (d : Cursor) → IsIn tvf c → reads_vectors slots c ≡ Ok (all, d) → AreAllThere tvf slots × (all ≡ map (vector_here tvf) slots)
 unfolding vectors_plan read_plan
 vectors_stand tvf fits [] c all d on e = (tt, sym (same_pair [] all c d e).0)
 vectors_stand tvf fits (at ∷ slots) c all d on e =
-    let rest = λ (v : Vector). headed v (vectors_plan slots) in
+    let rest = λ (v : StoredVector). headed v (vectors_plan slots) in
     let first = then_ok (read_plan (vector_plan at) c) (λ x. read_plan (rest x.0) x.1) (all, d) (sym (read_plan-and_then (vector_plan at) rest c) ∙ e) in
     let more = headed_was first.0.0 (vectors_plan slots) first.0.1 all d first.2 in
     let one = vector_stands tvf at c first.0.0 first.0.1 on first.1 in
     let others = vectors_stand tvf fits slots first.0.1 more.0 d (plan_in (vector_plan at) tvf c first.0.0 first.0.1 fits on first.1) more.1 in
-    ((one.0, others.0), more.2 ∙ ap (λ (v : Vector). v ∷ more.0) one.1 ∙ ap (λ (vs : List Vector). vector_here tvf at ∷ vs) others.1)
+    ((one.0, others.0), more.2 ∙ ap (λ (v : StoredVector). v ∷ more.0) one.1 ∙ ap (λ (vs : List StoredVector). vector_here tvf at ∷ vs) others.1)
 
 -- ---- the vectors of all documents
 
-pub record AllStand (tvf : List ℕ) (documents : List (List VectorPlace)) (all : List (List Vector)) : Type 0 where
+pub record AllStand (tvf : List ℕ) (documents : List (List VectorPlace)) (all : List (List StoredVector)) : Type 0 where
   pub many : length all ≡ length documents
   pub each : (n : ℕ) → n < length documents → AreAllThere tvf (get_or documents n []) × (get_or all n [] ≡ map (vector_here tvf) (get_or documents n []))
 
-all_stand : (tvf : List ℕ) → IsBytes tvf → (documents : List (List VectorPlace)) (c : Cursor) (all : List (List Vector)) (d : Cursor) → IsIn tvf c → reads_all documents c ≡ Ok (all, d) → AllStand tvf documents all
+all_stand : (tvf : List ℕ) → IsBytes tvf → (documents : List (List VectorPlace)) (c : Cursor) (all : List (List StoredVector)) (d : Cursor) → IsIn tvf c → reads_all documents c ≡ Ok (all, d) → AllStand tvf documents all
 unfolding all_plan read_plan
 all_stand tvf fits [] c all d on e = record { many = ap length (sym (same_pair [] all c d e).0); each = λ n lt. absurd (omega arith) }
 all_stand tvf fits (slots ∷ documents) c all d on e =
-    let rest = λ (v : List Vector). headed v (all_plan documents) in
+    let rest = λ (v : List StoredVector). headed v (all_plan documents) in
     let first = then_ok (reads_vectors slots c) (λ x. read_plan (rest x.0) x.1) (all, d) (sym (read_plan-and_then (vectors_plan slots) rest c) ∙ e) in
     let more = headed_was first.0.0 (all_plan documents) first.0.1 all d first.2 in
     let one = vectors_stand tvf fits slots c first.0.0 first.0.1 on first.1 in
     let others = all_stand tvf fits documents first.0.1 more.0 d (plan_in (vectors_plan slots) tvf c first.0.0 first.0.1 fits on first.1) more.1 in
     record { many = ap length more.2 ∙ ap suc others.many; each = each_of tvf slots documents all first.0.0 more.0 more.2 one others.each }
   where
-    each_of : (tvf : List ℕ) (slots : List VectorPlace) (documents : List (List VectorPlace)) (all : List (List Vector)) (v : List Vector) (vs : List (List Vector)) → all ≡ v ∷ vs → AreAllThere tvf slots × (v ≡ map (vector_here tvf) slots)
+    each_of : (tvf : List ℕ) (slots : List VectorPlace) (documents : List (List VectorPlace)) (all : List (List StoredVector)) (v : List StoredVector) (vs : List (List StoredVector)) → all ≡ v ∷ vs → AreAllThere tvf slots × (v ≡ map (vector_here tvf) slots)
         → ((n : ℕ) → n < length documents → AreAllThere tvf (get_or documents n []) × (get_or vs n [] ≡ map (vector_here tvf) (get_or documents n [])))
         → (n : ℕ) → n < suc (length documents) → AreAllThere tvf (get_or (slots ∷ documents) n []) × (get_or all n [] ≡ map (vector_here tvf) (get_or (slots ∷ documents) n []))
-    each_of tvf slots documents all v vs is one others zero lt = (one.0, ap (λ (ws : List (List Vector)). get_or ws 0 []) is ∙ one.1)
-    each_of tvf slots documents all v vs is one others (suc n) lt = let o = others n (omega arith) in (o.0, ap (λ (ws : List (List Vector)). get_or ws (suc n) []) is ∙ o.1)
+    each_of tvf slots documents all v vs is one others zero lt = (one.0, ap (λ (ws : List (List StoredVector)). get_or ws 0 []) is ∙ one.1)
+    each_of tvf slots documents all v vs is one others (suc n) lt = let o = others n (omega arith) in (o.0, ap (λ (ws : List (List StoredVector)). get_or ws (suc n) []) is ∙ o.1)
 
 -- ---- the documents of `.tvd`
 
@@ -140,7 +140,7 @@ documents_stand tvd fits i (at ∷ places) c all d on e =
 
 -- ---- a store
 
-pub tvf_was : (documents : List (List VectorPlace)) (tvf : List ℕ) (all : List (List Vector)) → read_file (tvf_plan documents) tvf ≡ ok_of all → (4 ≤ length tvf) × ((d : Cursor) × (reads_all documents (place_in tvf 4) ≡ Ok (all, d)))
+pub tvf_was : (documents : List (List VectorPlace)) (tvf : List ℕ) (all : List (List StoredVector)) → read_file (tvf_plan documents) tvf ≡ ok_of all → (4 ≤ length tvf) × ((d : Cursor) × (reads_all documents (place_in tvf 4) ≡ Ok (all, d)))
 tvf_was documents tvf all e =
     let file = file_was (tvf_plan documents) tvf all e in
     let head = due_was (format_shape format) (λ _ r. format_conditions r) (λ _ _. all_plan documents) (start_of tvf) (all, file.0) file.1 in
@@ -155,21 +155,21 @@ module _ (total : ℕ) (window : Window) (tvx tvd tvf : List ℕ) (s : HaveNoFau
       let (le, (d, e)) = tvd_was (places_in total tvx) tvd (slots_in (places_in total tvx) tvd) s.slots in
       documents_stand tvd s.tvd_bytes 0 (places_in total tvx) (place_in tvd 4) (slots_in (places_in total tvx) tvd) d (refl, le) e
 
-  pub store-vectors : AllStand tvf (slots_in (places_in total tvx) tvd) (vectors_in (slots_in (places_in total tvx) tvd) tvf)
+  pub store-vectors : AllStand tvf (slots_in (places_in total tvx) tvd) (stored_vectors_in (slots_in (places_in total tvx) tvd) tvf)
   store-vectors =
-      let (le, (d, e)) = tvf_was (slots_in (places_in total tvx) tvd) tvf (vectors_in (slots_in (places_in total tvx) tvd) tvf) s.vectors in
-      all_stand tvf s.tvf_bytes (slots_in (places_in total tvx) tvd) (place_in tvf 4) (vectors_in (slots_in (places_in total tvx) tvd) tvf) d (refl, le) e
+      let (le, (d, e)) = tvf_was (slots_in (places_in total tvx) tvd) tvf (stored_vectors_in (slots_in (places_in total tvx) tvd) tvf) s.vectors in
+      all_stand tvf s.tvf_bytes (slots_in (places_in total tvx) tvd) (place_in tvf 4) (stored_vectors_in (slots_in (places_in total tvx) tvd) tvf) d (refl, le) e
 
-  pub store-many : length (vectors_in (slots_in (places_in total tvx) tvd) tvf) ≡ total
+  pub store-many : length (stored_vectors_in (slots_in (places_in total tvx) tvd) tvf) ≡ total
   store-many =
       let stated = tvx_stated total tvx (places_in total tvx) s.places in
       store-vectors.many ∙ store-documents.many ∙ stated.many
 
-  pub windowed-many : length (windowed window (vectors_in (slots_in (places_in total tvx) tvd) tvf)) ≡ window.count
+  pub windowed-many : length (windowed window (stored_vectors_in (slots_in (places_in total tvx) tvd) tvf)) ≡ window.count
   windowed-many =
-      let all = vectors_in (slots_in (places_in total tvx) tvd) tvf in
+      let all = stored_vectors_in (slots_in (places_in total tvx) tvd) tvf in
       omega (arith, s.within, store-many, length-take window.count (drop window.offset all), length-drop window.offset all)
 
-  pub windowed-get : (n : ℕ) → n < window.count → get_or (windowed window (vectors_in (slots_in (places_in total tvx) tvd) tvf)) n [] ≡ get_or (vectors_in (slots_in (places_in total tvx) tvd) tvf) (window.offset + n) []
+  pub windowed-get : (n : ℕ) → n < window.count → get_or (windowed window (stored_vectors_in (slots_in (places_in total tvx) tvd) tvf)) n [] ≡ get_or (stored_vectors_in (slots_in (places_in total tvx) tvd) tvf) (window.offset + n) []
   windowed-get n lt =
-      let all = vectors_in (slots_in (places_in total tvx) tvd) tvf in get_or-take window.count (drop window.offset all) n [] lt ∙ get_or-drop window.offset all n []
+      let all = stored_vectors_in (slots_in (places_in total tvx) tvd) tvf in get_or-take window.count (drop window.offset all) n [] lt ∙ get_or-drop window.offset all n []

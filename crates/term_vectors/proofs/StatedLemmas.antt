@@ -10,7 +10,7 @@ use Rattle.lu_grammar.specs.Records.{whole, part, read_shape, record_at}
 use Rattle.lu_grammar.specs.Plans.{read_plan, read_file}
 use Rattle.lu_grammar.proofs.Codecs.{ok_pair, same_pair, ok_of, then_ok, due_was, record_at-was, alone_was, file_was, read_shape-part}
 use Rattle.term_vectors.specs.declared.layout.DocumentPlaces.{DocumentPlaces}
-use Rattle.term_vectors.specs.Format.{place_of, headed, format_shape}
+use Rattle.term_vectors.specs.Format.{place_of_number, headed, format_shape}
 use Rattle.term_vectors.specs.Places.{TvxRecord, format, places, format_conditions, places_shape, places_conditions, stated_places, places_plan, tvx_plan}
 use Rattle.term_vectors.specs.InnerFields.{IsStatedAt}
 use Rattle.term_vectors.proofs.Steps.{headed_was}
@@ -18,13 +18,13 @@ use Rattle.term_vectors.proofs.FixedLemmas.{int64_read, int32_read}
 use Rattle.term_vectors.proofs.PlaceLemmas.{reads_places}
 
 -- two numbers that stand there are the places
-pub stated_at : (tvx : List ℕ) (place : ℕ) (a b : ℤ) (c d : Cursor) (x y : ℕ) → read_part int64 (place_in tvx place) ≡ Ok (a, c) → read_part int64 c ≡ Ok (b, d) → x ≡ unwrap_or (place_of a) 0 → y ≡ unwrap_or (place_of b) 0
+pub stated_at : (tvx : List ℕ) (place : ℕ) (a b : ℤ) (c d : Cursor) (x y : ℕ) → read_part int64 (place_in tvx place) ≡ Ok (a, c) → read_part int64 c ≡ Ok (b, d) → x ≡ unwrap_or (place_of_number a) 0 → y ≡ unwrap_or (place_of_number b) 0
     → IsStatedAt tvx place (record { tvd = x; tvf = y })
 stated_at tvx place a b c d x y first second tvd tvf = (
-  places (place_of a) (place_of b),
+  places (place_of_number a) (place_of_number b),
   d,
-  read_shape-part int64 (λ v. part int64 (λ w. whole (places (place_of v) (place_of w)))) (place_in tvx place) a c first ∙ read_shape-part int64 (λ w. whole (places (place_of a) (place_of w))) c b d second,
-  ap (λ (n : ℕ). both n y) tvd ∙ ap (λ (n : ℕ). both (unwrap_or (place_of a) 0) n) tvf,
+  read_shape-part int64 (λ v. part int64 (λ w. whole (places (place_of_number v) (place_of_number w)))) (place_in tvx place) a c first ∙ read_shape-part int64 (λ w. whole (places (place_of_number a) (place_of_number w))) c b d second,
+  ap (λ (n : ℕ). both n y) tvd ∙ ap (λ (n : ℕ). both (unwrap_or (place_of_number a) 0) n) tvf,
 )
   where
     both : ℕ → ℕ → DocumentPlaces
@@ -37,11 +37,11 @@ stated_once tvx place p q (r, d, there, is) (s, e, here, too) = is ∙ ap stated
 -- the records behind which the cursor stands
 pub behind_places : (c d : Cursor) (r : TvxRecord) → read_shape places_shape c ≡ Ok (r, d) → (16 ≤ length c.rest) × (d ≡ moved 16 c)
 behind_places c d r e =
-    let first = then_ok (read_part int64 c) (λ x. read_part int64 x.1 >>= λ y. ok_pair {E = Bad} (places (place_of x.0) (place_of y.0)) y.1) (r, d) e in
-    let second = then_ok (read_part int64 first.0.1) (λ y. ok_pair {E = Bad} (places (place_of first.0.0) (place_of y.0)) y.1) (r, d) first.2 in
+    let first = then_ok (read_part int64 c) (λ x. read_part int64 x.1 >>= λ y. ok_pair {E = Bad} (places (place_of_number x.0) (place_of_number y.0)) y.1) (r, d) e in
+    let second = then_ok (read_part int64 first.0.1) (λ y. ok_pair {E = Bad} (places (place_of_number first.0.0) (place_of_number y.0)) y.1) (r, d) first.2 in
     let a = int64_read c first.0.1 first.0.0 first.1 in
     let b = int64_read first.0.1 second.0.1 second.0.0 second.1 in
-    let same = same_pair (places (place_of first.0.0) (place_of second.0.0)) r second.0.1 d second.2 in
+    let same = same_pair (places (place_of_number first.0.0) (place_of_number second.0.0)) r second.0.1 d second.2 in
     let rest : first.0.1.rest ≡ drop 8 c.rest = ap (λ (x : Cursor). x.rest) a.2 in (
       omega (arith, a.0, b.0, ap length rest, length-drop 8 c.rest),
       sym same.1 ∙ b.2 ∙ ap (λ (x : Cursor). moved 8 x) a.2 ∙ ap (λ (x : List ℕ). at (c.place + 8 + 8) x) (drop-drop 8 8 c.rest) ∙ ap (λ (n : ℕ). at n (drop 16 c.rest)) (let n : c.place + 8 + 8 ≡ c.place + 16 = omega arith in n),

@@ -14,7 +14,7 @@ use Rattle.term_vectors.specs.Vectors.{term_plan}
 use Rattle.term_vectors.specs.declared.texts.LastText.{LastText}
 use Rattle.term_vectors.specs.InnerTexts.{text_before}
 use Rattle.term_vectors.specs.InnerTerms.{HasParts}
-use Rattle.term_vectors.specs.InnerViews.{AreWithin, terms_left, AreTermsThere, IsTermWalk}
+use Rattle.term_vectors.specs.InnerViews.{AreTextsWithin, terms_left, AreTermsThere, IsTermWalk}
 use Rattle.term_vectors.proofs.TermLemmas.{reads_terms, terms-done}
 use Rattle.term_vectors.proofs.LeftLemmas.{terms-next, terms-end, settled_left}
 
@@ -36,7 +36,7 @@ module _ (tvf : List ℕ) (bits count start : ℕ) where
     pub end : Cursor
     pub within : here ≤ length tvf
     pub left : reads_terms bits (count - i) before (place_in tvf here) ≡ ok_pair rest end
-    pub all : (most : ℕ) → longest ≤ most → AreWithin most rest → AreWithin most (terms_left bits count None (place_in tvf start))
+    pub all : (most : ℕ) → longest ≤ most → AreTextsWithin most rest → AreTextsWithin most (terms_left bits count None (place_in tvf start))
 
   pub longest-none : start ≤ length tvf → AreTermsThere bits count None (place_in tvf start) → LongestWalk 0 start 0
   longest-none le (end, there) =
@@ -60,18 +60,18 @@ module _ (tvf : List ℕ) (bits count start : ℕ) where
         end = w.end;
         within = has.within;
         left = ap (λ (c : Cursor). reads_terms bits (count - (i + 1)) (Some next.0.0.text) c) (sym has.end) ∙ next.2.1;
-        all = λ most le h. w.all most (omega arith) (subst (AreWithin most) (sym next.2.2) ((omega arith), h));
+        all = λ most le h. w.all most (omega arith) (subst (AreTextsWithin most) (sym next.2.2) ((omega arith), h));
       }
 
-  pub longest-all : (i here longest : ℕ) → LongestWalk i here longest → i ≡ count → AreWithin longest (terms_left bits count None (place_in tvf start))
+  pub longest-all : (i here longest : ℕ) → LongestWalk i here longest → i ≡ count → AreTextsWithin longest (terms_left bits count None (place_in tvf start))
   longest-all i here longest w is =
       let none : count - i ≡ 0 = omega arith in
       let rest = terms-end bits w.before (place_in tvf here) w.rest w.end (ap (λ (k : ℕ). reads_terms bits k w.before (place_in tvf here)) (sym none) ∙ w.left) in
-      w.all longest (omega arith) (subst (AreWithin longest) (sym rest) tt)
+      w.all longest (omega arith) (subst (AreTextsWithin longest) (sym rest) tt)
 
 -- ---- one step of a walk
 
-pub AreWithin-more : (a b : ℕ) (terms : List VectorTerm) → a ≤ b → AreWithin a terms → AreWithin b terms
+pub AreWithin-more : (a b : ℕ) (terms : List VectorTerm) → a ≤ b → AreTextsWithin a terms → AreTextsWithin b terms
 AreWithin-more a b [] le h = tt
 AreWithin-more a b (t ∷ terms) le (first, rest) = (omega arith, AreWithin-more a b terms le rest)
 
@@ -85,7 +85,7 @@ pub record NextTerm (tvf : List ℕ) (place bits left : ℕ) (last : LastText) :
   pub reads : reads_terms bits (left - 1) (Some it.text) behind ≡ ok_pair rest end
   pub all : terms_left bits left (text_before last) (place_in tvf place) ≡ it ∷ rest
   pub fits : length it.text ≤ vec_capacity last.bytes
-  pub others : AreWithin (vec_capacity last.bytes) rest
+  pub others : AreTextsWithin (vec_capacity last.bytes) rest
 
 pub next_term : (tvf : List ℕ) (place bits left : ℕ) (last : LastText) → IsTermWalk tvf place bits left last → 0 < left → NextTerm tvf place bits left last
 next_term tvf place bits left last w some =
@@ -93,7 +93,7 @@ next_term tvf place bits left last w some =
     let before = text_before last in
     let here = place_in tvf place in
     let next = terms-next bits (left - 1) before here (terms_left bits left before here) w.there.0 (ap (λ (n : ℕ). reads_terms bits n before here) (sym more) ∙ w.there.1) in
-    let room = subst (AreWithin (vec_capacity last.bytes)) next.2.2 w.room in
+    let room = subst (AreTextsWithin (vec_capacity last.bytes)) next.2.2 w.room in
     record { it = next.0.0; behind = next.0.1; there = next.1; rest = next.2.0; end = w.there.0; reads = next.2.1; all = next.2.2; fits = room.0; others = room.1 }
 
 pub none_left : (bits : ℕ) (before : Option (List ℕ)) (here : Cursor) → terms_left bits 0 before here ≡ []

@@ -16,8 +16,8 @@ use Rattle.term_vectors.specs.declared.layout.DocumentPlaces.{DocumentPlaces}
 use Rattle.term_vectors.specs.Format.{format_shape}
 use Rattle.term_vectors.specs.Places.{tvx_plan}
 use Rattle.term_vectors.specs.Fields.{VectorPlace, format, format_conditions, is_within, documents_plan, tvd_plan}
-use Rattle.term_vectors.specs.Vectors.{Vector, all_plan, tvf_plan}
-use Rattle.term_vectors.specs.Stores.{AreVectors, windowed, places_in, slots_in, vectors_in, vector_files}
+use Rattle.term_vectors.specs.Vectors.{StoredVector, all_plan, tvf_plan}
+use Rattle.term_vectors.specs.Stores.{AreVectors, windowed, places_in, slots_in, stored_vectors_in, vector_files}
 use Rattle.term_vectors.specs.InnerViews.{HaveNoFault}
 use Rattle.term_vectors.proofs.FixedLemmas.{int32_read}
 use Rattle.term_vectors.proofs.StatedLemmas.{tvx_stated}
@@ -51,26 +51,26 @@ pub record WereRead (total : ℕ) (window : Window) (fields : List TableField) (
   pub short : length tvf < 2 ^ 31
 
 module _ (total : ℕ) (window : Window) (fields : List TableField) (tvx tvd tvf : List ℕ) (s : WereRead total window fields tvx tvd tvf) where
-  one_valid : (n : ℕ) → n < window.count → AreVectors fields (get_or (windowed window (vectors_in (slots_in (places_in total tvx) tvd) tvf)) n [])
+  one_valid : (n : ℕ) → n < window.count → AreVectors fields (get_or (windowed window (stored_vectors_in (slots_in (places_in total tvx) tvd) tvf)) n [])
   one_valid n lt =
       let places = places_in total tvx in
       let slots = slots_in places tvd in
-      let (le, (d, e)) = tvf_was slots tvf (vectors_in slots tvf) s.good.vectors in
-      let end = place_in-after (all_plan slots) tvf 4 (vectors_in slots tvf) d s.good.tvf_bytes le e in
-      let are = all_are fields slots (place_in tvf 4) (vectors_in slots tvf) d (IsBytes-drop 4 tvf s.good.tvf_bytes) e in
+      let (le, (d, e)) = tvf_was slots tvf (stored_vectors_in slots tvf) s.good.vectors in
+      let end = place_in-after (all_plan slots) tvf 4 (stored_vectors_in slots tvf) d s.good.tvf_bytes le e in
+      let are = all_are fields slots (place_in tvf 4) (stored_vectors_in slots tvf) d (IsBytes-drop 4 tvf s.good.tvf_bytes) e in
       let many = (tvx_stated total tvx places s.good.places).many in
       let in_places : window.offset + n < length places = omega (arith, many, s.good.within) in
       let asked = tvd_asked fields window places tvd slots s.good.tvd_bytes s.asked (window.offset + n) in_places (within_is window n lt) in
       let in_slots : window.offset + n < length slots = omega (arith, in_places, (store-documents total window tvx tvd tvf s.good).many) in
       subst (AreVectors fields) (sym (windowed-get total window tvx tvd tvf s.good n lt)) (are.each (window.offset + n) in_slots asked.asked asked.few (omega (arith, end.1, s.short)))
 
-  pub all_valid : All (AreVectors fields) (windowed window (vectors_in (slots_in (places_in total tvx) tvd) tvf))
+  pub all_valid : All (AreVectors fields) (windowed window (stored_vectors_in (slots_in (places_in total tvx) tvd) tvf))
   all_valid =
-      let all = windowed window (vectors_in (slots_in (places_in total tvx) tvd) tvf) in
+      let all = windowed window (stored_vectors_in (slots_in (places_in total tvx) tvd) tvf) in
       All-from_get_or (AreVectors fields) all [] (λ n lt. one_valid n (omega (arith, lt, windowed-many total window tvx tvd tvf s.good)))
 
 -- what was read of three files that stand for a value
-pub values_valid : (total : ℕ) (window : Window) (fields : List TableField) (tvx tvd tvf : List ℕ) (value : List (List Vector)) → IsBytes tvd → IsBytes tvf → window.offset + window.count ≤ total → length tvf < 2 ^ 31
+pub values_valid : (total : ℕ) (window : Window) (fields : List TableField) (tvx tvd tvf : List ℕ) (value : List (List StoredVector)) → IsBytes tvd → IsBytes tvf → window.offset + window.count ≤ total → length tvf < 2 ^ 31
     → StandFor (vector_files total window fields (Some tvx) (Some tvd) (Some tvf)) value → All (AreVectors fields) value
 values_valid total window fields tvx tvd tvf value tvd_bytes tvf_bytes within short (places, reads_tvx, (slots, reads_tvd, (all, reads_tvf, is))) =
     let at_places = read_file-Reads (tvx_plan total) tvx places reads_tvx in
@@ -79,7 +79,7 @@ values_valid total window fields tvx tvd tvf value tvd_bytes tvf_bytes within sh
     let file = file_was (tvd_plan fields window (places_in total tvx)) tvd slots at_slots in
     let same_slots : slots_in (places_in total tvx) tvd ≡ slots = slots-read fields window (places_in total tvx) tvd slots file.0 file.1 file.2 in
     let at_all = ap (λ (ss : List (List VectorPlace)). read_file (tvf_plan ss) tvf) same_slots ∙ read_file-Reads (tvf_plan slots) tvf all reads_tvf in
-    let same_all : vectors_in (slots_in (places_in total tvx) tvd) tvf ≡ all = ap (value_or []) at_all in
+    let same_all : stored_vectors_in (slots_in (places_in total tvx) tvd) tvf ≡ all = ap (value_or []) at_all in
     let were : WereRead total window fields tvx tvd tvf = record {
       good = record {
         within = within;
@@ -87,9 +87,9 @@ values_valid total window fields tvx tvd tvf value tvd_bytes tvf_bytes within sh
         tvf_bytes = tvf_bytes;
         places = at_places ∙ ap (λ (ps : List DocumentPlaces). ok_of ps) (sym same_places);
         slots = slots_file fields window (places_in total tvx) tvd slots at_slots;
-        vectors = at_all ∙ ap (λ (vs : List (List Vector)). ok_of vs) (sym same_all);
+        vectors = at_all ∙ ap (λ (vs : List (List StoredVector)). ok_of vs) (sym same_all);
       };
       asked = at_slots ∙ ap (λ (ss : List (List VectorPlace)). ok_of ss) (sym same_slots);
       short = short;
     } in
-    subst (All (AreVectors fields)) (ap (λ (vs : List (List Vector)). windowed window vs) same_all ∙ sym is) (all_valid total window fields tvx tvd tvf were)
+    subst (All (AreVectors fields)) (ap (λ (vs : List (List StoredVector)). windowed window vs) same_all ∙ sym is) (all_valid total window fields tvx tvd tvf were)

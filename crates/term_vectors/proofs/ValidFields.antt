@@ -22,7 +22,7 @@ use Rattle.lu_model.specs.Contents.{field_at}
 use Rattle.term_vectors.specs.declared.layout.DocumentPlaces.{DocumentPlaces}
 use Rattle.term_vectors.specs.Format.{headed}
 use Rattle.term_vectors.specs.Fields.{TvdRecord, VectorPlace, count, number, stated, count_shape, count_conditions, has_vectors, is_among, number_shape, number_conditions, numbers_plan, further_plan, placed, document_plan, is_within, documents_plan}
-use Rattle.term_vectors.specs.Vectors.{TvfRecord, Vector, heading, count_of, bits_of, heading_shape, heading_conditions, terms_plan, vector_plan, vectors_plan, all_plan}
+use Rattle.term_vectors.specs.Vectors.{TvfRecord, StoredVector, heading, count_of_heading, bits_of_heading, heading_shape, heading_conditions, terms_plan, vector_plan, vectors_plan, all_plan}
 use Rattle.term_vectors.specs.Stores.{AreVectors}
 use Rattle.term_vectors.proofs.Steps.{headed_was}
 use Rattle.term_vectors.proofs.FieldLemmas.{reads_numbers, reads_further, further_of, rest_of_document}

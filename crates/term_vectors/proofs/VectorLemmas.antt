@@ -13,7 +13,7 @@ use Rattle.lu_grammar.proofs.Codecs.{ok_pair, read_due, read_due_broken, read_pl
 use Rattle.lu_model.specs.Index.{VectorTerm}
 use Rattle.term_vectors.specs.Format.{vector_format, format_shape, format_rule, headed}
 use Rattle.term_vectors.specs.Fields.{VectorPlace}
-use Rattle.term_vectors.specs.Vectors.{TvfRecord, Vector, format, heading, format_conditions, count_of, bits_of, heading_shape, heading_conditions, terms_plan, vector_plan, vectors_plan, all_plan, tvf_plan}
+use Rattle.term_vectors.specs.Vectors.{TvfRecord, StoredVector, format, heading, format_conditions, count_of_heading, bits_of_heading, heading_shape, heading_conditions, terms_plan, vector_plan, vectors_plan, all_plan, tvf_plan}
 use Rattle.term_vectors.proofs.Steps.{Continues, led-left, then-broken_so}
 use Rattle.term_vectors.proofs.FormatLemmas.{two_read, two_breaks, header-left, header-broken}
 use Rattle.term_vectors.proofs.PlaceLemmas.{IsBehindFormat}
@@ -41,11 +41,11 @@ module _ (wanted : ℕ) (c b d : Cursor) (count bits : ℕ) (first : read_part n
 
 -- ---- a vector
 
-abbrev pub vector_of : VectorPlace → TvfRecord → List VectorTerm → Vector
-vector_of at r terms = record { field = at.field; bits = bits_of r; terms = terms }
+abbrev pub vector_of : VectorPlace → TvfRecord → List VectorTerm → StoredVector
+vector_of at r terms = record { field = at.field; bits = bits_of_heading r; terms = terms }
 
-abbrev pub rest_of_vector : VectorPlace → TvfRecord → Plan Vector TvfRecord
-rest_of_vector at r = and_then (terms_plan (bits_of r) (count_of r) None) (λ terms. done (vector_of at r terms))
+abbrev pub rest_of_vector : VectorPlace → TvfRecord → Plan StoredVector TvfRecord
+rest_of_vector at r = and_then (terms_plan (bits_of_heading r) (count_of_heading r) None) (λ terms. done (vector_of at r terms))
 
 module _ (at : VectorPlace) (c : Cursor) where
   pub vector-broken : (rule : ℕ) → record_at heading_shape (heading_conditions at.place c.place) c ≡ Err rule → read_plan (vector_plan at) c ≡ Err (record { offset = c.place; rule = rule })
@@ -54,24 +54,24 @@ module _ (at : VectorPlace) (c : Cursor) where
   from_heading : (r : TvfRecord) (d : Cursor) → record_at heading_shape (heading_conditions at.place c.place) c ≡ Ok (r, d) → read_plan (vector_plan at) c ≡ read_plan (rest_of_vector at r) d
   from_heading r d e = read_due heading_shape (λ place s. heading_conditions at.place place s) (λ _ s. rest_of_vector at s) c r d e
 
-  pub vector-terms_broken : (kind : FileKind) (r : TvfRecord) (d : Cursor) (fault : CodecFault) → record_at heading_shape (heading_conditions at.place c.place) c ≡ Ok (r, d) → IsBrokenSo kind (reads_terms (bits_of r) (count_of r) None d) fault
+  pub vector-terms_broken : (kind : FileKind) (r : TvfRecord) (d : Cursor) (fault : CodecFault) → record_at heading_shape (heading_conditions at.place c.place) c ≡ Ok (r, d) → IsBrokenSo kind (reads_terms (bits_of_heading r) (count_of_heading r) None d) fault
       → IsBrokenSo kind (read_plan (vector_plan at) c) fault
   vector-terms_broken kind r d fault e broken =
-      subst (λ (x : Result (Vector × Cursor) Broken). IsBrokenSo kind x fault) (sym (from_heading r d e)) (then-broken_so kind (terms_plan (bits_of r) (count_of r) None) (λ terms. done (vector_of at r terms)) d fault broken)
+      subst (λ (x : Result (StoredVector × Cursor) Broken). IsBrokenSo kind x fault) (sym (from_heading r d e)) (then-broken_so kind (terms_plan (bits_of_heading r) (count_of_heading r) None) (λ terms. done (vector_of at r terms)) d fault broken)
 
-  pub vector-read : (r : TvfRecord) (d z : Cursor) (terms : List VectorTerm) → record_at heading_shape (heading_conditions at.place c.place) c ≡ Ok (r, d) → reads_terms (bits_of r) (count_of r) None d ≡ Ok (terms, z)
+  pub vector-read : (r : TvfRecord) (d z : Cursor) (terms : List VectorTerm) → record_at heading_shape (heading_conditions at.place c.place) c ≡ Ok (r, d) → reads_terms (bits_of_heading r) (count_of_heading r) None d ≡ Ok (terms, z)
       → read_plan (vector_plan at) c ≡ Ok (vector_of at r terms, z)
   unfolding read_plan
   vector-read r d z terms e there =
-      from_heading r d e ∙ read_plan-and_then (terms_plan (bits_of r) (count_of r) None) (λ ts. done (vector_of at r ts)) d
+      from_heading r d e ∙ read_plan-and_then (terms_plan (bits_of_heading r) (count_of_heading r) None) (λ ts. done (vector_of at r ts)) d
       ∙ ap (λ (x : Result (List VectorTerm × Cursor) Broken). x >>= λ y. ok_pair (vector_of at r y.0) y.1) there
 
 -- ---- vectors
 
-abbrev pub reads_vectors : List VectorPlace → Cursor → Result (List Vector × Cursor) Broken
+abbrev pub reads_vectors : List VectorPlace → Cursor → Result (List StoredVector × Cursor) Broken
 reads_vectors slots c = read_plan (vectors_plan slots) c
 
-pub vectors-left : (at : VectorPlace) (slots : List VectorPlace) (c : Cursor) (v : Vector) (d : Cursor) → read_plan (vector_plan at) c ≡ Ok (v, d) → Continues (reads_vectors (at ∷ slots) c) (reads_vectors slots d)
+pub vectors-left : (at : VectorPlace) (slots : List VectorPlace) (c : Cursor) (v : StoredVector) (d : Cursor) → read_plan (vector_plan at) c ≡ Ok (v, d) → Continues (reads_vectors (at ∷ slots) c) (reads_vectors slots d)
 unfolding vectors_plan
 vectors-left at slots c v d e = led-left (vector_plan at) (λ _. vectors_plan slots) c v d e
 
@@ -85,10 +85,10 @@ vectors-done c = refl
 
 -- ---- the vectors of documents
 
-abbrev pub reads_all : List (List VectorPlace) → Cursor → Result (List (List Vector) × Cursor) Broken
+abbrev pub reads_all : List (List VectorPlace) → Cursor → Result (List (List StoredVector) × Cursor) Broken
 reads_all documents c = read_plan (all_plan documents) c
 
-pub all-left : (slots : List VectorPlace) (documents : List (List VectorPlace)) (c : Cursor) (v : List Vector) (d : Cursor) → reads_vectors slots c ≡ Ok (v, d) → Continues (reads_all (slots ∷ documents) c) (reads_all documents d)
+pub all-left : (slots : List VectorPlace) (documents : List (List VectorPlace)) (c : Cursor) (v : List StoredVector) (d : Cursor) → reads_vectors slots c ≡ Ok (v, d) → Continues (reads_all (slots ∷ documents) c) (reads_all documents d)
 unfolding all_plan
 all-left slots documents c v d e = led-left (vectors_plan slots) (λ _. all_plan documents) c v d e
 

@@ -11,7 +11,7 @@ use Rattle.lu_grammar.specs.Plans.{Broken, read_plan}
 use Rattle.lu_grammar.proofs.Codecs.{ok_pair, ok_of, same_pair, err_is_not_ok}
 use Rattle.term_vectors.specs.declared.layout.DocumentPlaces.{DocumentPlaces}
 use Rattle.term_vectors.specs.Fields.{TvdRecord, VectorPlace, stated, difference_shape, difference_conditions, placed, document_plan, is_within, no_window, documents_plan}
-use Rattle.term_vectors.specs.Vectors.{Vector, vector_plan}
+use Rattle.term_vectors.specs.Vectors.{StoredVector, vector_plan}
 use Rattle.term_vectors.specs.InnerAnswers.{PassesIn}
 use Rattle.term_vectors.proofs.Steps.{Continues, Continues-same, Continues-then, Continues-ok, Continues-broken_so}
 use Rattle.term_vectors.proofs.FieldLemmas.{reads_further, further-broken}
@@ -74,7 +74,7 @@ module _ (count place : ℕ) (start first : Cursor) where
       ap (λ (ns : List ℕ). reads_vectors (placed ns rest) here) (one_left numbers i below) ∙ ap (λ (ps : List ℕ). reads_vectors (placed (get_or numbers i 0 ∷ drop (i + 1) numbers) ps) here) is
 
   pub walked-more : (i before p : ℕ) (r : TvdRecord) (beside here next to : Cursor) → IsWalked i before beside here → i < count → record_at difference_shape (λ s. difference_conditions before (stated s)) beside ≡ Ok (r, next) → p ≡ before + stated r
-      → ((field : ℕ) → (v : Vector) × (read_plan (vector_plan (slot field p)) here ≡ Ok (v, to))) → IsWalked (i + 1) p next to
+      → ((field : ℕ) → (v : StoredVector) × (read_plan (vector_plan (slot field p)) here ≡ Ok (v, to))) → IsWalked (i + 1) p next to
   walked-more i before p r beside here next to w lt e is passed =
       let n = next_of i before r beside here next w lt e in
       record {
@@ -87,7 +87,7 @@ module _ (count place : ℕ) (start first : Cursor) where
             let step = vectors-left (slot (get_or numbers i 0) p) (placed (drop (i + 1) numbers) n.more) here v.0 to v.1 in
             let from = w.vectors numbers many in
             Continues-then all (reads_vectors (slot (get_or numbers i 0) p ∷ placed (drop (i + 1) numbers) n.more) here) (reads_vectors (placed (drop (i + 1) numbers) n.more) to)
-            (subst (λ (x : Result (List Vector × Cursor) Broken). Continues all x) (begins i p here w.rest n.more numbers many lt rest) from) step;
+            (subst (λ (x : Result (List StoredVector × Cursor) Broken). Continues all x) (begins i p here w.rest n.more numbers many lt rest) from) step;
       }
 
   pub walked-fault : (kind : FileKind) (i before p : ℕ) (r : TvdRecord) (beside here next : Cursor) (fault : CodecFault) → IsWalked i before beside here → i < count → record_at difference_shape (λ s. difference_conditions before (stated s)) beside ≡ Ok (r, next)
@@ -98,7 +98,7 @@ module _ (count place : ℕ) (start first : Cursor) where
       let rest : w.rest ≡ p ∷ n.more = n.rest ∙ ap (λ (k : ℕ). k ∷ n.more) (sym is) in
       let all = reads_vectors (placed numbers (all_further count place start).0) first in
       Continues-broken_so kind all (reads_vectors (placed (drop i numbers) w.rest) here) fault (w.vectors numbers many)
-      (subst (λ (x : Result (List Vector × Cursor) Broken). IsBrokenSo kind x fault) (sym (begins i p here w.rest n.more numbers many lt rest))
+      (subst (λ (x : Result (List StoredVector × Cursor) Broken). IsBrokenSo kind x fault) (sym (begins i p here w.rest n.more numbers many lt rest))
       (vectors-broken kind (slot (get_or numbers i 0) p) (placed (drop (i + 1) numbers) n.more) here fault (broken (get_or numbers i 0))))
 
   pub walked-no_fault : (i before : ℕ) (beside here : Cursor) (rule : ℕ) → IsWalked i before beside here → i < count → record_at difference_shape (λ s. difference_conditions before (stated s)) beside ≡ Err rule → ⊥
@@ -107,7 +107,7 @@ module _ (count place : ℕ) (start first : Cursor) where
       err_is_not_ok (sym (further-broken (count - (i + 1)) before beside rule e) ∙ ap (λ (k : ℕ). reads_further k before beside) (sym more) ∙ w.left)
 
   pub walked-end : (i before : ℕ) (beside here : Cursor) → IsWalked i before beside here → i ≡ count → (beside ≡ (all_further count place start).1)
-      × ((numbers : List ℕ) → length numbers ≡ count → (v : List Vector) × (reads_vectors (placed numbers (all_further count place start).0) first ≡ Ok (v, here)))
+      × ((numbers : List ℕ) → length numbers ≡ count → (v : List StoredVector) × (reads_vectors (placed numbers (all_further count place start).0) first ≡ Ok (v, here)))
   unfolding placed
   walked-end i before beside here w is =
       let none : count - i ≡ 0 = omega arith in
@@ -151,7 +151,7 @@ module _ (places : List DocumentPlaces) (slots : List (List VectorPlace)) (end f
         rest = was.2.2;
       }
 
-  pub passed-more : (i : ℕ) (at : DocumentPlaces) (beside here next to : Cursor) (w : ArePassed i beside here) (n : NextDocument i at beside here w) (v : List Vector) → reads_vectors n.it here ≡ Ok (v, to) → next ≡ n.behind → ArePassed (i + 1) next to
+  pub passed-more : (i : ℕ) (at : DocumentPlaces) (beside here next to : Cursor) (w : ArePassed i beside here) (n : NextDocument i at beside here w) (v : List StoredVector) → reads_vectors n.it here ≡ Ok (v, to) → next ≡ n.behind → ArePassed (i + 1) next to
   passed-more i at beside here next to w n v e is = record {
     rest = n.more;
     left = ap (λ (c : Cursor). read_plan (documents_plan [] no_window (i + 1) (drop (i + 1) places)) c) is ∙ n.left;
@@ -165,7 +165,7 @@ module _ (places : List DocumentPlaces) (slots : List (List VectorPlace)) (end f
   passed-fault kind i at beside here fault w n broken =
       Continues-broken_so kind (reads_all slots first) (reads_all (n.it ∷ n.more) here) fault (subst (λ (ss : List (List VectorPlace)). Continues (reads_all slots first) (reads_all ss here)) n.rest w.vectors) (all-broken kind n.it n.more here fault broken)
 
-  pub passed-all : (i : ℕ) (beside here : Cursor) → ArePassed i beside here → i ≡ length places → (v : List (List Vector)) × (reads_all slots first ≡ Ok (v, here))
+  pub passed-all : (i : ℕ) (beside here : Cursor) → ArePassed i beside here → i ≡ length places → (v : List (List StoredVector)) × (reads_all slots first ≡ Ok (v, here))
   unfolding documents_plan read_plan
   passed-all i beside here w is =
       let past : drop i places ≡ [] = ap (λ (k : ℕ). drop k places) is ∙ drop-length places in

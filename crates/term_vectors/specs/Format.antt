@@ -46,9 +46,9 @@ abbrev pub format_rule : ℕ → ℤ → List Condition
 format_rule rule z = record { rule = rule; broken = is_other_format z } ∷ []
 
 -- the place that a number stands for, where it is from 0 to the greatest
-abbrev pub place_of : ℤ → Option ℕ
-place_of (pos n) = cond (nat_lt greatest_place n) None (Some n)
-place_of (negsuc n) = None
+abbrev pub place_of_number : ℤ → Option ℕ
+place_of_number (pos n) = cond (nat_lt greatest_place n) None (Some n)
+place_of_number (negsuc n) = None
 
 -- a value, and those of the plan
 abbrev pub headed : {V R : Type 0} → V → Plan (List V) R → Plan (List V) R

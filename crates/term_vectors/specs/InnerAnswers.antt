@@ -13,9 +13,9 @@ Makes {X} {Y} {R} view make expected new (Ok x) = (r : R) × (expected ≡ Ok (r
 Makes view make expected new (Err rule) = expected ≡ Err rule
 
 -- what is expected at a place of a file of this kind is there, and the cursor moved behind it; or its fault
-abbrev pub Passes : {V : Type 0} → FileKind → Result (V × Cursor) Broken → Cursor → Result (Unit {0}) Spot → Type 0
-Passes {V} kind expected new (Ok done) = (v : V) × (expected ≡ Ok (v, new))
-Passes kind expected new (Err spot) = IsBroken kind expected spot
+abbrev pub PassesPlain : {V : Type 0} → FileKind → Result (V × Cursor) Broken → Cursor → Result (Unit {0}) Spot → Type 0
+PassesPlain {V} kind expected new (Ok done) = (v : V) × (expected ≡ Ok (v, new))
+PassesPlain kind expected new (Err spot) = IsBroken kind expected spot
 
 -- the same of a call that may find no memory
 abbrev pub PassesIn : {V : Type 0} → FileKind → Result (V × Cursor) Broken → Cursor → Result (Unit {0}) CodecFault → Type 0

@@ -9,8 +9,8 @@ use Rattle.term_vectors.specs.Places.{TvxRecord, places_shape, stated_places}
 use Rattle.term_vectors.specs.Fields.{is_among}
 
 -- the set has these numbers
-abbrev pub HasNumbers : BTreeSet ℕ → List ℕ → Type 0
-HasNumbers numbers before = (q : ℕ) → contains nat_cmp numbers q ≡ is_among q before
+abbrev pub HasFieldNumbers : BTreeSet ℕ → List ℕ → Type 0
+HasFieldNumbers numbers before = (q : ℕ) → contains nat_cmp numbers q ≡ is_among q before
 
 -- these are the places of the document that stands at this place of `.tvx`
 abbrev pub IsStatedAt : List ℕ → ℕ → DocumentPlaces → Type 0

@@ -6,7 +6,7 @@ use Rattle.std.specs.Ordering.{nat_cmp}
 use Rattle.std.specs.Str.{IsUtf8}
 use Rattle.lu_prims.specs.Order.{byte_rank}
 use Rattle.term_vectors.specs.declared.texts.LastText.{LastText}
-use Rattle.term_vectors.specs.declared.texts.TermEntry.{TermEntry}
+use Rattle.term_vectors.specs.declared.texts.VectorTermEntry.{VectorTermEntry}
 use Rattle.term_vectors.specs.Vectors.{TvfRecord, term}
 
 -- the text, where there is one
@@ -19,7 +19,7 @@ pub record IsSoundText (last : LastText) : Type 0 where
   pub none : last.is_some ≡ false → last.bytes.items ≡ []
 
 -- the record of the program
-abbrev pub term_record : TermEntry → TvfRecord
+abbrev pub term_record : VectorTermEntry → TvfRecord
 term_record e = term e.prefix e.suffix.now e.freq
 
 -- how the bytes after what two texts share stand to each other: by where the first that differ stand in UTF-16 order

@@ -7,13 +7,13 @@ use Rattle.lu_grammar.specs.Plans.{Plan, done, and_then, read_plan, read_file}
 use Rattle.lu_model.specs.Index.{Span, VectorTerm}
 use Rattle.term_vectors.specs.Places.{tvx_plan}
 use Rattle.term_vectors.specs.Fields.{TvdRecord, VectorPlace, numbers_plan, further_plan, placed, no_window, tvd_plan}
-use Rattle.term_vectors.specs.Vectors.{Vector, positions_plan, spans_plan, terms_plan, vector_plan, tvf_plan}
+use Rattle.term_vectors.specs.Vectors.{StoredVector, positions_plan, spans_plan, terms_plan, vector_plan, tvf_plan}
 use Rattle.term_vectors.specs.declared.texts.LastText.{LastText}
 use Rattle.term_vectors.specs.InnerTexts.{text_before, IsSoundText}
-use Rattle.term_vectors.specs.Stores.{places_in, slots_in, vectors_in}
+use Rattle.term_vectors.specs.Stores.{places_in, slots_in, stored_vectors_in}
 
 -- what stands for no vector
-abbrev pub no_vector : Vector
+abbrev pub no_vector : StoredVector
 no_vector = record { field = 0; bits = 0; terms = [] }
 
 -- what stands for no place
@@ -28,20 +28,20 @@ abbrev pub slots_here : ℕ → ℕ → Cursor → List VectorPlace
 slots_here count place here = (value_or ([], here) (read_plan (slots_plan count place) here)).0
 
 -- the vector that stands at its place
-abbrev pub vector_here : List ℕ → VectorPlace → Vector
+abbrev pub vector_here : List ℕ → VectorPlace → StoredVector
 vector_here tvf at = (value_or (no_vector, place_in tvf at.place) (read_plan (vector_plan at) (place_in tvf at.place))).0
 
 -- the vectors of a document
-abbrev pub vectors_here : List ℕ → ℕ → ℕ → ℕ → List ℕ → List Vector
+abbrev pub vectors_here : List ℕ → ℕ → ℕ → ℕ → List ℕ → List StoredVector
 vectors_here tvd numbers count place tvf = map (vector_here tvf) (slots_here count place (place_in tvd numbers))
 
 -- the vector stands at its place
-abbrev pub IsThere : List ℕ → VectorPlace → Type 0
-IsThere tvf at = (d : Cursor) × (read_plan (vector_plan at) (place_in tvf at.place) ≡ Ok (vector_here tvf at, d)) × (at.place ≤ length tvf)
+abbrev pub IsVectorThere : List ℕ → VectorPlace → Type 0
+IsVectorThere tvf at = (d : Cursor) × (read_plan (vector_plan at) (place_in tvf at.place) ≡ Ok (vector_here tvf at, d)) × (at.place ≤ length tvf)
 
 abbrev pub AreAllThere : List ℕ → List VectorPlace → Type 0
 AreAllThere tvf [] = Unit {0}
-AreAllThere tvf (at ∷ slots) = IsThere tvf at × AreAllThere tvf slots
+AreAllThere tvf (at ∷ slots) = IsVectorThere tvf at × AreAllThere tvf slots
 
 -- the vectors of a document stand there
 pub record AreThere (tvd : List ℕ) (numbers count place : ℕ) (tvf : List ℕ) : Type 0 where
@@ -58,7 +58,7 @@ pub record HaveNoFault (total : ℕ) (window : Window) (tvx tvd tvf : List ℕ) 
   pub tvf_bytes : IsBytes tvf
   pub places : read_file (tvx_plan total) tvx ≡ Ok (places_in total tvx)
   pub slots : read_file (tvd_plan [] no_window (places_in total tvx)) tvd ≡ Ok (slots_in (places_in total tvx) tvd)
-  pub vectors : read_file (tvf_plan (slots_in (places_in total tvx) tvd)) tvf ≡ Ok (vectors_in (slots_in (places_in total tvx) tvd) tvf)
+  pub vectors : read_file (tvf_plan (slots_in (places_in total tvx) tvd)) tvf ≡ Ok (stored_vectors_in (slots_in (places_in total tvx) tvd) tvf)
 
 -- ---- what is left of a term
 
@@ -84,13 +84,13 @@ abbrev pub AreTermsThere : ℕ → ℕ → Option (List ℕ) → Cursor → Type
 AreTermsThere bits n before here = (end : Cursor) × (read_plan (terms_plan bits n before) here ≡ Ok (terms_left bits n before here, end))
 
 -- no text is longer
-abbrev pub AreWithin : ℕ → List VectorTerm → Type 0
-AreWithin most [] = Unit {0}
-AreWithin most (t ∷ terms) = (length t.text ≤ most) × AreWithin most terms
+abbrev pub AreTextsWithin : ℕ → List VectorTerm → Type 0
+AreTextsWithin most [] = Unit {0}
+AreTextsWithin most (t ∷ terms) = (length t.text ≤ most) × AreTextsWithin most terms
 
 -- a walk over terms: so many stand at this place, after the last text, if there is one, and the buffer has room for each text
 pub record IsTermWalk (tvf : List ℕ) (place bits left : ℕ) (last : LastText) : Type 0 where
   pub within : place ≤ length tvf
   pub sound : IsSoundText last
   pub there : AreTermsThere bits left (text_before last) (place_in tvf place)
-  pub room : AreWithin (vec_capacity last.bytes) (terms_left bits left (text_before last) (place_in tvf place))
+  pub room : AreTextsWithin (vec_capacity last.bytes) (terms_left bits left (text_before last) (place_in tvf place))

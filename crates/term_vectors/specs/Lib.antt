@@ -5,10 +5,12 @@ pub mod Vectors
 pub mod Stores
 pub mod InnerAnswers
 pub mod InnerFields
-pub mod Pairs
+pub mod OffsetPairs
 pub mod InnerTexts
 pub mod InnerVectors
 pub mod Walks
+pub mod VectorBytes
+pub mod Writable
 pub mod InnerViews
 pub mod InnerTerms
 pub mod InnerSlots

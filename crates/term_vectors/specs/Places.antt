@@ -6,7 +6,7 @@ use Rattle.lu_grammar.specs.Parts.{int64}
 use Rattle.lu_grammar.specs.Records.{Shape, whole, part, Condition}
 use Rattle.lu_grammar.specs.Plans.{Plan, done, due}
 use Rattle.term_vectors.specs.declared.layout.DocumentPlaces.{DocumentPlaces}
-use Rattle.term_vectors.specs.Format.{header_length, format_shape, format_rule, place_of, headed}
+use Rattle.term_vectors.specs.Format.{header_length, format_shape, format_rule, place_of_number, headed}
 
 -- a record of `.tvx`: the format number, or the places of a document, none where a number is no place
 pub data TvxRecord : Type 0 where
@@ -20,7 +20,7 @@ format_conditions _ = []
 
 -- the places of a document
 abbrev pub places_shape : Shape TvxRecord
-places_shape = part int64 (λ tvd. part int64 (λ tvf. whole (places (place_of tvd) (place_of tvf))))
+places_shape = part int64 (λ tvd. part int64 (λ tvf. whole (places (place_of_number tvd) (place_of_number tvf))))
 
 -- a document may not stand there after the one before it, if there is one: the first stands just after the header, each later one behind the one before
 abbrev pub is_misplaced : Option ℕ → Option ℕ → Bool

@@ -11,7 +11,7 @@ use Rattle.lu_model.specs.Valid.{IsVector}
 use Rattle.term_vectors.specs.declared.layout.DocumentPlaces.{DocumentPlaces}
 use Rattle.term_vectors.specs.Places.{tvx_plan}
 use Rattle.term_vectors.specs.Fields.{VectorPlace, no_window, tvd_plan}
-use Rattle.term_vectors.specs.Vectors.{Vector, tvf_plan}
+use Rattle.term_vectors.specs.Vectors.{StoredVector, tvf_plan}
 
 -- all documents of a store of so many
 abbrev pub whole_store : ℕ → Window
@@ -23,14 +23,14 @@ windowed window all = take window.count (drop window.offset all)
 
 -- the three files, in order, of a store of so many documents, of which a segment with these fields takes a window, and what they stand for:
 -- the vectors of each document in the window
-abbrev pub vector_files : ℕ → Window → List TableField → Option (List ℕ) → Option (List ℕ) → Option (List ℕ) → FilePlan (List (List Vector))
+abbrev pub vector_files : ℕ → Window → List TableField → Option (List ℕ) → Option (List ℕ) → Option (List ℕ) → FilePlan (List (List StoredVector))
 vector_files total window fields tvx tvd tvf =
     needs Tvx tvx (λ _. tvx_plan total)
     (λ _ places. needs Tvd tvd (λ _. tvd_plan fields window places)
     (λ _ slots. needs Tvf tvf (λ _. tvf_plan slots) (λ _ all. stands (windowed window all))))
 
 -- what is true of the vectors of a document, in a segment with these fields
-pub record AreVectors (fields : List TableField) (vectors : List Vector) : Type 0 where
+pub record AreVectors (fields : List TableField) (vectors : List StoredVector) : Type 0 where
   pub few : length vectors < 2 ^ 31
   pub apart : AllPairs (λ v w. v.field ≢ w.field) vectors
   pub each : All (IsVector fields) vectors
@@ -46,5 +46,5 @@ abbrev pub slots_in : List DocumentPlaces → List ℕ → List (List VectorPlac
 slots_in places tvd = value_or [] (read_file (tvd_plan [] no_window places) tvd)
 
 -- the vectors that a `.tvf` without a fault holds
-abbrev pub vectors_in : List (List VectorPlace) → List ℕ → List (List Vector)
-vectors_in slots tvf = value_or [] (read_file (tvf_plan slots) tvf)
+abbrev pub stored_vectors_in : List (List VectorPlace) → List ℕ → List (List StoredVector)
+stored_vectors_in slots tvf = value_or [] (read_file (tvf_plan slots) tvf)

@@ -23,8 +23,8 @@ pub data TvfRecord : Type 0 where
   pair : ℕ → ℕ → TvfRecord
 
 -- the vector of a field of a document
-abbrev pub Vector : Type 0
-Vector = FieldVector ℕ
+abbrev pub StoredVector : Type 0
+StoredVector = FieldVector ℕ
 
 -- the format number must be the right one
 abbrev pub format_conditions : TvfRecord → List Condition
@@ -134,36 +134,36 @@ abbrev pub heading_shape : Shape TvfRecord
 heading_shape = part num (λ count. part byte (λ bits. whole (heading count bits)))
 
 -- the number of terms that the record states, and the bits
-abbrev pub count_of : TvfRecord → ℕ
-count_of (heading count bits) = count
-count_of _ = 0
+abbrev pub count_of_heading : TvfRecord → ℕ
+count_of_heading (heading count bits) = count
+count_of_heading _ = 0
 
-abbrev pub bits_of : TvfRecord → ℕ
-bits_of (heading count bits) = bits
-bits_of _ = 0
+abbrev pub bits_of_heading : TvfRecord → ℕ
+bits_of_heading (heading count bits) = bits
+bits_of_heading _ = 0
 
 -- a vector must start at its place, and have no bits but those of positions and offsets
 abbrev pub heading_conditions : ℕ → ℕ → TvfRecord → List Condition
 heading_conditions wanted place r =
     record { rule = rules.tvf_place; broken = not (place == wanted) }
-    ∷ record { rule = rules.vector_bits; broken = nat_lt (bit_positions + bit_offsets) (bits_of r) } ∷ []
+    ∷ record { rule = rules.vector_bits; broken = nat_lt (bit_positions + bit_offsets) (bits_of_heading r) } ∷ []
 
 -- the vector of a field, at its place
-abbrev pub vector_plan : VectorPlace → Plan Vector TvfRecord
+abbrev pub vector_plan : VectorPlace → Plan StoredVector TvfRecord
 vector_plan at =
     due heading_shape (λ place r. heading_conditions at.place place r)
-    (λ _ r. and_then (terms_plan (bits_of r) (count_of r) None) (λ terms. done (record { field = at.field; bits = bits_of r; terms = terms })))
+    (λ _ r. and_then (terms_plan (bits_of_heading r) (count_of_heading r) None) (λ terms. done (record { field = at.field; bits = bits_of_heading r; terms = terms })))
 
 -- the vectors of a document, each at its place
-unfoldable pub vectors_plan : List VectorPlace → Plan (List Vector) TvfRecord
+unfoldable pub vectors_plan : List VectorPlace → Plan (List StoredVector) TvfRecord
 vectors_plan [] = done []
 vectors_plan (at ∷ slots) = and_then (vector_plan at) (λ vector. headed vector (vectors_plan slots))
 
 -- the vectors of documents
-unfoldable pub all_plan : List (List VectorPlace) → Plan (List (List Vector)) TvfRecord
+unfoldable pub all_plan : List (List VectorPlace) → Plan (List (List StoredVector)) TvfRecord
 all_plan [] = done []
 all_plan (slots ∷ documents) = and_then (vectors_plan slots) (λ vectors. headed vectors (all_plan documents))
 
 -- `.tvf` of a store whose documents have their vectors at these places
-abbrev pub tvf_plan : List (List VectorPlace) → Plan (List (List Vector)) TvfRecord
+abbrev pub tvf_plan : List (List VectorPlace) → Plan (List (List StoredVector)) TvfRecord
 tvf_plan documents = due (format_shape format) (λ _ r. format_conditions r) (λ _ _. all_plan documents)

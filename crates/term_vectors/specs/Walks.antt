@@ -4,7 +4,7 @@ use Rattle.lu_model.specs.Index.{Span, VectorTerm}
 
 -- the last term that was passed, those of its positions and of its spans that were not taken, and the terms that are left; before the first term
 -- the last one has no text, stands nowhere and has neither
-pub record TermWalk : Type 0 where
+pub record VectorTermWalk : Type 0 where
   pub text : List ℕ
   pub frequency : ℕ
   pub positions : List ℕ
@@ -12,11 +12,11 @@ pub record TermWalk : Type 0 where
   pub left : List VectorTerm
 
 -- before the first of these terms
-abbrev pub walk_of : List VectorTerm → TermWalk
+abbrev pub walk_of : List VectorTerm → VectorTermWalk
 walk_of terms = record { text = []; frequency = 0; positions = []; spans = []; left = terms }
 
 -- with its last term, before these
-abbrev pub walk_at : VectorTerm → List VectorTerm → TermWalk
+abbrev pub walk_at : VectorTerm → List VectorTerm → VectorTermWalk
 walk_at t terms = record { text = t.text; frequency = t.frequency; positions = t.positions; spans = t.spans; left = terms }
 
 -- a term is left
@@ -25,6 +25,6 @@ has_left [] = false
 has_left (t ∷ terms) = true
 
 -- the next term is passed, if one is left
-abbrev pub walk_on : TermWalk → List VectorTerm → TermWalk
+abbrev pub walk_on : VectorTermWalk → List VectorTerm → VectorTermWalk
 walk_on w [] = w
 walk_on w (t ∷ terms) = walk_at t terms

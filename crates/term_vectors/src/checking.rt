@@ -7,7 +7,7 @@ ghost use Rattle.lu_grammar.specs.Plans.{read_plan, read_file};
 ghost use Rattle.term_vectors.specs.Places.{tvx_plan};
 ghost use Rattle.term_vectors.specs.Fields.{VectorPlace, no_window, numbers_plan, further_plan, placed, document_plan, tvd_plan};
 ghost use Rattle.term_vectors.specs.Vectors.{vectors_plan, tvf_plan};
-ghost use Rattle.term_vectors.specs.Stores.{places_in, slots_in, vectors_in};
+ghost use Rattle.term_vectors.specs.Stores.{places_in, slots_in, stored_vectors_in};
 ghost use Rattle.term_vectors.specs.InnerAnswers.{PassesIn};
 
 use crate::fields::{next_place, places_at};
@@ -96,7 +96,7 @@ pub fn check_vectors(
 ) -> Result<(), CodecFault>
     requires places { read_file (tvx_plan total) tvx.now ≡ Ok (places_in total tvx.now) }
     requires slots { read_file (tvd_plan [] no_window (places_in total tvx.now)) tvd.now ≡ Ok (slots_in (places_in total tvx.now) tvd.now) }
-    ensures { let slots = slots_in (places_in total tvx.now) tvd.now in Checks (λ _. vectors_in slots tvf.now) Tvf (tvf_plan slots) tvf.now result }
+    ensures { let slots = slots_in (places_in total tvx.now) tvd.now in Checks (λ _. stored_vectors_in slots tvf.now) Tvf (tvf_plan slots) tvf.now result }
 {
     let mut here = Cur::at(tvf, 0);
     if let Err(rule) = pass_format(&mut here, TVF_FORMAT) {

@@ -45,10 +45,10 @@ pub struct VectorDoc<'a> {
 
 impl<'a> Model for VectorDoc<'a> {
     ghost use Rattle.std.specs.Prelude.{List};
-    ghost use Rattle.term_vectors.specs.Vectors.{Vector};
+    ghost use Rattle.term_vectors.specs.Vectors.{StoredVector};
     ghost use Rattle.term_vectors.specs.InnerViews.{vectors_here, AreThere};
 
-    ghost Value = { List Vector };
+    ghost Value = { List StoredVector };
 
     ghost view = { λ d. vectors_here d.tvd.now d.numbers d.count d.place d.tvf.now };
 

@@ -8,11 +8,11 @@ ghost use Rattle.lu_grammar.specs.Plans.{read_plan, read_file};
 ghost use Rattle.term_vectors.specs.Places.{tvx_plan};
 ghost use Rattle.term_vectors.specs.Fields.{count, number, stated, count_shape, count_conditions, has_vectors, is_among, number_shape, number_conditions, numbers_plan, difference_shape, difference_conditions, further_plan, document_plan, is_within, tvd_plan};
 ghost use Rattle.term_vectors.specs.Stores.{places_in, slots_in};
-ghost use Rattle.term_vectors.specs.InnerAnswers.{Makes, Passes, PassesIn};
-ghost use Rattle.term_vectors.specs.InnerFields.{HasNumbers, IsStatedAt};
+ghost use Rattle.term_vectors.specs.InnerAnswers.{Makes, PassesPlain, PassesIn};
+ghost use Rattle.term_vectors.specs.InnerFields.{HasFieldNumbers, IsStatedAt};
 
 use crate::layout::{
-    DOCUMENT_BYTES, DocumentPlaces, GREATEST_PLACE, HEADER_BYTES, pass_format, place_of,
+    DOCUMENT_BYTES, DocumentPlaces, GREATEST_PLACE, HEADER_BYTES, pass_format, place_of_number,
 };
 use lu_prims::Cur;
 use lu_types::bits::{VECTORS, has_bit};
@@ -25,7 +25,7 @@ use std::collections::BTreeSet;
 
 /// The documents of a store that a segment takes: how many the store has, and which of them.
 #[derive(Clone, Copy, Debug, PartialEq, Eq)]
-pub struct StorePart {
+pub struct StoreWindow {
     /// How many documents the store has.
     pub total: u32,
     /// Those that the segment takes.
@@ -82,7 +82,7 @@ fn next_number(
     fields: &FieldTable<'_>,
     numbers: &BTreeSet<u32>,
 ) -> Result<u32, u16>
-    ensures { (before : List ℕ) → HasNumbers numbers.now before
+    ensures { (before : List ℕ) → HasFieldNumbers numbers.now before
         → Gives number (record_at number_shape (λ r. number_conditions asked fields.now before (stated r)) here.old) here.new result }
 {
     match here.num() {
@@ -138,7 +138,7 @@ pub fn next_place(here: &mut Cur<'_>, place: u32) -> Result<u32, u16>
 
 /// Passes the places of so many further vectors of a document, after one at a place, or answers the first fault.
 fn pass_places(here: &mut Cur<'_>, count: u32, place: u32) -> Result<(), Spot>
-    ensures { Passes Tvd (read_plan (further_plan count place) here.old) here.new result }
+    ensures { PassesPlain Tvd (read_plan (further_plan count place) here.old) here.new result }
 {
     let mut last = place;
     for _nth in 0..count {
@@ -187,8 +187,8 @@ pub fn places_at(tvx: &[u8], number: u32) -> DocumentPlaces
         Ok(tvd) => match here.i64() {
             Err(_) => unreachable!(),
             Ok(tvf) => DocumentPlaces {
-                tvd: place_of(tvd).unwrap_or(0),
-                tvf: place_of(tvf).unwrap_or(0),
+                tvd: place_of_number(tvd).unwrap_or(0),
+                tvf: place_of_number(tvf).unwrap_or(0),
             },
         },
     }
@@ -211,7 +211,7 @@ pub fn check_fields(
     tvx: &[u8],
     tvd: &[u8],
     fields: &FieldTable<'_>,
-    part: StorePart,
+    part: StoreWindow,
 ) -> Result<(), CodecFault>
     requires { read_file (tvx_plan part.total) tvx.now ≡ Ok (places_in part.total tvx.now) }
     ensures { Checks (λ _. slots_in (places_in part.total tvx.now) tvd.now) Tvd (tvd_plan fields.now part.window (places_in part.total tvx.now)) tvd.now result }

@@ -11,7 +11,7 @@ ghost use Rattle.lu_model.specs.Index.{VectorTerm};
 ghost use Rattle.lu_model.specs.Valid.{IsVectorTerm};
 ghost use Rattle.term_vectors.specs.Format.{vector_format, header_length, document_length, greatest_place, start_modulus, bit_positions, bit_offsets};
 ghost use Rattle.term_vectors.specs.Stores.{AreVectors, vector_files};
-ghost use Rattle.term_vectors.specs.Vectors.{Vector, terms_plan};
+ghost use Rattle.term_vectors.specs.Vectors.{StoredVector, terms_plan};
 
 use crate::layout::{
     DOCUMENT_BYTES, GREATEST_PLACE, HEADER_BYTES, OFFSETS, POSITIONS, START_MODULUS, VECTOR_FORMAT,
@@ -28,7 +28,7 @@ pub fn terms_are_good()
 /// What the three files of a store stand for, of which `.tvf` is shorter than 2^31 bytes, is what a segment with these fields can have:
 /// the vectors of each document in the window are of different fields that have vectors, and each is one that an index can have.
 pub fn documents_are_good()
-    ensures { (total : ℕ) (window : Window) (fields : List TableField) (tvx tvd tvf : List ℕ) (value : List (List Vector)) → IsBytes tvd → IsBytes tvf
+    ensures { (total : ℕ) (window : Window) (fields : List TableField) (tvx tvd tvf : List ℕ) (value : List (List StoredVector)) → IsBytes tvd → IsBytes tvf
         → window.offset + window.count ≤ total → length tvf < 2 ^ 31
         → StandFor (vector_files total window fields (Some tvx) (Some tvd) (Some tvf)) value → All (AreVectors fields) value }
 {}

@@ -2,7 +2,7 @@
 ghost use Rattle.std.specs.Prelude.{◌≡◌};
 ghost use Rattle.lu_grammar.specs.Answers.{Gives};
 ghost use Rattle.lu_grammar.specs.Records.{record_at};
-ghost use Rattle.term_vectors.specs.Format.{vector_format, format_shape, format_rule, is_other_format, place_of};
+ghost use Rattle.term_vectors.specs.Format.{vector_format, format_shape, format_rule, is_other_format, place_of_number};
 
 use lu_prims::Cur;
 use lu_types::rules::rule_of;
@@ -36,8 +36,8 @@ pub fn is_other_format(format: i32) -> bool
 }
 
 /// The place that a number stands for; `None` where it is negative or above the greatest.
-pub fn place_of(number: i64) -> Option<u32>
-    ensures { result ≡ place_of number }
+pub fn place_of_number(number: i64) -> Option<u32>
+    ensures { result ≡ place_of_number number }
 {
     match u32::try_from(number) {
         Ok(place) if place <= GREATEST_PLACE => Some(place),

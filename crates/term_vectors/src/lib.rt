@@ -14,9 +14,9 @@ mod vectors;
 mod view;
 
 pub use document::{VectorDoc, VectorField};
-pub use fields::{StorePart, check_fields};
+pub use fields::{StoreWindow, check_fields};
 pub use layout::DocumentPlaces;
-pub use occurrences::Pair;
+pub use occurrences::OffsetPair;
 pub use places::check_places;
 pub use terms::VectorTerms;
 pub use view::VectorView;

@@ -4,8 +4,8 @@ ghost use Rattle.lu_types.specs.declared.kind.FileKind.TheVariants.{Tvf};
 ghost use Rattle.lu_grammar.specs.Records.{record_at};
 ghost use Rattle.lu_grammar.specs.Plans.{read_plan};
 ghost use Rattle.term_vectors.specs.Vectors.{position_shape, position_after, position_conditions, positions_plan, pair_shape, span_after, pair_conditions, spans_plan};
-ghost use Rattle.term_vectors.specs.InnerAnswers.{Makes, Passes};
-ghost use Rattle.term_vectors.specs.Pairs.{span_of, IsPairAfter};
+ghost use Rattle.term_vectors.specs.InnerAnswers.{Makes, PassesPlain};
+ghost use Rattle.term_vectors.specs.OffsetPairs.{span_of, IsPairAfter};
 ghost use Rattle.term_vectors.specs.InnerViews.{positions_left, ArePositionsLeft, spans_left, AreSpansLeft};
 
 use crate::layout::{GREATEST_PLACE, START_MODULUS};
@@ -16,7 +16,7 @@ use std::marker::Model;
 
 /// From where to where an occurrence of a term stands in the text of its field.
 #[derive(Clone, Copy, Debug, PartialEq, Eq)]
-pub struct Pair {
+pub struct OffsetPair {
     /// Where it starts, below 2^31.
     pub start: u32,
     /// Where it ends, not below the start, and below 2^31.
@@ -41,7 +41,7 @@ pub fn next_position(here: &mut Cur<'_>, last: u32) -> Result<u32, u16>
 
 /// Passes so many positions of a term, or answers the first fault.
 pub fn pass_positions(here: &mut Cur<'_>, count: u32) -> Result<(), Spot>
-    ensures { Passes Tvf (read_plan (positions_plan count 0) here.old) here.new result }
+    ensures { PassesPlain Tvf (read_plan (positions_plan count 0) here.old) here.new result }
 {
     let mut last = 0;
     for _nth in 0..count {
@@ -56,7 +56,7 @@ pub fn pass_positions(here: &mut Cur<'_>, count: u32) -> Result<(), Spot>
 
 /// The pair that starts so far behind the last end, modulo 2^32, and is so long; `None` where the start or the end is above the
 /// greatest place.
-fn pair_after(last: u32, far: u32, long: u32) -> Option<Pair>
+fn pair_after(last: u32, far: u32, long: u32) -> Option<OffsetPair>
     ensures { IsPairAfter last far long result }
 {
     let start = (u64::from(last) + u64::from(far)) % START_MODULUS;
@@ -67,14 +67,14 @@ fn pair_after(last: u32, far: u32, long: u32) -> Option<Pair>
     if end > u64::from(GREATEST_PLACE) {
         return None;
     }
-    Some(Pair {
+    Some(OffsetPair {
         start: start as u32,
         end: end as u32,
     })
 }
 
 /// The next pair, after one with this end, or which rule it breaks first.
-pub fn next_pair(here: &mut Cur<'_>, last: u32) -> Result<Pair, u16>
+pub fn next_pair(here: &mut Cur<'_>, last: u32) -> Result<OffsetPair, u16>
     ensures { Makes span_of (span_after last) (record_at pair_shape (pair_conditions last) here.old) here.new result }
 {
     match here.vint() {
@@ -91,7 +91,7 @@ pub fn next_pair(here: &mut Cur<'_>, last: u32) -> Result<Pair, u16>
 
 /// Passes so many pairs of a term, or answers the first fault.
 pub fn pass_pairs(here: &mut Cur<'_>, count: u32) -> Result<(), Spot>
-    ensures { Passes Tvf (read_plan (spans_plan count 0) here.old) here.new result }
+    ensures { PassesPlain Tvf (read_plan (spans_plan count 0) here.old) here.new result }
 {
     let mut last = 0;
     for _nth in 0..count {
@@ -156,13 +156,13 @@ impl<'a> Positions<'a> {
 
 /// The pairs of a term that are left to read, in order. Contracts see them as a list of spans.
 #[derive(Drop)]
-pub struct Pairs<'a> {
+pub struct OffsetPairs<'a> {
     here: Cur<'a>,
     left: u32,
     last: u32,
 }
 
-impl<'a> Model for Pairs<'a> {
+impl<'a> Model for OffsetPairs<'a> {
     ghost use Rattle.std.specs.Prelude.{List};
     ghost use Rattle.lu_model.specs.Index.{Span};
     ghost use Rattle.term_vectors.specs.InnerViews.{spans_left, AreSpansLeft};
@@ -174,13 +174,13 @@ impl<'a> Model for Pairs<'a> {
     ghost invariant = { λ p. AreSpansLeft p.left p.last p.here };
 }
 
-impl<'a> Pairs<'a> {
+impl<'a> OffsetPairs<'a> {
     /// So many pairs, which stand there.
-    pub fn at(here: Cur<'a>, left: u32) -> Pairs<'a>
+    pub fn at(here: Cur<'a>, left: u32) -> OffsetPairs<'a>
         requires { AreSpansLeft left 0 here }
         ensures { result ≡ spans_left left 0 here.entry }
     {
-        Pairs {
+        OffsetPairs {
             here,
             left,
             last: 0,
@@ -188,7 +188,7 @@ impl<'a> Pairs<'a> {
     }
 
     /// The next pair; `None` after the last. Takes no memory.
-    pub fn next(&mut self) -> Option<Pair>
+    pub fn next(&mut self) -> Option<OffsetPair>
         ensures { MatchOption result ((self.old ≡ []) × (self.new ≡ [])) (λ pair. self.old ≡ span_of pair ∷ self.new) }
     {
         if self.left == 0 {

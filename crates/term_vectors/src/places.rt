@@ -7,7 +7,7 @@ ghost use Rattle.term_vectors.specs.Places.{places, is_misplaced, places_shape, 
 ghost use Rattle.term_vectors.specs.Stores.{places_in};
 ghost use Rattle.term_vectors.specs.InnerAnswers.{Makes};
 
-use crate::layout::{HEADER_BYTES, pass_format, place_of};
+use crate::layout::{HEADER_BYTES, pass_format, place_of_number};
 use lu_prims::Cur;
 use lu_types::rules::{TRAILING, TVX_FORMAT, TVX_PLACE, rule_of};
 use lu_types::{FileKind, Spot};
@@ -47,8 +47,8 @@ fn next_places(here: &mut Cur<'_>, before: Option<u32>) -> Result<u32, u16>
         Ok(tvd) => match here.i64() {
             Err(bad) => Err(rule_of(bad)),
             Ok(tvf) => {
-                let tvd = place_of(tvd);
-                match places_broken(before, tvd, place_of(tvf)) {
+                let tvd = place_of_number(tvd);
+                match places_broken(before, tvd, place_of_number(tvf)) {
                     Some(rule) => Err(rule),
                     None => Ok(tvd.unwrap_or(0)),
                 }

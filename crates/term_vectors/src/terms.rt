@@ -3,14 +3,14 @@ ghost use Rattle.std.specs.Prelude.{◌≡◌, ◌≤◌, ℕ, List, [], ◌∷�
 ghost use Rattle.lu_grammar.specs.Bytes.{Cursor, place_in};
 ghost use Rattle.lu_grammar.specs.Plans.{read_plan};
 ghost use Rattle.lu_model.specs.Index.{VectorTerm};
-ghost use Rattle.term_vectors.specs.Pairs.{span_of};
+ghost use Rattle.term_vectors.specs.OffsetPairs.{span_of};
 ghost use Rattle.term_vectors.specs.Walks.{walk_of, has_left, walk_on};
 ghost use Rattle.term_vectors.specs.Vectors.{term_plan};
 ghost use Rattle.term_vectors.specs.InnerTerms.{HasParts};
-ghost use Rattle.term_vectors.specs.InnerViews.{AreWithin, terms_left, AreTermsThere};
+ghost use Rattle.term_vectors.specs.InnerViews.{AreTextsWithin, terms_left, AreTermsThere};
 
 use crate::layout::{OFFSETS, POSITIONS};
-use crate::occurrences::{Pair, Pairs, Positions, pass_pairs, pass_positions};
+use crate::occurrences::{OffsetPair, OffsetPairs, Positions, pass_pairs, pass_positions};
 use crate::texts::{LastText, entry_at};
 use crate::vectors::kept_count;
 use lu_prims::{Cur, OutOfMemory};
@@ -25,7 +25,7 @@ pub struct TermParts<'a> {
     pub suffix: &'a [u8],
     pub freq: u32,
     pub positions: Positions<'a>,
-    pub pairs: Pairs<'a>,
+    pub pairs: OffsetPairs<'a>,
     pub end: usize,
 }
 
@@ -48,7 +48,7 @@ fn term_at<'a>(tvf: &'a [u8], place: usize, bits: u8) -> TermParts<'a>
         Ok(()) => {}
     }
     let many = kept_count(OFFSETS, bits, entry.freq);
-    let pairs = Pairs::at(Cur::at(tvf, here.place()), many);
+    let pairs = OffsetPairs::at(Cur::at(tvf, here.place()), many);
     match pass_pairs(&mut here, many) {
         Err(_) => unreachable!(),
         Ok(()) => {}
@@ -67,7 +67,7 @@ fn term_at<'a>(tvf: &'a [u8], place: usize, bits: u8) -> TermParts<'a>
 fn longest_text(tvf: &[u8], place: usize, bits: u8, count: u32) -> usize
     requires within { place ≤ length tvf.now }
     requires there { AreTermsThere bits count None (place_in tvf.now place) }
-    ensures { AreWithin result (terms_left bits count None (place_in tvf.now place)) }
+    ensures { AreTextsWithin result (terms_left bits count None (place_in tvf.now place)) }
 {
     let mut here = place;
     let mut longest = 0;
@@ -90,16 +90,16 @@ pub struct VectorTerms<'a> {
     last: LastText,
     freq: u32,
     positions: Positions<'a>,
-    pairs: Pairs<'a>,
+    pairs: OffsetPairs<'a>,
 }
 
 impl<'a> Model for VectorTerms<'a> {
     ghost use Rattle.lu_grammar.specs.Bytes.{place_in};
-    ghost use Rattle.term_vectors.specs.Walks.{TermWalk};
+    ghost use Rattle.term_vectors.specs.Walks.{VectorTermWalk};
     ghost use Rattle.term_vectors.specs.InnerTexts.{text_before};
     ghost use Rattle.term_vectors.specs.InnerViews.{terms_left, IsTermWalk};
 
-    ghost Value = { TermWalk };
+    ghost Value = { VectorTermWalk };
 
     ghost view = { λ w. record {
       text = w.last.bytes.items;
@@ -134,7 +134,7 @@ impl<'a> VectorTerms<'a> {
             last,
             freq: 0,
             positions: Positions::at(Cur::at(tvf, place), 0),
-            pairs: Pairs::at(Cur::at(tvf, place), 0),
+            pairs: OffsetPairs::at(Cur::at(tvf, place), 0),
         })
     }
 
@@ -188,7 +188,7 @@ impl<'a> VectorTerms<'a> {
 
     /// Where the next occurrence of the term that `next` moved to starts and ends; `None` after the last, and where the vector
     /// keeps none. Takes no memory.
-    pub fn offset(&mut self) -> Option<Pair>
+    pub fn offset(&mut self) -> Option<OffsetPair>
         ensures { MatchOption result ((self.old.spans ≡ []) × (self.new ≡ self.old))
             (λ pair. (self.old.spans ≡ span_of pair ∷ self.new.spans) × (self.new ≡ record self.old { spans = self.new.spans })) }
     {

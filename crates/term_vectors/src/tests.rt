@@ -249,7 +249,7 @@ fn reads_terms(rt: &impl Abort, alloc: Global) -> Result<(), Fail> {
     assert!(rt; terms.text() == "world");
     assert!(rt; terms.position() == Some(1));
     assert!(rt; terms.position() == None);
-    assert!(rt; terms.offset() == Some(Pair { start: 6, end: 11 }));
+    assert!(rt; terms.offset() == Some(OffsetPair { start: 6, end: 11 }));
     assert!(rt; terms.offset() == None);
     assert!(rt; !terms.next());
     Ok(())
@@ -268,9 +268,9 @@ fn reads_back(rt: &impl Abort, alloc: Global) -> Result<(), Fail> {
     assert!(rt; doc.count() > 0);
     let mut terms = doc.terms(alloc, 0)?;
     assert!(rt; terms.next());
-    assert!(rt; terms.offset() == Some(Pair { start: 0, end: 2 }));
+    assert!(rt; terms.offset() == Some(OffsetPair { start: 0, end: 2 }));
     assert!(rt; terms.position() == Some(0));
-    assert!(rt; terms.offset() == Some(Pair { start: 1, end: 3 }));
+    assert!(rt; terms.offset() == Some(OffsetPair { start: 1, end: 3 }));
     assert!(rt; terms.position() == Some(1));
     Ok(())
 }

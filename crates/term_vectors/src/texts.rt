@@ -15,7 +15,7 @@ use std::cmp::Ordering;
 /// The record of a term: how many bytes its text shares with the text before, the bytes that follow them, and how often it stands
 /// in the field.
 #[derive(Clone, Copy, Debug, PartialEq, Eq)]
-pub struct TermEntry<'a> {
+pub struct VectorTermEntry<'a> {
     pub prefix: u32,
     pub suffix: &'a [u8],
     pub freq: u32,
@@ -32,7 +32,7 @@ pub struct LastText {
 
 /// The record of a term that stands at the cursor, which moves behind it; or what is wrong with its first part that has no
 /// spelling.
-pub fn entry_at<'a>(cur: &mut Cur<'a>) -> Result<TermEntry<'a>, Bad>
+pub fn entry_at<'a>(cur: &mut Cur<'a>) -> Result<VectorTermEntry<'a>, Bad>
     ensures { Gives term_record (read_shape term_shape cur.old) cur.new result }
 {
     let prefix = cur.num()?;
@@ -42,7 +42,7 @@ pub fn entry_at<'a>(cur: &mut Cur<'a>) -> Result<TermEntry<'a>, Bad>
         Ok(suffix) => suffix,
     };
     let freq = cur.num()?;
-    Ok(TermEntry {
+    Ok(VectorTermEntry {
         prefix,
         suffix,
         freq,
@@ -158,7 +158,7 @@ impl LastText {
     }
 
     /// Whether the text of the entry is above this one, if there is one.
-    fn is_below(&self, entry: &TermEntry<'_>) -> bool
+    fn is_below(&self, entry: &VectorTermEntry<'_>) -> bool
         requires prefix { entry.now.prefix ≤ length self.now.bytes.items }
         requires sound { IsSoundText self.now }
         ensures { IsUtf8 (take entry.now.prefix self.now.bytes.items ++ entry.now.suffix.now)
@@ -172,7 +172,7 @@ impl LastText {
     }
 
     /// Makes the text that of the entry, and answers whether it is UTF-8.
-    fn set(&mut self, entry: &TermEntry<'_>) -> Result<bool, OutOfMemory>
+    fn set(&mut self, entry: &VectorTermEntry<'_>) -> Result<bool, OutOfMemory>
         requires prefix { entry.now.prefix ≤ length self.old.bytes.items }
         requires text { IsUtf8 self.old.bytes.items }
         ensures text { IfOk result (λ valid. (self.new.bytes.items ≡ take entry.now.prefix self.old.bytes.items ++ entry.now.suffix.now)
@@ -187,7 +187,7 @@ impl LastText {
     }
 
     /// Makes the text that of the entry; or answers the first rule that the entry breaks after this text, if there is one.
-    pub fn step(&mut self, entry: &TermEntry<'_>) -> Result<Option<u16>, OutOfMemory>
+    pub fn step(&mut self, entry: &VectorTermEntry<'_>) -> Result<Option<u16>, OutOfMemory>
         requires { IsSoundText self.old }
         ensures rule { IfOk result (λ rule. rule ≡ first_broken (term_conditions (text_before self.old) (term_record entry.now))) }
         ensures good { IfOk result (λ rule. rule ≡ None

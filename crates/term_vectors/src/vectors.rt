@@ -14,7 +14,7 @@ ghost use Rattle.term_vectors.specs.InnerVectors.{IsTermTaken, IsTermPassed, hea
 
 use crate::layout::{OFFSETS, POSITIONS};
 use crate::occurrences::{pass_pairs, pass_positions};
-use crate::texts::{LastText, TermEntry, entry_at};
+use crate::texts::{LastText, VectorTermEntry, entry_at};
 use lu_prims::{Cur, OutOfMemory};
 use lu_types::bits::has_bit;
 use lu_types::rules::{TVF_PLACE, VECTOR_BITS, rule_of};

@@ -5,7 +5,7 @@ ghost use Rattle.term_vectors.specs.Stores.{AreVectors, whole_store, vector_file
 
 use crate::checking::check_vectors;
 use crate::document::VectorDoc;
-use crate::fields::{StorePart, check_fields, places_at};
+use crate::fields::{StoreWindow, check_fields, places_at};
 use crate::places::check_places;
 use lu_prims::Cur;
 use lu_types::{CodecFault, FieldTable, Window};
@@ -30,13 +30,13 @@ pub struct VectorView<'a> {
 
 impl<'a> Model for VectorView<'a> {
     ghost use Rattle.std.specs.Prelude.{List};
-    ghost use Rattle.term_vectors.specs.Vectors.{Vector};
-    ghost use Rattle.term_vectors.specs.Stores.{windowed, places_in, slots_in, vectors_in};
+    ghost use Rattle.term_vectors.specs.Vectors.{StoredVector};
+    ghost use Rattle.term_vectors.specs.Stores.{windowed, places_in, slots_in, stored_vectors_in};
     ghost use Rattle.term_vectors.specs.InnerViews.{HaveNoFault};
 
-    ghost Value = { List (List Vector) };
+    ghost Value = { List (List StoredVector) };
 
-    ghost view = { λ v. windowed v.window (vectors_in (slots_in (places_in v.total v.tvx.now) v.tvd.now) v.tvf.now) };
+    ghost view = { λ v. windowed v.window (stored_vectors_in (slots_in (places_in v.total v.tvx.now) v.tvd.now) v.tvf.now) };
 
     ghost invariant = { λ v. HaveNoFault v.total v.window v.tvx.now v.tvd.now v.tvf.now };
 }
@@ -89,7 +89,7 @@ impl<'a> VectorView<'a> {
         if let Err(spot) = check_places(tvx, total) {
             return Err(CodecFault::Spot(spot));
         }
-        let part = StorePart { total, window };
+        let part = StoreWindow { total, window };
         if let Err(fault) = check_fields(alloc, tvx, tvd, fields, part) {
             return Err(fault);
         }

@@ -5,7 +5,7 @@ use Rattle.lu_grammar.specs.Bytes.{Cursor, start_of}
 use Rattle.lu_grammar.specs.Plans.{read_plan, Broken}
 use Rattle.term_vectors.specs.declared.layout.DocumentPlaces.{DocumentPlaces}
 use Rattle.term_vectors.specs.Fields.{VectorPlace, no_window, documents_plan}
-use Rattle.term_vectors.specs.Vectors.{Vector, tvf_plan}
+use Rattle.term_vectors.specs.Vectors.{StoredVector, tvf_plan}
 use Rattle.term_vectors.specs.Stores.{places_in, slots_in}
 use Rattle.term_vectors.proofs.Steps.{Continues-same}
 use Rattle.term_vectors.proofs.Endings.{spot-broken, file-broken, file-broken_so, file-trailing, file-whole}
@@ -69,7 +69,7 @@ returns-in-Err-pass_vectors c =
     let n = next_document places slots end c.pass_format.new.here i c.places_at-places.result c.loop-number.beside c.loop-number.here w lt is in
     let header : IsBehindFormat 105 c.args.tvf.now c.pass_format.new.here = rw (← c.at-here.ensures) c.in_default.ensures in
     file-broken_so Tvf (tvf_plan slots) c.args.tvf.now c.in-Err-pass_vectors.fault (λ i. (c.type_inv.tvf i).fits)
-    (subst (λ (r : Result (List (List Vector) × Cursor) Broken). IsBrokenSo Tvf r c.in-Err-pass_vectors.fault) (sym (tvf-from slots c.args.tvf.now c.pass_format.new.here header))
+    (subst (λ (r : Result (List (List StoredVector) × Cursor) Broken). IsBrokenSo Tvf r c.in-Err-pass_vectors.fault) (sym (tvf-from slots c.args.tvf.now c.pass_format.new.here header))
     (passed-fault places slots end c.pass_format.new.here Tvf i c.places_at-places.result c.loop-number.beside c.loop-number.here c.in-Err-pass_vectors.fault w n (c.in-Err-pass_vectors.ensures n.it n.behind n.reads).0))
 
 pub loop-number-preserved : goal.loop-number-preserved

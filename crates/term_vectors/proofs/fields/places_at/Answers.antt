@@ -3,7 +3,7 @@ use Rattle.std.specs.Option.{unwrap_or}
 use Rattle.lu_grammar.specs.Bytes.{Cursor, moved}
 use Rattle.lu_grammar.specs.Parts.{int64}
 use Rattle.lu_grammar.specs.Reading.{read_part}
-use Rattle.term_vectors.specs.Format.{place_of}
+use Rattle.term_vectors.specs.Format.{place_of_number}
 use Rattle.term_vectors.proofs.FixedLemmas.{int64_read, int64_not_bad}
 use Rattle.term_vectors.proofs.StatedLemmas.{stated_at}
 use Rattle.term_vectors.proofs.fields.places_at.Goals as goal
@@ -27,4 +27,4 @@ returns c =
     let b : to_z w64 (of_z w64 c.in-Ok-i64.tvf) ≡ c.in-Ok-i64.tvf = search rules in
     stated_at c.args.tvx.now (4 + 16 * c.args.number) c.in-Ok.tvd c.in-Ok-i64.tvf c.i64.new.self c.i64-in-Ok.new.self c.unwrap_or.result c.unwrap_or-in-Ok-i64.result
     (ap (λ (d : Cursor). read_part int64 d) (sym c.at-here.ensures) ∙ c.in-Ok.ensures) c.in-Ok-i64.ensures
-    (c.unwrap_or.ensures ∙ ap (λ (o : Option ℕ). unwrap_or o 0) (c.place_of.ensures ∙ ap place_of a)) (c.unwrap_or-in-Ok-i64.ensures ∙ ap (λ (o : Option ℕ). unwrap_or o 0) (c.place_of-in-Ok-i64.ensures ∙ ap place_of b))
+    (c.unwrap_or.ensures ∙ ap (λ (o : Option ℕ). unwrap_or o 0) (c.place_of_number.ensures ∙ ap place_of_number a)) (c.unwrap_or-in-Ok-i64.ensures ∙ ap (λ (o : Option ℕ). unwrap_or o 0) (c.place_of_number-in-Ok-i64.ensures ∙ ap place_of_number b))

@@ -2,9 +2,9 @@ use Rattle.std.proofs.Common.{◌≡◌, ℕ, List, [], Option, refl, sym, ap, s
 use Rattle.std.specs.Prelude.{vec_capacity}
 use Rattle.lu_grammar.specs.Bytes.{place_in}
 use Rattle.lu_model.specs.Index.{Span, VectorTerm}
-use Rattle.term_vectors.specs.Walks.{TermWalk}
+use Rattle.term_vectors.specs.Walks.{VectorTermWalk}
 use Rattle.term_vectors.specs.InnerTexts.{text_before}
-use Rattle.term_vectors.specs.InnerViews.{terms_left, AreTermsThere, AreWithin}
+use Rattle.term_vectors.specs.InnerViews.{terms_left, AreTermsThere, AreTextsWithin}
 use Rattle.term_vectors.proofs.OccurrenceLemmas.{reads_positions, reads_spans, positions-done, spans-done}
 use Rattle.term_vectors.proofs.LeftLemmas.{settled_left}
 use Rattle.term_vectors.proofs.TermWalkLemmas.{AreWithin-more}
@@ -25,7 +25,7 @@ invariant_of-result c =
       sound = c.in_ok-last.ensures.sound;
       there = subst (λ (o : Option (List ℕ)). AreTermsThere c.args.bits c.args.left o here) (sym before) c.requires.there;
       room =
-          subst (λ (o : Option (List ℕ)). AreWithin (vec_capacity c.in_ok-last.last.bytes) (terms_left c.args.bits c.args.left o here)) (sym before)
+          subst (λ (o : Option (List ℕ)). AreTextsWithin (vec_capacity c.in_ok-last.last.bytes) (terms_left c.args.bits c.args.left o here)) (sym before)
           (AreWithin-more c.longest_text.result (vec_capacity c.in_ok-last.last.bytes) _ c.in_ok-last.ensures.room c.longest_text.ensures);
     }
 
@@ -39,5 +39,5 @@ returns c =
     ∙ ap (λ (ss : List Span). made [] [] ss (terms_left c.args.bits c.args.left (text_before c.in_ok-last.last) here)) spans
     ∙ ap (λ (o : Option (List ℕ)). made [] [] [] (terms_left c.args.bits c.args.left o here)) c.in_ok-last.ensures.before
   where
-    made : List ℕ → List ℕ → List Span → List VectorTerm → TermWalk
+    made : List ℕ → List ℕ → List Span → List VectorTerm → VectorTermWalk
     made text positions spans left = record { text = text; frequency = 0; positions = positions; spans = spans; left = left }

@@ -5,9 +5,9 @@ use Rattle.std.specs.Str.{IsUtf8}
 use Rattle.lu_grammar.specs.Bytes.{Cursor, place_in}
 use Rattle.lu_grammar.proofs.Codecs.{ok_pair}
 use Rattle.lu_model.specs.Index.{Span, VectorTerm}
-use Rattle.term_vectors.specs.Walks.{TermWalk, has_left, walk_on}
+use Rattle.term_vectors.specs.Walks.{VectorTermWalk, has_left, walk_on}
 use Rattle.term_vectors.specs.InnerTexts.{text_before}
-use Rattle.term_vectors.specs.InnerViews.{terms_left, AreWithin}
+use Rattle.term_vectors.specs.InnerViews.{terms_left, AreTextsWithin}
 use Rattle.term_vectors.proofs.OrderLemmas.{text_or_none}
 use Rattle.term_vectors.proofs.TermLemmas.{reads_terms}
 use Rattle.term_vectors.proofs.LeftLemmas.{settled_left}
@@ -18,14 +18,14 @@ pub returns-then-self-eq0-clause-more : goal.returns-then-self-eq0-clause-more
 returns-then-self-eq0-clause-more c =
     let s = c.self.inside in
     let left : c.args.self.now.left ≡ [] =
-    sym (ap (λ (w : TermWalk). w.left) c.self.view_is) ∙ ap (λ (n : ℕ). terms_left s.bits n (text_before s.last) (place_in s.tvf.now s.place)) c.if-self-eq0.true ∙ none_left s.bits (text_before s.last) (place_in s.tvf.now s.place) in
+    sym (ap (λ (w : VectorTermWalk). w.left) c.self.view_is) ∙ ap (λ (n : ℕ). terms_left s.bits n (text_before s.last) (place_in s.tvf.now s.place)) c.if-self-eq0.true ∙ none_left s.bits (text_before s.last) (place_in s.tvf.now s.place) in
     sym (ap has_left left)
 
 pub returns-then-self-eq0-clause-moved : goal.returns-then-self-eq0-clause-moved
 returns-then-self-eq0-clause-moved c =
     let s = c.self.inside in
     let left : c.args.self.now.left ≡ [] =
-    sym (ap (λ (w : TermWalk). w.left) c.self.view_is) ∙ ap (λ (n : ℕ). terms_left s.bits n (text_before s.last) (place_in s.tvf.now s.place)) c.if-self-eq0.true ∙ none_left s.bits (text_before s.last) (place_in s.tvf.now s.place) in
+    sym (ap (λ (w : VectorTermWalk). w.left) c.self.view_is) ∙ ap (λ (n : ℕ). terms_left s.bits n (text_before s.last) (place_in s.tvf.now s.place)) c.if-self-eq0.true ∙ none_left s.bits (text_before s.last) (place_in s.tvf.now s.place) in
     sym (ap (walk_on c.args.self.now) left)
 
 pub term_at-prefix-requires-clause-there : goal.term_at-prefix-requires-clause-there
@@ -76,7 +76,7 @@ invariant_of-self c =
       within = has.within;
       sound = c.advance.ensures.sound;
       there = (n.end, settled.0);
-      room = subst (AreWithin (vec_capacity c.advance.new.self.bytes)) settled.1 (AreWithin-more (vec_capacity s.last.bytes) (vec_capacity c.advance.new.self.bytes) n.rest c.advance.ensures.room n.others);
+      room = subst (AreTextsWithin (vec_capacity c.advance.new.self.bytes)) settled.1 (AreWithin-more (vec_capacity s.last.bytes) (vec_capacity c.advance.new.self.bytes) n.rest c.advance.ensures.room n.others);
     }
 
 pub returns-clause-more : goal.returns-clause-more
@@ -84,7 +84,7 @@ returns-clause-more c =
     let s = c.self.inside in
     let some : 0 < s.left = omega arith in
     let n = next_term s.tvf.now s.place s.bits s.left s.last c.self.invariant some in
-    let left : c.args.self.now.left ≡ n.it ∷ n.rest = sym (ap (λ (w : TermWalk). w.left) c.self.view_is) ∙ n.all in
+    let left : c.args.self.now.left ≡ n.it ∷ n.rest = sym (ap (λ (w : VectorTermWalk). w.left) c.self.view_is) ∙ n.all in
     sym (ap has_left left)
 
 pub returns-clause-moved : goal.returns-clause-moved
@@ -94,7 +94,7 @@ returns-clause-moved c =
     let n = next_term s.tvf.now s.place s.bits s.left s.last c.self.invariant some in
     let has = c.term_at-prefix.ensures (text_before s.last) n.it n.behind n.there in
     let p = c.term_at-prefix.result in
-    let left : c.args.self.now.left ≡ n.it ∷ n.rest = sym (ap (λ (w : TermWalk). w.left) c.self.view_is) ∙ n.all in
+    let left : c.args.self.now.left ≡ n.it ∷ n.rest = sym (ap (λ (w : VectorTermWalk). w.left) c.self.view_is) ∙ n.all in
     let text = ap (λ (t : List ℕ). take p.prefix t ++ p.suffix.now) (sym (text_or_none s.last c.self.invariant.sound)) ∙ has.text in
     let before : text_before c.advance.new.self ≡ Some n.it.text = c.advance.ensures.before ∙ ap (λ (t : List ℕ). Some t) text in
     let here = place_in s.tvf.now p.end in
@@ -108,5 +108,5 @@ returns-clause-moved c =
     ∙ ap (λ (ts : List VectorTerm). made n.it.text n.it.frequency n.it.positions n.it.spans ts) rest
     ∙ sym (ap (walk_on c.args.self.now) left)
   where
-    made : List ℕ → ℕ → List ℕ → List Span → List VectorTerm → TermWalk
+    made : List ℕ → ℕ → List ℕ → List Span → List VectorTerm → VectorTermWalk
     made text frequency positions spans left = record { text = text; frequency = frequency; positions = positions; spans = spans; left = left }

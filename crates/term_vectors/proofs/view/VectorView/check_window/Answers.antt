@@ -11,8 +11,8 @@ use Rattle.lu_grammar.proofs.Codecs.{read_file-Reads}
 use Rattle.std.proofs.Common.{ℕ, Some, Result, Err}
 use Rattle.term_vectors.specs.Places.{tvx_plan}
 use Rattle.term_vectors.specs.Fields.{tvd_plan}
-use Rattle.term_vectors.specs.Vectors.{Vector, tvf_plan}
-use Rattle.term_vectors.specs.Stores.{windowed, places_in, slots_in, vectors_in, vector_files}
+use Rattle.term_vectors.specs.Vectors.{StoredVector, tvf_plan}
+use Rattle.term_vectors.specs.Stores.{windowed, places_in, slots_in, stored_vectors_in, vector_files}
 use Rattle.term_vectors.proofs.Unasked.{slots_file}
 use Rattle.term_vectors.proofs.StandLemmas.{windowed-many}
 use Rattle.term_vectors.proofs.ValidDocuments.{values_valid}
@@ -33,7 +33,7 @@ check_vectors-requires-clause-slots c =
 
 -- a fault of the last file
 last_fault : (total : ℕ) (window : Window) (fields : List TableField) (tvx tvd tvf : List ℕ) → Reads (tvx_plan total) tvx (places_in total tvx) → Reads (tvd_plan fields window (places_in total tvx)) tvd (slots_in (places_in total tvx) tvd)
-    → (fault : CodecFault) → IsFault Tvf (tvf_plan (slots_in (places_in total tvx) tvd)) tvf fault → Judges {Y = List (List Vector)} (λ view. view) (vector_files total window fields (Some tvx) (Some tvd) (Some tvf)) (Err fault)
+    → (fault : CodecFault) → IsFault Tvf (tvf_plan (slots_in (places_in total tvx) tvd)) tvf fault → Judges {Y = List (List StoredVector)} (λ view. view) (vector_files total window fields (Some tvx) (Some tvd) (Some tvf)) (Err fault)
 last_fault total window fields tvx tvd tvf places slots (faults.Spot spot) h = inr (places_in total tvx, places, inr (slots_in (places_in total tvx) tvd, slots, inl h))
 last_fault total window fields tvx tvd tvf places slots faults.OutOfMemory h = tt
 
@@ -52,7 +52,7 @@ invariant_of-result c =
       tvf_bytes = λ i. (c.type_inv.tvf i).fits;
       places = read_file-Reads (tvx_plan c.args.total) c.args.tvx.now places c.in_default.ensures;
       slots = slots_file c.args.fields.now c.args.window places c.args.tvd.now slots (read_file-Reads plan c.args.tvd.now slots c.in_default-check_fields.ensures);
-      vectors = read_file-Reads (tvf_plan slots) c.args.tvf.now (vectors_in slots c.args.tvf.now) c.in_default-check_vectors.ensures;
+      vectors = read_file-Reads (tvf_plan slots) c.args.tvf.now (stored_vectors_in slots c.args.tvf.now) c.in_default-check_vectors.ensures;
     }
 
 pub returns-clause-count : goal.returns-clause-count
@@ -66,7 +66,7 @@ returns-clause-count c =
       tvf_bytes = λ i. (c.type_inv.tvf i).fits;
       places = read_file-Reads (tvx_plan c.args.total) c.args.tvx.now places c.in_default.ensures;
       slots = slots_file c.args.fields.now c.args.window places c.args.tvd.now slots (read_file-Reads plan c.args.tvd.now slots c.in_default-check_fields.ensures);
-      vectors = read_file-Reads (tvf_plan slots) c.args.tvf.now (vectors_in slots c.args.tvf.now) c.in_default-check_vectors.ensures;
+      vectors = read_file-Reads (tvf_plan slots) c.args.tvf.now (stored_vectors_in slots c.args.tvf.now) c.in_default-check_vectors.ensures;
     } in
     windowed-many c.args.total c.args.window c.args.tvx.now c.args.tvd.now c.args.tvf.now good
 
@@ -74,5 +74,5 @@ pub returns-clause-valid : goal.returns-clause-valid
 returns-clause-valid c short =
     let places = places_in c.args.total c.args.tvx.now in
     let slots = slots_in places c.args.tvd.now in
-    values_valid c.args.total c.args.window c.args.fields.now c.args.tvx.now c.args.tvd.now c.args.tvf.now (windowed c.args.window (vectors_in slots c.args.tvf.now)) (λ i. (c.type_inv.tvd i).fits) (λ i. (c.type_inv.tvf i).fits) c.requires short
-    (places, c.in_default.ensures, (slots, c.in_default-check_fields.ensures, (vectors_in slots c.args.tvf.now, c.in_default-check_vectors.ensures, refl)))
+    values_valid c.args.total c.args.window c.args.fields.now c.args.tvx.now c.args.tvd.now c.args.tvf.now (windowed c.args.window (stored_vectors_in slots c.args.tvf.now)) (λ i. (c.type_inv.tvd i).fits) (λ i. (c.type_inv.tvf i).fits) c.requires short
+    (places, c.in_default.ensures, (slots, c.in_default-check_fields.ensures, (stored_vectors_in slots c.args.tvf.now, c.in_default-check_vectors.ensures, refl)))

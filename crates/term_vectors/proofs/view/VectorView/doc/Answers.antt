@@ -6,8 +6,8 @@ use Rattle.lu_grammar.specs.Parts.{num}
 use Rattle.lu_grammar.proofs.Codecs.{ok_pair, same_pair, err_is_not_ok}
 use Rattle.term_vectors.specs.declared.layout.DocumentPlaces.{DocumentPlaces}
 use Rattle.term_vectors.specs.Fields.{VectorPlace}
-use Rattle.term_vectors.specs.Vectors.{Vector}
-use Rattle.term_vectors.specs.Stores.{windowed, places_in, slots_in, vectors_in}
+use Rattle.term_vectors.specs.Vectors.{StoredVector}
+use Rattle.term_vectors.specs.Stores.{windowed, places_in, slots_in, stored_vectors_in}
 use Rattle.term_vectors.specs.InnerViews.{slots_plan, slots_here, vector_here, AreAllThere}
 use Rattle.term_vectors.proofs.StatedLemmas.{tvx_stated, stated_once}
 use Rattle.term_vectors.proofs.DocumentLemmas.{no_places}
@@ -114,4 +114,4 @@ returns c =
     let settled = settled_left (read_plan plan here) ([], here) (get_or slots n []) d.end read in
     let vectors = (store-vectors s.total s.window s.tvx.now s.tvd.now s.tvf.now inv).each n (omega (arith, stated.many, documents.many)) in
     ap (λ (ss : List VectorPlace). map (vector_here s.tvf.now) ss) (sym settled.1) ∙ sym vectors.1 ∙ sym (windowed-get s.total s.window s.tvx.now s.tvd.now s.tvf.now inv c.args.number below)
-    ∙ ap (λ (vs : List (List Vector)). get_or vs c.args.number []) c.self.view_is
+    ∙ ap (λ (vs : List (List StoredVector)). get_or vs c.args.number []) c.self.view_is

@@ -1,11 +1,11 @@
 use Rattle.std.proofs.Common.{◌≡◌, ◌+◌, ◌-◌, ◌∷◌, [], ℕ, suc, List, refl, sym, ap, subst, ◌∙◌, arith}
 use Rattle.lu_grammar.proofs.Codecs.{ok_pair, err_is_not_ok}
 use Rattle.lu_model.specs.Index.{Span}
-use Rattle.term_vectors.specs.Pairs.{span_of}
+use Rattle.term_vectors.specs.OffsetPairs.{span_of}
 use Rattle.term_vectors.specs.InnerViews.{spans_left}
 use Rattle.term_vectors.proofs.OccurrenceLemmas.{reads_spans, spans-broken, spans-done}
 use Rattle.term_vectors.proofs.LeftLemmas.{settled_left, spans-next}
-use Rattle.term_vectors.proofs.occurrences.Pairs.next.Goals as goal
+use Rattle.term_vectors.proofs.occurrences.OffsetPairs.next.Goals as goal
 
 pub returns-then-self-eq0 : goal.returns-then-self-eq0
 returns-then-self-eq0 c =

@@ -13,7 +13,7 @@ use Rattle.positions.specs.Written.{document_bytes, occurrences_bytes}
 use Rattle.positions.proofs.WrittenTerms.{occurrences_bytes-none}
 use Rattle.term_dict.specs.Terms.{DictionaryTerm}
 use Rattle.term_dict.specs.Writing.{TermsWritten, with_written}
-use Rattle.posting_files.specs.Postings.{PostingIntervals, PostingParts, KeptTerm, frq_writing, handed_from, prx_bytes, prx_entries, prx_occurrences, dictionary_line, with_postings, term_writing, lines_written}
+use Rattle.segment_files.specs.Postings.{PostingIntervals, PostingParts, KeptTerm, frq_writing, handed_from, prx_bytes, prx_entries, prx_occurrences, dictionary_line, with_postings, term_writing, lines_written}
 use Rattle.posting_files.specs.States.{ListState, is_within, list_begun, list_added, list_finished, finished_line, HoldsLines, HoldsLists, HoldsTermLists, IsPast, AreLists, AreTermLists, frq_so_far}
 
 -- a step that is only made within the limit

@@ -20,7 +20,8 @@ use Rattle.std.proofs.lemmas.Grind.{flat_map-append}
 use Rattle.positions.specs.Written.{document_bytes, occurrences_bytes}
 use Rattle.positions.specs.Writing.{WriterState, HoldsTerm, HoldsDocument}
 use Rattle.positions.proofs.WritingLemmas.{holds-begun, holds-document, holds-so_far, holds-added}
-use Rattle.posting_files.specs.Postings.{PostingIntervals, PostingParts, KeptTerm, handed_from, prx_bytes, prx_entries, prx_occurrence, prx_occurrences, with_postings, parts_of, no_parts, lines_written, first_past, tis_bytes, tii_bytes}
+use Rattle.segment_files.specs.Written.{first_past}
+use Rattle.segment_files.specs.Postings.{PostingIntervals, PostingParts, KeptTerm, handed_from, prx_bytes, prx_entries, prx_occurrence, prx_occurrences, with_postings, parts_of, no_parts, lines_written, tis_bytes, tii_bytes}
 use Rattle.posting_files.specs.States.{ListState, PostingState, is_within, list_added, term_begun, entry_begun, occurrence_added, entry_added, term_finished, no_postings, HoldsLists, AreLists, AreTermLists, ArePostings, IsTermBegun, IsEntryBegun, IsProxPast, Finishes, held_files, canonical_postings, in_written_order, named}
 use Rattle.posting_files.proofs.ListLemmas.{handed, handed_from-length, passed, lists-begun, lists-added, lists-finished}
 

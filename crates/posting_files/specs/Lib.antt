@@ -1,2 +1,1 @@
-pub mod Postings
 pub mod States

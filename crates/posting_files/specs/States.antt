@@ -16,7 +16,8 @@ use Rattle.lu_types.specs.declared.named_file.NamedFile.{NamedFile}
 use Rattle.posting_files.specs.declared.writer.PostingFiles.{PostingFiles}
 use Rattle.posting_files.specs.declared.fault.PostingFault.{PostingFault}
 use Rattle.posting_files.specs.declared.fault.PostingFault.TheVariants.{TooLarge, OutOfMemory}
-use Rattle.posting_files.specs.Postings.{PostingIntervals, PostingParts, KeptTerm, first_past, lines_written, tis_bytes, tii_bytes, parts_of, frq_writing, handed_from, prx_bytes, prx_entries, prx_occurrence, prx_occurrences}
+use Rattle.segment_files.specs.Written.{first_past}
+use Rattle.segment_files.specs.Postings.{PostingIntervals, PostingParts, KeptTerm, lines_written, tis_bytes, tii_bytes, parts_of, frq_writing, handed_from, prx_bytes, prx_entries, prx_occurrence, prx_occurrences}
 
 -- ---- the files of terms and entries
 

@@ -4,7 +4,7 @@ ghost use Rattle.lu_model.specs.Index.{Occurrence, frequency, IndexedEntry};
 ghost use Rattle.freq_skips.specs.Written.{last_doc};
 ghost use Rattle.posting_files.specs.declared.fault.PostingFault.{PostingFault};
 ghost use Rattle.posting_files.specs.declared.writer.PostingFiles.{PostingFiles};
-ghost use Rattle.posting_files.specs.Postings.{PostingIntervals, KeptTerm, handed_from, prx_bytes, prx_occurrence, prx_occurrences, parts_of};
+ghost use Rattle.segment_files.specs.Postings.{PostingIntervals, KeptTerm, handed_from, prx_bytes, prx_occurrence, prx_occurrences, parts_of};
 ghost use Rattle.posting_files.specs.States.{PostingState, is_within, no_postings, term_begun, entry_begun, occurrence_added, entry_added, term_finished, ArePostings, IsTermBegun, IsEntryBegun, IsProxPast, Finishes, held_files, canonical_postings};
 
 /// The writer holds the canonical files of the terms that it was handed, and of the term that is begun its entries and

@@ -3,7 +3,7 @@ ghost use Rattle.std.specs.Prelude.{◌≡◌, ◌⊎◌, ◌<◌, ◌≤◌, �
 ghost use Rattle.freq_skips.specs.Written.{last_doc};
 ghost use Rattle.term_dict.specs.Terms.{last_term};
 ghost use Rattle.term_dict.specs.Writing.{AreIntervals, no_terms_written};
-ghost use Rattle.posting_files.specs.Postings.{tis_bytes, tii_bytes};
+ghost use Rattle.segment_files.specs.Postings.{tis_bytes, tii_bytes};
 ghost use Rattle.posting_files.specs.States.{is_within, no_lists, list_begun, list_added, list_finished};
 
 use freq_skips::FreqWriter;
@@ -27,7 +27,6 @@ pub struct ListWriter {
 impl Model for ListWriter {
     ghost use Rattle.std.specs.Prelude.{◌≡◌, ◌≤◌, ◌<◌, ◌^◌, length};
     ghost use Rattle.term_dict.specs.Terms.{last_term};
-    ghost use Rattle.posting_files.specs.Postings.{tis_bytes, tii_bytes};
 ghost use Rattle.posting_files.specs.States.{ListState};
 
     ghost Value = { ListState };

@@ -1,0 +1,85 @@
+//! Norms are written, column by column.
+use crate::columns::Appearance;
+use crate::fault::WriteFault;
+use doc_marks::NormWriter;
+use lu_prims::OutOfMemory;
+use lu_types::bits::{INDEXED, OMIT_NORMS, has_bit};
+use lu_types::{Bytes, FieldInfo, FileKind};
+use std::alloc::Global;
+
+/// A norm that a document lacks.
+const MISSING_NORM: u8 = 124;
+
+/// The bytes before the first column.
+const HEADER_BYTES: u64 = 4;
+
+/// Whether a field with these bits has norms.
+pub(crate) fn has_norms(bits: u8) -> bool {
+    has_bit(INDEXED, bits) && !has_bit(OMIT_NORMS, bits)
+}
+
+// The norm of a field in a document.
+fn norm_in(here: &Appearance<'_>) -> u8 {
+    match here.field.norm {
+        Some(norm) => norm,
+        None => MISSING_NORM,
+    }
+}
+
+// Adds so many norms that documents lack.
+fn add_missing(writer: &mut NormWriter, count: u32) -> Result<(), OutOfMemory> {
+    for _ in 0..count {
+        writer.add(MISSING_NORM)?;
+    }
+    Ok(())
+}
+
+// Adds the norms of a column, of so many documents.
+fn add_column(
+    writer: &mut NormWriter,
+    column: &[Appearance<'_>],
+    documents: u32,
+) -> Result<(), OutOfMemory> {
+    let mut next = 0;
+    for here in column {
+        add_missing(writer, here.doc - next)?;
+        writer.add(norm_in(here))?;
+        next = here.doc + 1;
+    }
+    add_missing(writer, documents - next)
+}
+
+// How many fields have norms.
+fn norm_count(fields: &[FieldInfo]) -> u64 {
+    let mut count = 0;
+    for field in fields {
+        if has_norms(field.bits) {
+            count += 1;
+        }
+    }
+    count
+}
+
+/// The norms of the fields that have them, for each of so many documents; none where no field has any; or that they pass the limit.
+pub(crate) fn write_norms(
+    alloc: Global,
+    limit: u32,
+    fields: &[FieldInfo],
+    columns: &[Vec<Appearance<'_>>],
+    documents: u32,
+) -> Result<Option<Bytes>, WriteFault> {
+    let count = norm_count(fields);
+    if count == 0 {
+        return Ok(None);
+    }
+    if HEADER_BYTES + count * u64::from(documents) > u64::from(limit) {
+        return Err(WriteFault::TooLarge(FileKind::Nrm));
+    }
+    let mut writer = NormWriter::new(alloc)?;
+    for (number, field) in fields.iter().enumerate() {
+        if has_norms(field.bits) {
+            add_column(&mut writer, columns[number].as_slice(), documents)?;
+        }
+    }
+    Ok(Some(Bytes::new(writer.finish())))
+}

@@ -1,4 +1,13 @@
 //! The terms of a column: its texts in UTF-16 order, each with the tokens that have it.
+ghost use Rattle.std.specs.Prelude.{◌≡◌, ℕ, ◌<◌, ◌++◌, ◌^◌, List, length, map, OnOk, IfOk, All, IsUtf8, IsPermutation, IsSortedByKey};
+ghost use Rattle.std.specs.BTreeMap.{IsOrdered};
+ghost use Rattle.std.specs.Ordering.{nat_cmp};
+ghost use Rattle.std.specs.Cmp.Lexicographic.{slice_cmp};
+ghost use Rattle.lu_prims.specs.Order.{text_cmp};
+ghost use Rattle.seg_writer.specs.Groups.{uses_at, AreUsed};
+ghost use Rattle.seg_writer.specs.Texts.{AreInverted, group_of};
+ghost use Rattle.seg_writer.specs.Columns.{IsNumberable, uses_among, uses_of};
+
 use crate::columns::Appearance;
 use lu_prims::{OutOfMemory, utf16_cmp};
 use lu_types::Token;
@@ -24,7 +33,10 @@ pub(crate) struct Inverted<'a> {
 pub(crate) fn invert<'a>(
     alloc: Global,
     column: &[Appearance<'a>],
-) -> Result<Vec<Inverted<'a>>, OutOfMemory> {
+) -> Result<Vec<Inverted<'a>>, OutOfMemory>
+    requires { IsNumberable column.now }
+    ensures { IfOk result (λ terms. AreInverted column.now terms.items) }
+{
     let groups = grouped(alloc, column)?;
     let mut terms = listed(alloc, groups)?;
     sort_terms(&mut terms);
@@ -36,7 +48,11 @@ fn add_tokens<'a>(
     groups: &mut BTreeMap<&'a str, Vec<Use>>,
     entry: u32,
     tokens: &'a [Token],
-) -> Result<(), OutOfMemory> {
+) -> Result<(), OutOfMemory>
+    requires { length tokens.now < 2 ^ 32 }
+    ensures uses { OnOk result ((q : List ℕ) → uses_at q groups.new ≡ uses_at q groups.old ++ uses_among q entry 0 tokens.now) }
+    ensures used { OnOk result (AreUsed groups.old → AreUsed groups.new) }
+{
     for (number, token) in tokens.iter().enumerate() {
         groups
             .entry(token.text.as_str())?
@@ -53,7 +69,11 @@ fn add_tokens<'a>(
 fn grouped<'a>(
     alloc: Global,
     column: &[Appearance<'a>],
-) -> Result<BTreeMap<&'a str, Vec<Use>>, OutOfMemory> {
+) -> Result<BTreeMap<&'a str, Vec<Use>>, OutOfMemory>
+    requires { IsNumberable column.now }
+    ensures uses { IfOk result (λ groups. (q : List ℕ) → uses_at q groups ≡ uses_of q column.now) }
+    ensures used { IfOk result (λ groups. AreUsed groups) }
+{
     let mut groups: BTreeMap<&'a str, Vec<Use>> = BTreeMap::new(alloc);
     for (entry, here) in column.iter().enumerate() {
         let field = here.field;
@@ -63,7 +83,10 @@ fn grouped<'a>(
 }
 
 // A text with these uses.
-fn term_of<'a>(text: &'a str, uses: Vec<Use>) -> Inverted<'a> {
+fn term_of<'a>(text: &'a str, uses: Vec<Use>) -> Inverted<'a>
+    ensures is { group_of result ≡ (text.entry, uses) }
+    ensures utf8 { IsUtf8 result.text.now }
+{
     Inverted { text, uses }
 }
 
@@ -71,7 +94,11 @@ fn term_of<'a>(text: &'a str, uses: Vec<Use>) -> Inverted<'a> {
 fn listed<'a>(
     alloc: Global,
     groups: BTreeMap<&'a str, Vec<Use>>,
-) -> Result<Vec<Inverted<'a>>, OutOfMemory> {
+) -> Result<Vec<Inverted<'a>>, OutOfMemory>
+    ensures entries { IfOk result (λ terms. map group_of terms.items ≡ groups.entry.entries) }
+    ensures ordered { IsOrdered (λ x y. slice_cmp nat_cmp x.now y.now) groups.entry }
+    ensures utf8 { IfOk result (λ terms. All (λ t. IsUtf8 t.text.now) terms.items) }
+{
     let mut terms = Vec::new(alloc);
     for (text, uses) in groups {
         terms.push(term_of(text, uses))?;
@@ -80,6 +107,9 @@ fn listed<'a>(
 }
 
 // Sorts texts in UTF-16 order.
-fn sort_terms(terms: &mut Vec<Inverted<'_>>) {
+fn sort_terms(terms: &mut Vec<Inverted<'_>>)
+    ensures permutation { IsPermutation terms.old.items terms.new.items }
+    ensures sorted { IsSortedByKey (λ (t : Inverted). t.text.now) text_cmp terms.new.items }
+{
     terms.sort_unstable_by(|a, b| utf16_cmp(a.text, b.text));
 }

@@ -1,3 +1,5 @@
+pub mod Answers
 pub mod Columns
 pub mod Groups
+pub mod Stores
 pub mod Texts

@@ -1,4 +1,12 @@
 //! A segment is written from documents.
+ghost use Rattle.std.specs.Prelude.{◌≡◌, ◌<◌, ◌-◌, ◌^◌, [], ◌∷◌, length, All};
+ghost use Rattle.lu_types.specs.Tables.{IsTable};
+ghost use Rattle.lu_types.specs.declared.kind.FileKind.TheVariants.{Fnm};
+ghost use Rattle.field_infos.specs.Spelling.{fnm_spelling};
+ghost use Rattle.segment_files.specs.Parts.{keep_positions};
+ghost use Rattle.posting_files.specs.States.{named};
+ghost use Rattle.seg_writer.specs.Answers.{JudgesDocuments, Wrote};
+
 use crate::columns::columns_of;
 use crate::fault::WriteFault;
 use crate::norms::write_norms;
@@ -16,17 +24,27 @@ use std::alloc::Global;
 const NUMBERS: usize = 0x8000_0000;
 
 // That no document has a fault, or the first that does.
-fn check_documents(alloc: Global, docs: &[Document], limits: &Limits) -> Result<(), WriteFault> {
+fn check_documents(alloc: Global, docs: &[Document], limits: &Limits) -> Result<(), WriteFault>
+    requires { length docs.now < 2 ^ 31 }
+    ensures { JudgesDocuments docs.now limits.now result }
+{
     for (number, doc) in docs.iter().enumerate() {
-        if let Some(fault) = first_fault(alloc, doc, limits)? {
-            return Err(WriteFault::Doc(number as u32, fault));
+        match first_fault(alloc, doc, limits) {
+            Ok(None) => {}
+            Ok(Some(fault)) => return Err(WriteFault::Doc(number as u32, fault)),
+            Err(error) => return Err(WriteFault::from(error)),
         }
     }
     Ok(())
 }
 
 // The file of the field table, or that it passes the limit.
-fn write_fields(alloc: Global, limit: u32, fields: &[FieldInfo]) -> Result<Bytes, WriteFault> {
+fn write_fields(alloc: Global, limit: u32, fields: &[FieldInfo]) -> Result<Bytes, WriteFault>
+    requires limit { limit < 2 ^ 31 }
+    requires table { length fields.now < 2 ^ 31 → IsTable fields.now }
+    requires short { All (λ info. length info.name < 2 ^ 31) fields.now }
+    ensures { Wrote (λ fnm. named Fnm fnm ∷ []) limit (named Fnm (fnm_spelling fields.now) ∷ []) result }
+{
     if fields.len() >= NUMBERS {
         return Err(WriteFault::TooLarge(FileKind::Fnm));
     }
@@ -38,7 +56,9 @@ fn write_fields(alloc: Global, limit: u32, fields: &[FieldInfo]) -> Result<Bytes
 }
 
 // Whether some field keeps positions.
-fn keep_positions(fields: &[FieldInfo]) -> bool {
+fn keep_positions(fields: &[FieldInfo]) -> bool
+    ensures { result ≡ keep_positions fields.now }
+{
     fields
         .iter()
         .any(|field| has_bit(INDEXED, field.bits) && !has_bit(OMIT_TF, field.bits))

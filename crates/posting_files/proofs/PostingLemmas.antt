@@ -177,7 +177,7 @@ prx-grows i ts (u ∷ us) =
 pub terms-pass : (i : PostingIntervals) (limit : ℕ) (ts us : List KeptTerm) (s : PostingState) → ArePostings i limit ts s → IsProxPast s → limit < length (parts_of i (ts ++ us)).prx
 terms-pass i limit ts us s h past = let own = postings-past i limit ts s h past in let more = prx-grows i ts us in omega (arith, own, more)
 
-prx_bytes-append : (payloads : Bool) (es rest : List IndexedEntry) → prx_bytes payloads (es ++ rest) ≡ prx_bytes payloads es ++ prx_bytes payloads rest
+pub prx_bytes-append : (payloads : Bool) (es rest : List IndexedEntry) → prx_bytes payloads (es ++ rest) ≡ prx_bytes payloads es ++ prx_bytes payloads rest
 unfolding occurrences_bytes
 prx_bytes-append payloads es rest =
     ap (flat_map (λ os. document_bytes payloads None 0 os)) (map-append (λ (x : IndexedEntry). prx_occurrences x.occurrences) es rest) ∙ flat_map-append (λ os. document_bytes payloads None 0 os) (prx_entries es) (prx_entries rest)

@@ -1,5 +1,12 @@
+pub mod ColumnLemmas
 pub mod FaultLemmas
 pub mod FnmLemmas
 pub mod InvertedLemmas
+pub mod NormLemmas
+pub mod OccurrenceLemmas
+pub mod PartlyLemmas
+pub mod PostedLemmas
+pub mod RunLemmas
 pub mod StoreLemmas
+pub mod TokenLemmas
 pub mod UsesLemmas

@@ -1,6 +1,6 @@
 -- Stored values, one more.
 use Rattle.std.proofs.Common.{◌≡◌, refl, ap, sym, ◌∙◌, subst, ℕ, suc, ◌+◌, ◌<◌, ◌≤◌, ◌≢◌, ◌^◌, ◌++◌, List, [], ◌∷◌, length, map, take, get_or, Option, None, Some, Bool, if◌then◌else◌, ◌==◌, arith}
-use Rattle.std.specs.Prelude.{nat_lt, cond}
+use Rattle.std.specs.Prelude.{nat_lt, cond, Err}
 use Rattle.std.specs.List.{flat_map}
 use Rattle.std.proofs.lemmas.List.{length-append, length-map, length-take, take_more, take_all, map-append}
 use Rattle.std.proofs.lemmas.List.Concat.{flat_map-cons}
@@ -21,7 +21,10 @@ use Rattle.lu_model.specs.Contents.{stored_in, field_number}
 use Rattle.stored_fields.specs.Writing.{HeldDocuments, OpenDocument, with_document, with_stored, one_longer, value_bits, value_bytes, content_bytes, document_bytes, fdt_bytes, fdx_bytes}
 use Rattle.segment_files.specs.Written.{first_past}
 use Rattle.posting_files.specs.States.{named}
-use Rattle.seg_writer.specs.Stores.{store_files, stores_of}
+use Rattle.seg_writer.specs.declared.fault.WriteFault.{WriteFault}
+use Rattle.seg_writer.specs.declared.fault.WriteFault.TheVariants.{Doc, TooLarge, OutOfMemory}
+use Rattle.seg_writer.specs.Answers.{Wrote}
+use Rattle.seg_writer.specs.Stores.{WritesValues, given_store, store_files, stores_of}
 use Rattle.seg_writer.proofs.FnmLemmas.{spread}
 
 -- an open document of so many values, of which it has these
@@ -113,3 +116,10 @@ long-document limit table docs i doc small lt is long =
 pub stores-more : (table : List TableField) (docs : List Document) (i : ℕ) (doc : Document) → i < length docs → doc ≡ get_or docs i doc → stores_of table (take i docs) ++ stored_in table doc.stored ∷ [] ≡ stores_of table (take (i + 1) docs)
 stores-more table docs i doc lt is =
     sym (map-append (λ (d : Document). stored_in table d.stored) (take i docs) (doc ∷ [])) ∙ ap (stores_of table) (ap (λ d. take i docs ++ d ∷ []) is ∙ sym (take_more docs i doc lt))
+
+-- what a document that was not written tells of all
+pub store-fault : (limit : ℕ) (table : List TableField) (docs : List Document) (i : ℕ) (doc : Document) (fault : WriteFault) (finished : List (List StoredField)) (held : HeldDocuments) → limit < 2 ^ 31 → i < length docs → doc ≡ get_or docs i doc
+    → WritesValues finished (stored_in table doc.stored) held (Err fault) → Wrote given_store limit (store_files (stores_of table docs)) (Err fault)
+store-fault limit table docs i doc (Doc number fault) finished held small lt is never = never
+store-fault limit table docs i doc (TooLarge kind) finished held small lt is long = long-document limit table docs i doc small lt is long.1 ∙ ap Some (sym long.0)
+store-fault limit table docs i doc OutOfMemory finished held small lt is none = tt

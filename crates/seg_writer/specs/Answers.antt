@@ -11,6 +11,8 @@ use Rattle.lu_model.specs.Contents.{index_of_documents}
 use Rattle.segment_files.specs.Written.{canonical_files, first_past, too_large}
 use Rattle.segment_files.specs.declared.options.SegmentFiles.{SegmentFiles}
 use Rattle.segment_files.specs.declared.options.WriteOptions.{WriteOptions}
+use Rattle.posting_files.specs.declared.fault.PostingFault.{PostingFault}
+use Rattle.posting_files.specs.declared.fault.PostingFault.TheVariants as posting
 use Rattle.seg_writer.specs.declared.fault.WriteFault.{WriteFault}
 use Rattle.seg_writer.specs.declared.fault.WriteFault.TheVariants.{Doc, TooLarge, OutOfMemory}
 
@@ -44,6 +46,11 @@ abbrev pub Answers : Result SegmentFiles WriteFault → Result SegmentFiles Writ
 Answers due answer = (answer ≡ due) ⊎ (answer ≡ Err OutOfMemory)
 
 -- ---- steps
+
+-- why a segment was not written, where its terms were not
+abbrev pub write_fault : PostingFault → WriteFault
+write_fault (posting.TooLarge kind) = TooLarge kind
+write_fault posting.OutOfMemory = OutOfMemory
 
 -- whether documents have a fault
 abbrev pub JudgesDocuments : List Document → Limits → Result (Unit {0}) WriteFault → Type 0

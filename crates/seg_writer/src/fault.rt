@@ -1,5 +1,6 @@
 //! Why a segment was not written.
 ghost use Rattle.std.specs.Prelude.{◌≡◌};
+ghost use Rattle.seg_writer.specs.Answers.{write_fault};
 
 use lu_prims::OutOfMemory;
 use lu_types::{DocFault, FileKind};
@@ -28,7 +29,9 @@ impl From<OutOfMemory> for WriteFault {
 }
 
 /// Why a segment was not written, where its terms were not.
-pub(crate) fn fault_of(fault: PostingFault) -> WriteFault {
+pub(crate) fn fault_of(fault: PostingFault) -> WriteFault
+    ensures { result ≡ write_fault fault }
+{
     match fault {
         PostingFault::TooLarge(kind) => WriteFault::TooLarge(kind),
         PostingFault::OutOfMemory => WriteFault::OutOfMemory,

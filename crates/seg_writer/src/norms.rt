@@ -1,4 +1,9 @@
 //! Norms are written, column by column.
+ghost use Rattle.std.specs.Prelude.{◌≡◌, ◌<◌, ◌^◌, ◌++◌, ℕ, List, length, OnOk, unwrap_or};
+ghost use Rattle.lu_model.specs.Contents.{has_norms, missing_norm};
+ghost use Rattle.lu_types.specs.declared.document.Document.{Document};
+ghost use Rattle.seg_writer.specs.NormColumns.{IsColumnIn, IsSomeColumn, missing_norms, norms_of};
+
 use crate::columns::Appearance;
 use crate::fault::WriteFault;
 use doc_marks::NormWriter;
@@ -14,12 +19,16 @@ const MISSING_NORM: u8 = 124;
 const HEADER_BYTES: u64 = 4;
 
 /// Whether a field with these bits has norms.
-pub(crate) fn has_norms(bits: u8) -> bool {
+pub(crate) fn has_norms(bits: u8) -> bool
+    ensures { result ≡ has_norms bits }
+{
     has_bit(INDEXED, bits) && !has_bit(OMIT_NORMS, bits)
 }
 
 // The norm of a field in a document.
-fn norm_in(here: &Appearance<'_>) -> u8 {
+fn norm_in(here: &Appearance<'_>) -> u8
+    ensures { result ≡ unwrap_or here.now.field.now.norm missing_norm }
+{
     match here.field.norm {
         Some(norm) => norm,
         None => MISSING_NORM,
@@ -27,7 +36,9 @@ fn norm_in(here: &Appearance<'_>) -> u8 {
 }
 
 // Adds so many norms that documents lack.
-fn add_missing(writer: &mut NormWriter, count: u32) -> Result<(), OutOfMemory> {
+fn add_missing(writer: &mut NormWriter, count: u32) -> Result<(), OutOfMemory>
+    ensures { OnOk result (writer.new ≡ writer.old ++ missing_norms count) }
+{
     for _ in 0..count {
         writer.add(MISSING_NORM)?;
     }
@@ -39,11 +50,21 @@ fn add_column(
     writer: &mut NormWriter,
     column: &[Appearance<'_>],
     documents: u32,
-) -> Result<(), OutOfMemory> {
+) -> Result<(), OutOfMemory>
+    requires few { documents < 2 ^ 31 }
+    requires column { IsSomeColumn column.now documents }
+    ensures { OnOk result ((name : List ℕ) (docs : List Document) → IsColumnIn column.now documents name docs → writer.new ≡ writer.old ++ norms_of name docs) }
+{
     let mut next = 0;
     for here in column {
-        add_missing(writer, here.doc - next)?;
-        writer.add(norm_in(here))?;
+        match add_missing(writer, here.doc - next) {
+            Ok(()) => {}
+            Err(error) => return Err(error),
+        }
+        match writer.add(norm_in(here)) {
+            Ok(()) => {}
+            Err(error) => return Err(error),
+        }
         next = here.doc + 1;
     }
     add_missing(writer, documents - next)

@@ -1,4 +1,12 @@
 //! The terms of a segment are written, field by field.
+ghost use Rattle.std.specs.Prelude.{◌≡◌, ◌<◌, ◌^◌, ℕ, [], ◌∷◌, ◌++◌, List, length, All, OnOk};
+ghost use Rattle.segment_files.specs.Postings.{PostingIntervals, KeptTerm};
+ghost use Rattle.posting_files.specs.States.{ArePostings};
+ghost use Rattle.seg_writer.specs.Columns.{uses_of};
+ghost use Rattle.seg_writer.specs.Entries.{AddsTerms, IsBetweenTerms, IsColumn};
+ghost use Rattle.seg_writer.specs.Texts.{AreInverted, texts_in};
+ghost use Rattle.seg_writer.specs.Terms.{term_in, terms_in};
+
 use crate::columns::Appearance;
 use crate::fault::{WriteFault, fault_of};
 use crate::inverted::{Inverted, invert};
@@ -39,13 +47,53 @@ fn write_term(
     kept: Kept,
     column: &[Appearance<'_>],
     term: &Inverted<'_>,
-) -> Result<(), WriteFault> {
+) -> Result<(), WriteFault>
+    requires column { IsColumn column.now }
+    requires uses { term.now.uses.items ≡ uses_of term.now.text.now column.now }
+    requires some { 0 < length term.now.uses.items }
+    requires field { kept.field < 2 ^ 31 }
+    requires text { length term.now.text.now < 2 ^ 31 }
+    requires between { IsBetweenTerms writer.old }
+    ensures terms { (i : PostingIntervals) (limit : ℕ) (ts : List KeptTerm) → ArePostings i limit ts writer.old
+        → AddsTerms i limit (ts ++ term_in kept column.now term.now.text.now ∷ []) writer.new result }
+    ensures between { OnOk result (IsBetweenTerms writer.new) }
+{
     match writer.begin_term(kept.omit_tf, kept.payloads) {
         Ok(()) => {}
         Err(fault) => return Err(fault_of(fault)),
     }
-    add_entries(writer, column, kept.omit_tf, term.uses.as_slice())?;
-    writer.finish_term(kept.field, term.text)?;
+    match add_entries(writer, column, kept.omit_tf, term) {
+        Ok(()) => {}
+        Err(fault) => return Err(fault),
+    }
+    match writer.finish_term(kept.field, term.text) {
+        Ok(()) => Ok(()),
+        Err(error) => Err(WriteFault::from(error)),
+    }
+}
+
+// Writes the terms of a column, which are these.
+fn write_inverted(
+    writer: &mut PostingWriter,
+    kept: Kept,
+    column: &[Appearance<'_>],
+    terms: &[Inverted<'_>],
+) -> Result<(), WriteFault>
+    requires column { IsColumn column.now }
+    requires terms { AreInverted column.now terms.now }
+    requires field { kept.field < 2 ^ 31 }
+    requires texts { All (λ t. length t.text.now < 2 ^ 31) terms.now }
+    requires between { IsBetweenTerms writer.old }
+    ensures terms { (i : PostingIntervals) (limit : ℕ) (ts : List KeptTerm) → ArePostings i limit ts writer.old
+        → AddsTerms i limit (ts ++ terms_in kept column.now (texts_in terms.now)) writer.new result }
+    ensures between { OnOk result (IsBetweenTerms writer.new) }
+{
+    for term in terms {
+        match write_term(writer, kept, column, term) {
+            Ok(()) => {}
+            Err(fault) => return Err(fault),
+        }
+    }
     Ok(())
 }
 
@@ -57,10 +105,7 @@ fn write_column(
     column: &[Appearance<'_>],
 ) -> Result<(), WriteFault> {
     let terms = invert(alloc, column)?;
-    for term in &terms {
-        write_term(writer, kept, column, term)?;
-    }
-    Ok(())
+    write_inverted(writer, kept, column, terms.as_slice())
 }
 
 /// The files of the terms of all columns, which are those of the fields of the table by number; or which of them is the first that

@@ -20,7 +20,7 @@ use Rattle.seg_writer.specs.declared.columns.Appearance.{Appearance}
 use Rattle.seg_writer.specs.Appearing.{Appeared, appeared, appeared_in, is_named, found_in, names_of, AreColumns, AreEmpty, AreFirst, HaveMore, IsPushed, column_from}
 
 -- a test that does not hold
-not-true : (b : Bool) → (b ≡ true → ⊥) → b ≡ false
+pub not-true : (b : Bool) → (b ≡ true → ⊥) → b ≡ false
 not-true true never = absurd (never refl)
 not-true false never = refl
 

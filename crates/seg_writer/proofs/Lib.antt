@@ -1,12 +1,15 @@
 pub mod ColumnLemmas
+pub mod EntryLemmas
 pub mod FaultLemmas
 pub mod FnmLemmas
 pub mod InvertedLemmas
 pub mod NormLemmas
 pub mod OccurrenceLemmas
+pub mod OrderLemmas
 pub mod PartlyLemmas
 pub mod PostedLemmas
 pub mod RunLemmas
 pub mod StoreLemmas
+pub mod TextLemmas
 pub mod TokenLemmas
 pub mod UsesLemmas

@@ -10,7 +10,7 @@ use Rattle.lu_types.specs.declared.document.IndexedField.{IndexedField}
 use Rattle.lu_model.specs.Contents.{missing_norm}
 use Rattle.seg_writer.specs.declared.columns.Appearance.{Appearance}
 use Rattle.seg_writer.specs.Appearing.{Appeared, appeared, appeared_in, column_from, found_in, is_named}
-use Rattle.seg_writer.specs.NormColumns.{found_norm, norms_of, missing_norms, IsColumnIn, AreAdded}
+use Rattle.seg_writer.specs.NormColumns.{found_norm, norms_of, missing_norms, IsColumnIn, IsSomeColumn, AreAdded}
 
 missing-suc : (n : ℕ) → missing_norms n ++ missing_norm ∷ [] ≡ missing_norms (suc n)
 missing-suc zero = refl
@@ -29,11 +29,11 @@ pub record NextNorm (name : List ℕ) (n : ℕ) (docs : List Document) (first : 
 
 abbrev head_of : Appeared → List Appeared → Appeared
 head_of d [] = d
-head_of d (a ∷ as) = a
+head_of d (a ∷ rest) = a
 
 abbrev tail_of : List Appeared → List Appeared
 tail_of [] = []
-tail_of (a ∷ as) = as
+tail_of (a ∷ rest) = rest
 
 next-doc : (name : List ℕ) (n : ℕ) (doc : Document) (docs : List Document) (first : Appeared) (rest : List Appeared) (found : Option IndexedField) → find (is_named name) doc.indexed ≡ found
     → (first ∷ rest ≡ column_from name (suc n) docs → NextNorm name (suc n) docs first rest) → first ∷ rest ≡ column_from name n (doc ∷ docs) → NextNorm name n (doc ∷ docs) first rest
@@ -77,7 +77,7 @@ norms-missing name n (doc ∷ docs) none =
     ap (λ k. k ∷ norms_of name docs) own.0 ∙ ap (λ w. missing_norm ∷ w) (norms-missing name (suc n) docs own.1)
 
 pub added-next : (name : List ℕ) (docs : List Document) (column : List Appearance) (k : ℕ) (here : Appearance) (next norm : ℕ) (old now filled new : List ℕ) → k < length column → here ≡ get_or column k here → AreAdded name docs (drop k column) next old now
-    → norm ≡ unwrap_or here.field.now.norm missing_norm → filled ≡ now ++ missing_norms (here.doc - next) → new ≡ filled ++ norm ∷ [] → (next ≤ here.doc) × (here.doc < length docs) × AreAdded name docs (drop (k + 1) column) (here.doc + 1) old new
+    → norm ≡ unwrap_or here.field.now.norm missing_norm → filled ≡ now ++ missing_norms (here.doc - next) → new ≡ filled ++ norm ∷ [] → AreAdded name docs (drop (k + 1) column) (here.doc + 1) old new
 added-next name docs column k here next norm old now filled new lt is h own fills adds =
     let parts : appeared here ∷ map appeared (drop (k + 1) column) ≡ column_from name next (drop next docs) = sym (ap (map appeared) (drop_more column k here lt ∙ ap (λ a. a ∷ drop (k + 1) column) (sym is))) ∙ h.left in
     let r = next-norm name next (drop next docs) (appeared here) (map appeared (drop (k + 1) column)) parts in
@@ -87,24 +87,38 @@ added-next name docs column k here next norm old now filled new lt is h own fill
     let low = h.low in
     let gap : here.doc - next ≡ r.skip = omega (arith, at) in
     let after : here.doc + 1 ≡ next + suc r.skip = omega (arith, at) in
-    (omega (arith, at), omega (arith, at, inside, size, low), record {
+    record {
       low = omega (arith, at, inside, size, low);
       left = r.left ∙ ap (column_from name (suc here.doc)) (drop-drop (suc r.skip) next docs ∙ ap (λ m. drop m docs) (sym after)) ∙ ap (λ m. column_from name m (drop (here.doc + 1) docs)) (sym (add-one here.doc));
       added = adds ∙ ap (λ w. w ++ norm ∷ []) (fills ∙ ap (λ m. now ++ missing_norms m) gap) ∙ append_assoc now (missing_norms r.skip) (norm ∷ [])
           ∙ ap (λ m. now ++ (missing_norms r.skip ++ m ∷ [])) own ∙ ap (λ w. now ++ w) (sym r.norms) ∙ ap (λ w. w ++ norms_of name (take (suc r.skip) (drop next docs))) h.added
           ∙ append_assoc old (norms_of name (take next docs)) (norms_of name (take (suc r.skip) (drop next docs)))
           ∙ ap (λ w. old ++ w) (sym (map-append (λ (doc : Document). found_norm (find (is_named name) doc.indexed)) (take next docs) (take (suc r.skip) (drop next docs))) ∙ ap (norms_of name) (sym (take-add next (suc r.skip) docs) ∙ ap (λ m. take m docs) (sym after)));
-    })
+    }
 
 pub added-begun : (name : List ℕ) (docs : List Document) (column : List Appearance) (old : List ℕ) → map appeared column ≡ column_from name 0 docs → AreAdded name docs (drop 0 column) 0 old old
 added-begun name docs column old is = record { low = omega arith; left = is; added = sym (append-nil old) }
 
 pub added-end : (name : List ℕ) (docs : List Document) (column : List Appearance) (k next : ℕ) (old now new : List ℕ) → length column ≤ k → AreAdded name docs (drop k column) next old now → new ≡ now ++ missing_norms (length docs - next) → new ≡ old ++ norms_of name docs
 added-end name docs column k next old now new le h fills =
-    let none : column_from name next (drop next docs) ≡ [] = sym h.left ∙ ap (map appeared) (drop_all column k le) in
+    let none : column_from name next (drop next docs) ≡ [] = sym h.left ∙ ap (map appeared) (drop_all k column le) in
     let low = h.low in
     let rest : norms_of name (drop next docs) ≡ missing_norms (length docs - next) = norms-missing name next (drop next docs) none ∙ ap missing_norms (length-drop next docs) in
     let whole : take next docs ++ drop next docs ≡ docs = take-append-drop next docs in
     fills ∙ ap (λ w. w ++ missing_norms (length docs - next)) h.added ∙ append_assoc old (norms_of name (take next docs)) (missing_norms (length docs - next))
     ∙ ap (λ w. old ++ (norms_of name (take next docs) ++ w)) (sym rest)
     ∙ ap (λ w. old ++ w) (sym (map-append (λ (doc : Document). found_norm (find (is_named name) doc.indexed)) (take next docs) (drop next docs)) ∙ ap (norms_of name) whole)
+
+-- the next field is in a document that was not passed
+pub next-fits : (column : List Appearance) (documents k : ℕ) (here : Appearance) (next : ℕ) (old now : List ℕ) → IsSomeColumn column documents → k < length column → here ≡ get_or column k here
+    → ((name : List ℕ) (docs : List Document) → IsColumnIn column documents name docs → AreAdded name docs (drop k column) next old now) → (next ≤ here.doc) × (here.doc < documents)
+next-fits column documents k here next old now (name, docs, of) lt at all =
+    let h = all name docs of in
+    let size = of.1 in
+    let parts : appeared here ∷ map appeared (drop (k + 1) column) ≡ column_from name next (drop next docs) = sym (ap (map appeared) (drop_more column k here lt ∙ ap (λ a. a ∷ drop (k + 1) column) (sym at))) ∙ h.left in
+    let r = next-norm name next (drop next docs) (appeared here) (map appeared (drop (k + 1) column)) parts in
+    let document = r.document in
+    let inside = r.inside in
+    let left = length-drop next docs in
+    let low = h.low in
+    (omega (arith, document), omega (arith, document, inside, left, low, size))

@@ -4,6 +4,7 @@ pub mod Columns
 pub mod Entries
 pub mod Groups
 pub mod NormColumns
+pub mod Orders
 pub mod Stores
 pub mod Terms
 pub mod Texts

@@ -2,8 +2,11 @@
 #![tactic(auto)]
 
 mod columns;
+mod documents;
 mod fault;
+mod fields;
 mod inverted;
+pub mod laws;
 mod norms;
 mod packing;
 mod segment;

@@ -4,7 +4,7 @@ ghost use Rattle.segment_files.specs.Postings.{PostingIntervals, KeptTerm};
 ghost use Rattle.posting_files.specs.States.{ArePostings};
 ghost use Rattle.seg_writer.specs.Columns.{uses_of};
 ghost use Rattle.seg_writer.specs.Entries.{AddsTerms, IsBetweenTerms, IsColumn};
-ghost use Rattle.seg_writer.specs.Texts.{AreInverted, texts_in};
+ghost use Rattle.seg_writer.specs.Texts.{AreInverted, texts_in, texts_of};
 ghost use Rattle.seg_writer.specs.Terms.{term_in, terms_in};
 
 use crate::columns::Appearance;
@@ -103,8 +103,18 @@ fn write_column(
     writer: &mut PostingWriter,
     kept: Kept,
     column: &[Appearance<'_>],
-) -> Result<(), WriteFault> {
-    let terms = invert(alloc, column)?;
+) -> Result<(), WriteFault>
+    requires column { IsColumn column.now }
+    requires field { kept.field < 2 ^ 31 }
+    requires between { IsBetweenTerms writer.old }
+    ensures terms { (i : PostingIntervals) (limit : ℕ) (ts : List KeptTerm) → ArePostings i limit ts writer.old
+        → AddsTerms i limit (ts ++ terms_in kept column.now (texts_of column.now)) writer.new result }
+    ensures between { OnOk result (IsBetweenTerms writer.new) }
+{
+    let terms = match invert(alloc, column) {
+        Ok(terms) => terms,
+        Err(error) => return Err(WriteFault::from(error)),
+    };
     write_inverted(writer, kept, column, terms.as_slice())
 }
 

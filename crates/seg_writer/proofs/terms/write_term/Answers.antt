@@ -8,7 +8,7 @@ use Rattle.seg_writer.proofs.PostedLemmas.{entries-few, entries-some, term-may, 
 use Rattle.seg_writer.proofs.terms.write_term.Goals as goal
 
 pub begin_term-requires : goal.begin_term-requires
-begin_term-requires c = term-may c.args.writer.now c.requires.between
+begin_term-requires c = record { none = term-may c.args.writer.now c.requires.between }
 
 pub returns-in-Err-clause-terms : goal.returns-in-Err-clause-terms
 returns-in-Err-clause-terms c i limit ts h =

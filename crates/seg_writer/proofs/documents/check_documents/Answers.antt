@@ -4,7 +4,7 @@ use Rattle.std.proofs.lemmas.List.Elements.{All-more}
 use Rattle.lu_types.specs.Documents.{IsDocument}
 use Rattle.lu_types.specs.DocFaults.{doc_fault}
 use Rattle.seg_writer.proofs.FaultLemmas.{faulty-next, faulty-here, faulty-end}
-use Rattle.seg_writer.proofs.segment.check_documents.Goals as goal
+use Rattle.seg_writer.proofs.documents.check_documents.Goals as goal
 
 pub loop-number-preserved : goal.loop-number-preserved
 loop-number-preserved c =

@@ -3,6 +3,7 @@ pub mod EntryLemmas
 pub mod FaultLemmas
 pub mod FnmLemmas
 pub mod InvertedLemmas
+pub mod NormFileLemmas
 pub mod NormLemmas
 pub mod OccurrenceLemmas
 pub mod OrderLemmas

@@ -1,8 +1,10 @@
 //! Norms are written, column by column.
-ghost use Rattle.std.specs.Prelude.{◌≡◌, ◌<◌, ◌^◌, ◌++◌, ℕ, List, length, OnOk, unwrap_or};
+ghost use Rattle.std.specs.Prelude.{◌≡◌, ◌<◌, ◌^◌, [], ◌∷◌, ◌++◌, ℕ, List, length, OnOk, unwrap_or};
+ghost use Rattle.check_index.specs.Norms.{norm_count};
 ghost use Rattle.lu_model.specs.Contents.{has_norms, missing_norm};
 ghost use Rattle.lu_types.specs.declared.document.Document.{Document};
-ghost use Rattle.seg_writer.specs.NormColumns.{IsColumnIn, IsSomeColumn, missing_norms, norms_of};
+ghost use Rattle.seg_writer.specs.Answers.{Wrote};
+ghost use Rattle.seg_writer.specs.NormColumns.{AreColumnsIn, AreSomeColumns, IsColumnIn, IsSomeColumn, given_norms, missing_norms, norm_bytes, norm_files, norms_of};
 
 use crate::columns::Appearance;
 use crate::fault::WriteFault;
@@ -71,7 +73,11 @@ fn add_column(
 }
 
 // How many fields have norms.
-fn norm_count(fields: &[FieldInfo]) -> u64 {
+fn norm_count(fields: &[FieldInfo]) -> u64
+    requires { length fields.now < 2 ^ 31 }
+    ensures count { result ≡ norm_count fields.now }
+    ensures few { result < 2 ^ 31 }
+{
     let mut count = 0;
     for field in fields {
         if has_norms(field.bits) {
@@ -81,6 +87,43 @@ fn norm_count(fields: &[FieldInfo]) -> u64 {
     count
 }
 
+// Adds the norms of a field, if it has norms.
+fn add_norms(
+    writer: &mut NormWriter,
+    field: &FieldInfo,
+    column: &[Appearance<'_>],
+    documents: u32,
+) -> Result<(), OutOfMemory>
+    requires few { documents < 2 ^ 31 }
+    requires column { IsSomeColumn column.now documents }
+    ensures { OnOk result ((docs : List Document) → IsColumnIn column.now documents field.now.name docs → writer.new ≡ writer.old ++ norm_bytes docs (field.now ∷ [])) }
+{
+    if has_norms(field.bits) {
+        return add_column(writer, column, documents);
+    }
+    Ok(())
+}
+
+// Adds the norms of all fields.
+fn add_all(
+    writer: &mut NormWriter,
+    fields: &[FieldInfo],
+    columns: &[Vec<Appearance<'_>>],
+    documents: u32,
+) -> Result<(), OutOfMemory>
+    requires few { documents < 2 ^ 31 }
+    requires columns { AreSomeColumns fields.now columns.now documents }
+    ensures { OnOk result ((docs : List Document) → AreColumnsIn fields.now columns.now documents docs → writer.new ≡ writer.old ++ norm_bytes docs fields.now) }
+{
+    for (number, field) in fields.iter().enumerate() {
+        match add_norms(writer, field, columns[number].as_slice(), documents) {
+            Ok(()) => {}
+            Err(error) => return Err(error),
+        }
+    }
+    Ok(())
+}
+
 /// The norms of the fields that have them, for each of so many documents; none where no field has any; or that they pass the limit.
 pub(crate) fn write_norms(
     alloc: Global,
@@ -88,7 +131,12 @@ pub(crate) fn write_norms(
     fields: &[FieldInfo],
     columns: &[Vec<Appearance<'_>>],
     documents: u32,
-) -> Result<Option<Bytes>, WriteFault> {
+) -> Result<Option<Bytes>, WriteFault>
+    requires few_fields { length fields.now < 2 ^ 31 }
+    requires few { documents < 2 ^ 31 }
+    requires columns { AreSomeColumns fields.now columns.now documents }
+    ensures { (docs : List Document) → AreColumnsIn fields.now columns.now documents docs → Wrote given_norms limit (norm_files docs fields.now) result }
+{
     let count = norm_count(fields);
     if count == 0 {
         return Ok(None);
@@ -96,11 +144,12 @@ pub(crate) fn write_norms(
     if HEADER_BYTES + count * u64::from(documents) > u64::from(limit) {
         return Err(WriteFault::TooLarge(FileKind::Nrm));
     }
-    let mut writer = NormWriter::new(alloc)?;
-    for (number, field) in fields.iter().enumerate() {
-        if has_norms(field.bits) {
-            add_column(&mut writer, columns[number].as_slice(), documents)?;
-        }
+    let mut writer = match NormWriter::new(alloc) {
+        Ok(writer) => writer,
+        Err(error) => return Err(WriteFault::from(error)),
+    };
+    match add_all(&mut writer, fields, columns, documents) {
+        Ok(()) => Ok(Some(Bytes::new(writer.finish()))),
+        Err(error) => Err(WriteFault::from(error)),
     }
-    Ok(Some(Bytes::new(writer.finish())))
 }

@@ -10,6 +10,7 @@ pub mod OrderLemmas
 pub mod PartlyLemmas
 pub mod PostedLemmas
 pub mod RunLemmas
+pub mod SoundColumns
 pub mod StoreLemmas
 pub mod TextLemmas
 pub mod TokenLemmas

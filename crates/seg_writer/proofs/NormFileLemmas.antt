@@ -8,6 +8,7 @@ use Rattle.std.proofs.lemmas.Bool.{lt-ltb, le-ltb}
 use Rattle.std.proofs.lemmas.Grind.{flat_map-append}
 use Rattle.std.proofs.lemmas.List.{append-nil, length-append, length-map, map-append, take_more, get_or_default}
 use Rattle.std.proofs.lemmas.List.Elements.{filter_map-append}
+use Rattle.std.proofs.lemmas.List.Sums.{sum_by-cons}
 use Rattle.std.proofs.Math.Nat.{mul-le-mul}
 use Rattle.check_index.specs.Norms.{norm_count}
 use Rattle.doc_marks.specs.Norms.{nrm_bytes, nrm_spelling, norm_header}
@@ -48,10 +49,10 @@ norm_bytes-length docs [] = omega arith
 norm_bytes-length docs (f ∷ fields) =
     let rest = norm_bytes-length docs fields in
     let all = ap length (norm_bytes-append docs (f ∷ []) fields) ∙ length-append (norm_bytes docs (f ∷ [])) (norm_bytes docs fields) in
-    elim (has_norms f.bits) as (λ b. has_norms f.bits ≡ b → length (norm_bytes docs (f ∷ fields)) ≡ (cond b 1 0 + norm_count fields) * length docs) [
-      true ↦ λ has. (let own = ap length (one-with docs f has) ∙ length-map docs (λ (doc : Document). found_norm (find (is_named f.name) doc.indexed)) in omega (arith, rest, all, own))
-    | false ↦ λ none. (let own = ap length (one-without docs f none) in omega (arith, rest, all, own))
-    ] refl
+    elim (has_norms f.bits) as (λ b. has_norms f.bits ≡ b → norm_count (f ∷ fields) ≡ cond b 1 0 + norm_count fields → length (norm_bytes docs (f ∷ fields)) ≡ norm_count (f ∷ fields) * length docs) [
+      true ↦ λ has count. (let own = ap length (one-with docs f has) ∙ length-map docs (λ (doc : Document). found_norm (find (is_named f.name) doc.indexed)) in let times = ap (λ n. n * length docs) count in omega (arith, rest, all, own, times))
+    | false ↦ λ none count. (let own = ap length (one-without docs f none) in let times = ap (λ n. n * length docs) count in omega (arith, rest, all, own, times))
+    ] refl (sum_by-cons (λ (g : TableField). cond (has_norms g.bits) 1 0) f fields)
 
 -- ---- the file
 
@@ -80,12 +81,6 @@ norms-within limit documents docs fields norms nrm size some short are is =
     (ap (first_past limit) (there docs fields some)
      ∙ within-alone limit Nrm (nrm_spelling (norm_columns (field_norms docs fields))) (subst (λ n. n ≤ limit) (sym (spelled docs fields ∙ ap (λ n. 4 + norm_count fields * n) size)) short),
      ap (λ bytes. named Nrm bytes ∷ []) (is ∙ ap nrm_bytes are) ∙ sym (there docs fields some))
-
--- the size that is tested fits
-pub size-fits : (count documents : ℕ) → count < 2 ^ 31 → documents < 2 ^ 32 → count * documents ≤ 2 ^ 63
-size-fits count documents few small =
-    let le : count * documents ≤ 2 ^ 31 * 2 ^ 32 = mul-le-mul (omega (arith, few)) (omega (arith, small)) in
-    omega (arith, le)
 
 -- ---- columns
 

@@ -2,6 +2,9 @@
 use Rattle.std.specs.Prelude.{◌≡◌, ◌<◌, ◌≤◌, ◌^◌, ◌⊎◌, ◌==◌, ℕ, zero, suc, ◌+◌, Bool, true, false, cond, List, [], ◌∷◌, ◌++◌, length, map, drop, All, slice_index_or, Result, Ok, Err, IsSome}
 use Rattle.lu_types.specs.DocFaults.{AreSoundTokens}
 use Rattle.lu_types.specs.Joins.{is_empty}
+use Rattle.std.specs.List.{AllByRecursion}
+use Rattle.lu_types.specs.declared.document.Document.{Document}
+use Rattle.lu_types.specs.declared.document.IndexedField.{IndexedField}
 use Rattle.lu_types.specs.declared.document.Token.{Token}
 use Rattle.lu_types.specs.declared.kind.FileKind.TheVariants.{Prx}
 use Rattle.lu_model.specs.Contents.{tokens_with}
@@ -115,3 +118,12 @@ pub record IsPartly (column : List Appearance) (text : List ℕ) (omit : Bool) (
   pub below : (k : ℕ) (d : Appearance) → passed ≤ k → k < length column → (entries ≡ []) ⊎ (last_document 0 entries < (slice_index_or column k d).doc)
   pub begun : (intervals : PostingIntervals) (limit : ℕ) (terms : List KeptTerm) (omit_tf payloads : Bool) → IsTermBegun intervals limit terms omit_tf payloads [] old
       → IsTermBegun intervals limit terms omit_tf payloads entries new
+
+-- the tokens of a field can be numbered, and are sound
+pub record IsWritableField (field : IndexedField) : Type 0 where
+  pub few : length field.tokens < 2 ^ 31
+  pub sound : AreSoundTokens 0 field.tokens
+
+-- so are those of each indexed field of documents
+abbrev pub AreWritableDocuments : List Document → Type 0
+AreWritableDocuments docs = All (λ doc. AllByRecursion IsWritableField doc.indexed) docs

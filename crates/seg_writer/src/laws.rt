@@ -1,5 +1,5 @@
 //! What the terms of a column are in the index of its documents: each law stands on a function that does nothing.
-ghost use Rattle.std.specs.Prelude.{◌≡◌, ℕ, List, map, flat_map, All};
+ghost use Rattle.std.specs.Prelude.{◌≡◌, ◌<◌, ◌^◌, ℕ, List, length, map, flat_map, All};
 ghost use Rattle.lu_types.specs.Documents.{IsDocument};
 ghost use Rattle.lu_types.specs.Tables.{TableField};
 ghost use Rattle.lu_types.specs.declared.document.Document.{Document};
@@ -8,6 +8,7 @@ ghost use Rattle.lu_model.specs.Index.{in_order, term_cmp};
 ghost use Rattle.segment_files.specs.Postings.{kept_term};
 ghost use Rattle.seg_writer.specs.declared.columns.Appearance.{Appearance};
 ghost use Rattle.seg_writer.specs.Appearing.{HasApartFields, appeared, column_from};
+ghost use Rattle.seg_writer.specs.Entries.{AreWritableDocuments, IsColumn};
 ghost use Rattle.seg_writer.specs.Orders.{AreAllColumns, NamedColumn, terms_of_columns};
 ghost use Rattle.seg_writer.specs.Terms.{kept_in, term_in};
 
@@ -22,4 +23,9 @@ pub fn column_terms_are_indexed()
 pub fn column_terms_are_in_order()
     ensures { (docs : List Document) (columns : List NamedColumn) → All HasApartFields docs → All IsDocument docs → AreAllColumns docs columns
         → terms_of_columns columns ≡ in_order term_cmp (flat_map (λ content. content.terms) (map content_of docs)) }
+{}
+
+/// The column of a name in documents whose tokens are sound can be written: its documents rise, and its tokens can be numbered.
+pub fn columns_are_sound()
+    ensures { (name : List ℕ) (docs : List Document) (column : List Appearance) → length docs < 2 ^ 31 → AreWritableDocuments docs → map appeared column ≡ column_from name 0 docs → IsColumn column }
 {}

@@ -1,4 +1,5 @@
-//! A segment written from documents.
+//! A segment written from documents, piece by piece: documents are judged; their field table, stored values and norms are written;
+//! their indexed fields are gathered in columns, and the terms of a column are written.
 #![tactic(auto)]
 
 mod columns;
@@ -8,17 +9,10 @@ mod fields;
 mod inverted;
 pub mod laws;
 mod norms;
-mod packing;
-mod segment;
 mod stored;
 mod table;
 mod terms;
 mod uses;
-mod vectors;
 
 pub use fault::WriteFault;
-pub use segment::write_segment;
 pub use segment_files::{SegmentFiles, WriteOptions};
-
-#[cfg(test)]
-mod tests;

@@ -1,4 +1,4 @@
-//! The terms of a segment are written, field by field.
+//! The terms of a field are written, out of its column.
 ghost use Rattle.std.specs.Prelude.{◌≡◌, ◌<◌, ◌^◌, ℕ, [], ◌∷◌, ◌++◌, List, length, All, OnOk};
 ghost use Rattle.segment_files.specs.Postings.{PostingIntervals, KeptTerm};
 ghost use Rattle.posting_files.specs.States.{ArePostings};
@@ -11,34 +11,15 @@ use crate::columns::Appearance;
 use crate::fault::{WriteFault, fault_of};
 use crate::inverted::{Inverted, invert};
 use crate::uses::add_entries;
-use lu_prims::{OutOfMemory, utf16_cmp};
-use lu_types::bits::{OMIT_TF, PAYLOADS, has_bit};
-use lu_types::{Field, JoinedTable};
-use posting_files::{PostingFiles, PostingWriter};
-use segment_files::WriteOptions;
+use posting_files::PostingWriter;
 use std::alloc::Global;
 
 /// What is kept of the terms of a field: its number, whether it omits frequencies and positions, and whether it has payloads.
 #[derive(Clone, Copy, Debug, PartialEq, Eq)]
-struct Kept {
-    field: u32,
-    omit_tf: bool,
-    payloads: bool,
-}
-
-// The fields of a table with their numbers, in the order of their names.
-fn fields_in_order<'a>(
-    alloc: Global,
-    table: &JoinedTable<'a>,
-) -> Result<Vec<(usize, Field<'a>)>, OutOfMemory> {
-    let mut fields: Vec<(usize, Field<'a>)> = Vec::new(alloc);
-    for number in 0..table.count() {
-        if let Some(field) = table.field(number) {
-            fields.push((number, field))?;
-        }
-    }
-    fields.sort_unstable_by(|a, b| utf16_cmp(a.1.name, b.1.name));
-    Ok(fields)
+pub(crate) struct Kept {
+    pub(crate) field: u32,
+    pub(crate) omit_tf: bool,
+    pub(crate) payloads: bool,
 }
 
 // Writes a term of a column.
@@ -97,8 +78,8 @@ fn write_inverted(
     Ok(())
 }
 
-// Writes the terms of a column.
-fn write_column(
+/// Writes the terms of a column, the texts of its tokens in UTF-16 order; or tells that their positions pass the limit.
+pub(crate) fn write_column(
     alloc: Global,
     writer: &mut PostingWriter,
     kept: Kept,
@@ -116,34 +97,4 @@ fn write_column(
         Err(error) => return Err(WriteFault::from(error)),
     };
     write_inverted(writer, kept, column, terms.as_slice())
-}
-
-/// The files of the terms of all columns, which are those of the fields of the table by number; or which of them is the first that
-/// passes the limit.
-pub(crate) fn write_terms(
-    alloc: Global,
-    options: &WriteOptions,
-    table: &JoinedTable<'_>,
-    columns: &[Vec<Appearance<'_>>],
-) -> Result<PostingFiles, WriteFault> {
-    let mut writer = PostingWriter::new(
-        alloc,
-        options.limits.file_bytes,
-        options.index_interval,
-        options.skip_interval,
-        options.max_levels,
-    )?;
-    let fields = fields_in_order(alloc, table)?;
-    for (number, field) in fields.as_slice() {
-        let kept = Kept {
-            field: *number as u32,
-            omit_tf: has_bit(OMIT_TF, field.bits),
-            payloads: has_bit(PAYLOADS, field.bits),
-        };
-        write_column(alloc, &mut writer, kept, columns[*number].as_slice())?;
-    }
-    match writer.finish() {
-        Ok(files) => Ok(files),
-        Err(fault) => Err(fault_of(fault)),
-    }
 }

@@ -13,7 +13,7 @@ returns-then-count-from c docs are =
     let test = c.if-count-from.true in
     let documents = c.from.ensures in
     let limit = c.from-2.ensures in
-    norms-past c.args.limit c.args.documents docs fields are.1 some (subst (λ n. c.args.limit < 4 + n * c.args.documents) count test)
+    norms-past c.args.limit c.args.documents docs fields are.1 some (subst (λ n. c.args.limit < 4 + n * c.args.documents) count (subst (λ l. l < 4 + c.norm_count-count.result * c.args.documents) limit (subst (λ d. c.from-2.result < 4 + c.norm_count-count.result * d) documents test)))
 
 pub returns-in-Ok-add_all : goal.returns-in-Ok-add_all
 returns-in-Ok-add_all c docs are =
@@ -22,5 +22,7 @@ returns-in-Ok-add_all c docs are =
     let few = c.if-count-eq0.false in
     let some : 0 < norm_count fields = omega (arith, count, few) in
     let test = c.if-count-from.false in
-    norms-within c.args.limit c.args.documents docs fields c.add_all.new.writer c.new-in-Ok-add_all.result are.1 some (subst (λ n. 4 + n * c.args.documents ≤ c.args.limit) count test)
+    let documents = c.from.ensures in
+    let limit = c.from-2.ensures in
+    norms-within c.args.limit c.args.documents docs fields c.add_all.new.writer c.new-in-Ok-add_all.result are.1 some (subst (λ n. 4 + n * c.args.documents ≤ c.args.limit) count (subst (λ l. 4 + c.norm_count-count.result * c.args.documents ≤ l) limit (subst (λ d. 4 + c.norm_count-count.result * d ≤ c.from-2.result) documents test)))
     (c.in-Ok-add_all.ensures docs are ∙ ap (λ w. w ++ norm_bytes docs fields) c.in-Ok.ensures) (c.new-in-Ok-add_all.ensures ∙ c.finish.ensures)

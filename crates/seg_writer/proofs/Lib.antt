@@ -1,3 +1,4 @@
+pub mod BlockLemmas
 pub mod ColumnLemmas
 pub mod EntryLemmas
 pub mod FaultLemmas

@@ -7,7 +7,9 @@ use Rattle.lu_model.specs.Contents.{bits_of, field_number}
 use Rattle.segment_files.specs.Postings.{KeptTerm}
 use Rattle.seg_writer.specs.Entries.{entries_of}
 use Rattle.seg_writer.specs.declared.columns.Appearance.{Appearance}
+use Rattle.seg_writer.specs.Texts.{texts_of}
 use Rattle.seg_writer.specs.declared.terms.Kept.{Kept}
+use Rattle.seg_writer.specs.declared.terms.KeptColumn.{KeptColumn}
 
 -- the term of a text, with what its field keeps
 abbrev pub term_in : Kept → List Appearance → List ℕ → KeptTerm
@@ -24,3 +26,7 @@ kept_in table name = record { field = field_number name table; omit_tf = has_bit
 -- those of texts
 abbrev pub terms_in : Kept → List Appearance → List (List ℕ) → List KeptTerm
 terms_in kept column texts = map (term_in kept column) texts
+
+-- those of a column with what is kept of them
+abbrev pub kept_column_terms : KeptColumn → List KeptTerm
+kept_column_terms c = terms_in c.kept c.column.now (texts_of c.column.now)

@@ -1,11 +1,11 @@
 //! The terms of a field are written, out of its column.
-ghost use Rattle.std.specs.Prelude.{◌≡◌, ◌<◌, ◌^◌, ℕ, [], ◌∷◌, ◌++◌, List, length, All, OnOk};
+ghost use Rattle.std.specs.Prelude.{◌≡◌, ◌<◌, ◌^◌, ℕ, [], ◌∷◌, ◌++◌, List, length, flat_map, All, OnOk};
 ghost use Rattle.segment_files.specs.Postings.{PostingIntervals, KeptTerm};
 ghost use Rattle.posting_files.specs.States.{ArePostings};
 ghost use Rattle.seg_writer.specs.Columns.{uses_of};
 ghost use Rattle.seg_writer.specs.Entries.{AddsTerms, IsBetweenTerms, IsColumn};
 ghost use Rattle.seg_writer.specs.Texts.{AreInverted, texts_in, texts_of};
-ghost use Rattle.seg_writer.specs.Terms.{term_in, terms_in};
+ghost use Rattle.seg_writer.specs.Terms.{kept_column_terms, term_in, terms_in};
 
 use crate::columns::Appearance;
 use crate::fault::{WriteFault, fault_of};
@@ -97,4 +97,32 @@ pub(crate) fn write_column(
         Err(error) => return Err(WriteFault::from(error)),
     };
     write_inverted(writer, kept, column, terms.as_slice())
+}
+
+/// The column of a field, with what is kept of its terms.
+#[derive(Clone, Copy, Debug)]
+pub(crate) struct KeptColumn<'a> {
+    pub(crate) kept: Kept,
+    pub(crate) column: &'a [Appearance<'a>],
+}
+
+/// Writes the terms of columns in turn, those of each as `write_column` does.
+pub(crate) fn write_columns(
+    alloc: Global,
+    writer: &mut PostingWriter,
+    columns: &[KeptColumn<'_>],
+) -> Result<(), WriteFault>
+    requires columns { All (λ c. IsColumn c.column.now × (c.kept.field < 2 ^ 31)) columns.now }
+    requires between { IsBetweenTerms writer.old }
+    ensures terms { (i : PostingIntervals) (limit : ℕ) (ts : List KeptTerm) → ArePostings i limit ts writer.old
+        → AddsTerms i limit (ts ++ flat_map kept_column_terms columns.now) writer.new result }
+    ensures between { OnOk result (IsBetweenTerms writer.new) }
+{
+    for here in columns {
+        match write_column(alloc, writer, here.kept, here.column) {
+            Ok(()) => {}
+            Err(fault) => return Err(fault),
+        }
+    }
+    Ok(())
 }

@@ -1,4 +1,5 @@
 pub mod BlockLemmas
+pub mod CanonicalTerms
 pub mod ColumnLemmas
 pub mod EntryLemmas
 pub mod FaultLemmas

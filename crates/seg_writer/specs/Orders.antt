@@ -7,6 +7,9 @@ use Rattle.lu_types.specs.declared.document.IndexedField.{IndexedField}
 use Rattle.lu_model.specs.Index.{Term}
 use Rattle.seg_writer.specs.declared.columns.Appearance.{Appearance}
 use Rattle.seg_writer.specs.Appearing.{appeared, column_from}
+use Rattle.lu_types.specs.Tables.{TableField}
+use Rattle.segment_files.specs.Postings.{KeptTerm}
+use Rattle.seg_writer.specs.Terms.{kept_in, terms_in}
 use Rattle.seg_writer.specs.Texts.{texts_of}
 
 -- the column of a field: the field's name, and where it appears
@@ -27,3 +30,7 @@ pub record AreAllColumns (docs : List Document) (columns : List NamedColumn) : T
   pub rise : IsStrictlySortedBy text_cmp (map (λ c. c.name) columns)
   pub each : (c : NamedColumn) → Contains columns c → map appeared c.column ≡ column_from c.name 0 docs
   pub all : (doc : Document) (field : IndexedField) → Contains docs doc → Contains doc.indexed field → Contains (map (λ c. c.name) columns) field.field
+
+-- what is written of columns in turn, under a table
+abbrev pub written_terms : List TableField → List NamedColumn → List KeptTerm
+written_terms table columns = flat_map (λ c. terms_in (kept_in table c.name) c.column (texts_of c.column)) columns

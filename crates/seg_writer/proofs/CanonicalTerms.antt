@@ -1,13 +1,13 @@
 -- The terms that are written of all columns, field by field in the order of names, are those of the index of the documents.
-use Rattle.std.proofs.Common.{◌≡◌, refl, ap, sym, ◌∙◌, subst, ℕ, zero, suc, ◌++◌, List, [], ◌∷◌, map, Option, None, Some, inl, inr, All}
+use Rattle.std.proofs.Common.{◌≡◌, refl, ap, sym, ◌∙◌, ℕ, zero, suc, ◌++◌, List, [], ◌∷◌, map, inl, inr, All}
 use Rattle.std.specs.List.{flat_map}
-use Rattle.std.specs.Prelude.{slice_get, slice_index_or}
+use Rattle.std.specs.Prelude.{slice_index_or}
 use Rattle.std.proofs.lemmas.List.{map-append}
 use Rattle.lu_types.specs.Documents.{IsDocument}
-use Rattle.lu_types.specs.Tables.{TableField, bits_at, bits_in}
+use Rattle.lu_types.specs.Tables.{TableField, bits_at}
 use Rattle.lu_types.specs.declared.document.Document.{Document}
 use Rattle.lu_model.specs.Index.{Term, term_cmp, in_order}
-use Rattle.lu_model.specs.Contents.{Content, bits_of, content_of, field_number, index_of, indexed_term, under}
+use Rattle.lu_model.specs.Contents.{Content, content_of, field_number, index_of, indexed_term, under}
 use Rattle.lu_model.proofs.Words.{IsIn}
 use Rattle.lu_model.proofs.Among.{contains-from_in}
 use Rattle.segment_files.specs.Postings.{KeptTerm, kept_term, kept_terms}

@@ -1,5 +1,5 @@
 -- Where fields appear, one field or document more.
-use Rattle.std.proofs.Common.{◌≡◌, ◌≢◌, refl, ap, sym, ◌∙◌, subst, ℕ, zero, suc, ◌+◌, ◌<◌, ◌≤◌, ◌++◌, List, [], ◌∷◌, length, map, take, get_or, set, Bool, true, false, cond, Option, None, Some, inl, inr, arith}
+use Rattle.std.proofs.Common.{◌≡◌, ◌≢◌, refl, ap, sym, ◌∙◌, subst, ℕ, suc, ◌+◌, ◌<◌, ◌≤◌, ◌++◌, List, [], ◌∷◌, length, map, take, get_or, set, Bool, true, false, cond, Option, None, Some, inl, inr, arith}
 use Rattle.std.specs.List.{filter, find, AllByRecursion}
 use Rattle.std.specs.Option.{option_to_list}
 use Rattle.std.specs.Prelude.{option_map, is_some}
@@ -15,7 +15,7 @@ use Rattle.lu_types.specs.DocFaults.{AreApart}
 use Rattle.lu_types.specs.Tables.{TableField, number_of}
 use Rattle.lu_types.specs.declared.document.Document.{Document}
 use Rattle.lu_types.specs.declared.document.IndexedField.{IndexedField}
-use Rattle.lu_model.specs.Contents.{name_of, field_at}
+use Rattle.lu_model.specs.Contents.{name_of}
 use Rattle.seg_writer.specs.declared.columns.Appearance.{Appearance}
 use Rattle.seg_writer.specs.Appearing.{Appeared, appeared, appeared_in, is_named, found_in, names_of, AreColumns, AreEmpty, AreFirst, HaveMore, IsPushed, column_from}
 
@@ -74,6 +74,7 @@ columns-pushed table doc fields i field k a old columns new was now first size l
         ∙ ap (λ w. w ++ appeared a ∷ []) (each k d within)
         ∙ append_assoc (map appeared (get_or old k d).items) (so_far table doc fields i k) (appeared a ∷ [])
         ∙ ap (λ w. map appeared (get_or old k d).items ++ w) (ap (λ x. so_far table doc fields i k ++ x ∷ []) seen ∙ sym (one-more table doc fields i field k lt is named))
+
     other-column : (n : ℕ) (d : Vec Appearance Global) → n < length old → n ≢ k → map appeared (get_or new n d).items ≡ map appeared (get_or old n d).items ++ so_far table doc fields (i + 1) n
     other-column n d within other =
         let is_not = not-true (is_named (name_of table n) field) (λ named. other (the-same n k (sym (same-number table field n first (omega (arith, within, size)) named) ∙ found))) in
@@ -81,11 +82,12 @@ columns-pushed table doc fields i field k a old columns new was now first size l
         ∙ ap (λ (c : Vec Appearance Global). map appeared c.items) (get_or-set_other columns k n now d other)
         ∙ each n d within
         ∙ ap (λ w. map appeared (get_or old n d).items ++ w) (sym (none-more table doc fields i field n lt is is_not))
+
     by-number : (n : ℕ) (d : Vec Appearance Global) → n < length old → map appeared (get_or new n d).items ≡ map appeared (get_or old n d).items ++ so_far table doc fields (i + 1) n
     by-number n d within = elim (cases_eq n k) [
-        inl own ↦ subst (λ m. map appeared (get_or new m d).items ≡ map appeared (get_or old m d).items ++ so_far table doc fields (i + 1) m) (sym own) (own-column d (omega (arith, own, within)))
+      | inl own ↦ subst (λ m. map appeared (get_or new m d).items ≡ map appeared (get_or old m d).items ++ so_far table doc fields (i + 1) m) (sym own) (own-column d (omega (arith, own, within)))
       | inr other ↦ other-column n d within other
-      ]
+    ]
 
 pub columns-put : (table : List TableField) (doc : ℕ) (fields : List IndexedField) (i : ℕ) (field : IndexedField) (k : ℕ) (old columns new : List (Vec Appearance Global))
     → AreFirst table → length old ≡ length table → i < length fields → field ≡ get_or fields i field → number_of field.field table ≡ Some k → k < length table → IsPushed k (appeared_in doc field) columns new
@@ -98,10 +100,12 @@ columns-put table doc fields i field k old columns new first size lt is found wi
 -- a field whose name is not in the table
 pub columns-kept : (table : List TableField) (doc : ℕ) (fields : List IndexedField) (i : ℕ) (field : IndexedField) (old columns : List (Vec Appearance Global))
     → AreFirst table → length old ≡ length table → i < length fields → field ≡ get_or fields i field → number_of field.field table ≡ None → HaveMore (so_far table doc fields i) old columns → HaveMore (so_far table doc fields (i + 1)) old columns
-columns-kept table doc fields i field old columns first size lt is none (same, each) =
-    (same, λ n d within.
+columns-kept table doc fields i field old columns first size lt is none (same, each) = (
+  same,
+  λ n d within.
       let is_not = not-true (is_named (name_of table n) field) (λ named. false≢true (ap is_some (sym none ∙ same-number table field n first (omega (arith, within, size)) named))) in
-      each n d within ∙ ap (λ w. map appeared (get_or old n d).items ++ w) (sym (none-more table doc fields i field n lt is is_not)))
+      each n d within ∙ ap (λ w. map appeared (get_or old n d).items ++ w) (sym (none-more table doc fields i field n lt is is_not)),
+)
 
 pub columns-begun : (table : List TableField) (doc : ℕ) (fields : List IndexedField) (old : List (Vec Appearance Global)) → HaveMore (so_far table doc fields 0) old old
 columns-begun table doc fields old = (refl, λ n d within. sym (append-nil (map appeared (get_or old n d).items)))
@@ -117,9 +121,9 @@ none-named name (f ∷ fields) apart =
 once : (name : List ℕ) (fields : List IndexedField) → AreApart (names_of fields) → filter (is_named name) fields ≡ option_to_list (find (is_named name) fields)
 once name [] apart = refl
 once name (f ∷ fields) apart = elim (is_named name f) as (λ b. is_named name f ≡ b → cond b (f ∷ filter (is_named name) fields) (filter (is_named name) fields) ≡ option_to_list (cond b (Some f) (find (is_named name) fields))) [
-    true ↦ λ named. ap (λ w. f ∷ w) (none-named name fields (subst (λ n. AllByRecursion (λ other. n ≢ other) (names_of fields)) (sym ((bytes_decides name f.field).0 named)) apart.0))
+  | true ↦ λ named. ap (λ w. f ∷ w) (none-named name fields (subst (λ n. AllByRecursion (λ other. n ≢ other) (names_of fields)) (sym ((bytes_decides name f.field).0 named)) apart.0))
   | false ↦ λ other. once name fields apart.1
-  ] refl
+] refl
 
 map-option : {X Y : Type 0} (f : X → Y) (o : Option X) → map f (option_to_list o) ≡ option_to_list (option_map f o)
 map-option f None = refl
@@ -127,11 +131,13 @@ map-option f (Some x) = refl
 
 pub columns-end : (table : List TableField) (doc : ℕ) (fields : List IndexedField) (i : ℕ) (old columns : List (Vec Appearance Global)) → AreApart (names_of fields) → length fields ≤ i → HaveMore (so_far table doc fields i) old columns
     → HaveMore (λ n. found_in (name_of table n) doc fields) old columns
-columns-end table doc fields i old columns apart le (same, each) =
-    (same, λ n d within. each n d within ∙ ap (λ w. map appeared (get_or old n d).items ++ w)
+columns-end table doc fields i old columns apart le (same, each) = (
+  same,
+  λ n d within. each n d within ∙ ap (λ w. map appeared (get_or old n d).items ++ w)
       (ap (λ fs. map (appeared_in doc) (filter (is_named (name_of table n)) fs)) (take_all i fields le)
-       ∙ ap (map (appeared_in doc)) (once (name_of table n) fields apart)
-       ∙ map-option (appeared_in doc) (find (is_named (name_of table n)) fields)))
+      ∙ ap (map (appeared_in doc)) (once (name_of table n) fields apart)
+      ∙ map-option (appeared_in doc) (find (is_named (name_of table n)) fields)),
+)
 
 -- ---- documents
 
@@ -152,10 +158,12 @@ column-more name docs i doc lt is =
 
 pub columns-more : (table : List TableField) (docs : List Document) (i : ℕ) (doc : Document) (fields : List IndexedField) (columns new : List (Vec Appearance Global)) → i < length docs → doc ≡ get_or docs i doc → fields ≡ doc.indexed
     → AreColumns table (take i docs) columns → HaveMore (λ n. found_in (name_of table n) i fields) columns new → AreColumns table (take (i + 1) docs) new
-columns-more table docs i doc fields columns new lt is own (size, each) (same, more) =
-    (same ∙ size, λ n d within.
+columns-more table docs i doc fields columns new lt is own (size, each) (same, more) = (
+  same ∙ size,
+  λ n d within.
       more n d (subst (λ m. n < m) (sym size) within) ∙ ap (λ w. w ++ found_in (name_of table n) i fields) (each n d within)
-      ∙ ap (λ fs. column_from (name_of table n) 0 (take i docs) ++ found_in (name_of table n) i fs) own ∙ sym (column-more (name_of table n) docs i doc lt is))
+      ∙ ap (λ fs. column_from (name_of table n) 0 (take i docs) ++ found_in (name_of table n) i fs) own ∙ sym (column-more (name_of table n) docs i doc lt is),
+)
 
 pub columns-none : (table : List TableField) (docs : List Document) (count : ℕ) (columns : List (Vec Appearance Global)) → count ≡ length table → AreEmpty count columns → AreColumns table (take 0 docs) columns
 columns-none table docs count columns same (size, empty) = (size ∙ same, λ n d within. ap (map appeared) (empty n d (subst (λ m. n < m) (sym (size ∙ same)) within)))

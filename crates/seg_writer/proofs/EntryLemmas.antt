@@ -1,17 +1,16 @@
 -- The entries of a text in a column are those that the index of the documents has of the term.
-use Rattle.std.proofs.Common.{◌≡◌, ◌≢◌, refl, ap, sym, ◌∙◌, subst, ℕ, suc, add-one, ◌+◌, ◌<◌, ◌++◌, List, [], ◌∷◌, length, map, Bool, true, false, cond, Option, None, Some, All, arith}
+use Rattle.std.proofs.Common.{◌≡◌, ◌≢◌, refl, ap, sym, ◌∙◌, subst, ℕ, suc, add-one, ◌+◌, ◌++◌, List, [], ◌∷◌, map, Bool, true, false, cond, Option, None, Some, All, arith}
 use Rattle.std.specs.Prelude.{option_map}
-use Rattle.std.specs.List.{filter, find, flat_map, filter_map, enumerate_from, cons_option, AllByRecursion}
+use Rattle.std.specs.List.{find, flat_map, filter_map, enumerate_from, cons_option, AllByRecursion}
 use Rattle.std.specs.Option.{option_to_list}
 use Rattle.std.specs.Str.{bytes_eq}
 use Rattle.std.specs.Cmp.Lexicographic.{bytes_decides}
 use Rattle.std.proofs.lemmas.List.{append_assoc, append-nil}
 use Rattle.lu_types.specs.DocFaults.{AreApart}
-use Rattle.lu_types.specs.Joins.{is_empty}
 use Rattle.lu_types.specs.declared.document.Document.{Document}
 use Rattle.lu_types.specs.declared.document.IndexedField.{IndexedField}
 use Rattle.lu_types.specs.declared.document.Token.{Token}
-use Rattle.lu_model.specs.Index.{Term, Occurrences, given, omitted, IndexedEntry}
+use Rattle.lu_model.specs.Index.{Term, Occurrences, omitted, IndexedEntry}
 use Rattle.lu_types.specs.Bits as bit
 use Rattle.lu_types.specs.Bits.{has_bit}
 use Rattle.lu_types.specs.Tables.{TableField}
@@ -20,7 +19,7 @@ use Rattle.seg_writer.specs.Terms.{kept_in, term_in}
 use Rattle.lu_model.specs.Contents.{Content, bits_of, content_of, field_number, given_if_any, indexed_term, tokens_for, tokens_with}
 use Rattle.seg_writer.specs.declared.columns.Appearance.{Appearance}
 use Rattle.seg_writer.specs.Appearing.{Appeared, appeared, appeared_in, column_from, found_in, is_named, names_of, HasApartFields}
-use Rattle.seg_writer.specs.Entries.{entry_with, entry_if_any, entries_of, entry_occurrences}
+use Rattle.seg_writer.specs.Entries.{entry_if_any, entries_of}
 use Rattle.seg_writer.proofs.ColumnLemmas.{not-true}
 
 -- the entries of a text in a column as contracts see it
@@ -53,11 +52,11 @@ no-tokens term (f ∷ fields) apart =
 tokens-found : (term : Term) (fields : List IndexedField) → AreApart (names_of fields) → flat_map (tokens_for term) fields ≡ found_tokens term (find (is_named term.field) fields)
 tokens-found term [] apart = refl
 tokens-found term (f ∷ fields) apart = elim (bytes_eq term.field f.field) as (λ b. bytes_eq term.field f.field ≡ b → cond b (tokens_with term.text f.tokens) [] ++ flat_map (tokens_for term) fields ≡ found_tokens term (cond b (Some f) (find (is_named term.field) fields))) [
-    true ↦ λ named.
-        ap (λ w. tokens_with term.text f.tokens ++ w) (no-tokens term fields (subst (λ name. AllByRecursion (λ other. name ≢ other) (names_of fields)) (sym ((bytes_decides term.field f.field).0 named)) apart.0))
-        ∙ append-nil (tokens_with term.text f.tokens)
+  | true ↦ λ named.
+      ap (λ w. tokens_with term.text f.tokens ++ w) (no-tokens term fields (subst (λ name. AllByRecursion (λ other. name ≢ other) (names_of fields)) (sym ((bytes_decides term.field f.field).0 named)) apart.0))
+      ∙ append-nil (tokens_with term.text f.tokens)
   | false ↦ λ other. tokens-found term fields apart.1
-  ] refl
+] refl
 
 -- the entry of a document with these tokens of the term
 abbrev entry_of_tokens : Bool → ℕ → List Token → Option IndexedEntry

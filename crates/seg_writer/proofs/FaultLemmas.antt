@@ -1,5 +1,5 @@
 -- The first document with a fault.
-use Rattle.std.proofs.Common.{◌≡◌, refl, ap, sym, ◌∙◌, ℕ, suc, add-one, ◌+◌, ◌<◌, ◌≤◌, List, [], ◌∷◌, length, drop, get_or, Option, None, Some, arith}
+use Rattle.std.proofs.Common.{◌≡◌, ap, sym, ◌∙◌, ℕ, suc, add-one, ◌+◌, ◌<◌, ◌≤◌, List, length, drop, get_or, None, Some}
 use Rattle.std.proofs.lemmas.List.{drop_more, drop_all}
 use Rattle.lu_types.specs.DocFaults.{doc_fault}
 use Rattle.lu_types.specs.declared.document.DocFault.{DocFault}

@@ -74,7 +74,7 @@ rise_at xs apart utf8 sorted k u lt =
     let a = get_or xs k u in
     let b = get_or xs (k + 1) u in
     let differ : bytes_eq a.text.now b.text.now ≡ false =
-        ap (λ w. bytes_eq w.now b.text.now) (sym (get_or-map (λ (t : Inverted). t.text) xs k u u.text first)) ∙ ap (λ w. bytes_eq (get_or (map (λ (t : Inverted). t.text) xs) k u.text).now w.now) (sym (get_or-map (λ (t : Inverted). t.text) xs (k + 1) u u.text lt)) ∙ apart_from_distinct key_eq (map (λ (t : Inverted). t.text) xs) k (k + 1) u.text keys next long in
+    ap (λ w. bytes_eq w.now b.text.now) (sym (get_or-map (λ (t : Inverted). t.text) xs k u u.text first)) ∙ ap (λ w. bytes_eq (get_or (map (λ (t : Inverted). t.text) xs) k u.text).now w.now) (sym (get_or-map (λ (t : Inverted). t.text) xs (k + 1) u u.text lt)) ∙ apart_from_distinct key_eq (map (λ (t : Inverted). t.text) xs) k (k + 1) u.text keys next long in
     ap (λ w. text_cmp w (get_or (texts_in xs) (k + 1) [])) (get_or-map (λ (t : Inverted). t.text.now) xs k u [] first) ∙ ap (λ w. text_cmp a.text.now w) (get_or-map (λ (t : Inverted). t.text.now) xs (k + 1) u [] lt) ∙ rise_next a.text.now b.text.now (utf8 k u first) (utf8 (k + 1) u lt) (sorted k u none lt) differ
 
 rise_all : (xs : List Inverted) → IsDistinct key_eq (keys_of (map group_of xs)) → All (λ (t : Inverted). IsUtf8 t.text.now) xs → IsSortedByKey (λ (t : Inverted). t.text.now) text_cmp xs → (k : ℕ) → k + 1 < length (texts_in xs) → text_cmp (get_or (texts_in xs) k []) (get_or (texts_in xs) (k + 1) []) ≡ Less
@@ -94,9 +94,9 @@ listed_at q ts = option_map_or (λ g. g.items) (lookup (λ (k : Bor (List ℕ)).
 there : (q : List ℕ) (ts : List Inverted) → 0 < length (listed_at q ts) → Contains (texts_in ts) q
 there q [] some = absurd (omega (arith, some))
 there q (t ∷ ts) some = elim (bytes_eq q t.text.now) as (λ b. bytes_eq q t.text.now ≡ b → 0 < length (option_map_or (λ g. g.items) (cond b (Some t.uses) (lookup (λ (k : Bor (List ℕ)). bytes_eq q k.now) (map group_of ts))) []) → Contains (texts_in (t ∷ ts)) q) [
-    true ↦ λ same k. (0, omega arith, sym ((bytes_eq-Decides q t.text.now).0 same))
+  | true ↦ λ same k. (0, omega arith, sym ((bytes_eq-Decides q t.text.now).0 same))
   | false ↦ λ other k. let at = there q ts k in (suc at.0, grind (arith, at.1), at.2)
-  ] refl some
+] refl some
 
 -- the list has at a term's text the term's uses
 own : (ts : List Inverted) → IsDistinct key_eq (keys_of (map group_of ts)) → All (λ (t : Inverted). lookup (λ (k : Bor (List ℕ)). bytes_eq t.text.now k.now) (map group_of ts) ≡ Some t.uses) ts
@@ -133,9 +133,10 @@ are_terms column m ts us uses used entries ordered utf8 moved sorted =
     record {
       rise = rises ts us distinct moved sorted utf8;
       uses = All-permutation (λ (t : Inverted). (t.uses.items ≡ uses_of t.text.now column) × (0 < length t.uses.items)) ts us moved (λ k d lt.
-        let t = get_or ts k d in
-        (sym (ap (λ w. option_map_or (λ (g : Vec Use Global). g.items) w []) (here k d lt)) ∙ at t.text.now,
-         used t.text.now t.uses (sym (tested t.text.now) ∙ ap (λ w. lookup (λ (k : Bor (List ℕ)). bytes_eq t.text.now k.now) w) (sym entries) ∙ here k d lt)));
+          let t = get_or ts k d in (
+            sym (ap (λ w. option_map_or (λ (g : Vec Use Global). g.items) w []) (here k d lt)) ∙ at t.text.now,
+            used t.text.now t.uses (sym (tested t.text.now) ∙ ap (λ w. lookup (λ (k : Bor (List ℕ)). bytes_eq t.text.now k.now) w) (sym entries) ∙ here k d lt),
+          ));
       utf8 = All-permutation (λ (t : Inverted). IsUtf8 t.text.now) ts us moved utf8;
       complete = λ q some. Contains-permutation (texts_in ts) (texts_in us) q (IsPermutation-map (λ (t : Inverted). t.text.now) ts us moved) (there q ts (subst (λ w. 0 < length w) (sym (at q)) some));
     }

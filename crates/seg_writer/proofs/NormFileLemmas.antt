@@ -1,28 +1,25 @@
 -- The file of norms, one field more.
-use Rattle.std.proofs.Common.{◌≡◌, refl, ap, sym, ◌∙◌, subst, ℕ, zero, suc, ◌+◌, ◌*◌, ◌<◌, ◌≤◌, ◌^◌, ◌++◌, List, [], ◌∷◌, length, map, take, get_or, Bool, true, false, cond, Option, None, Some, arith}
-use Rattle.std.specs.Prelude.{nat_lt, count_by, sum_by}
+use Rattle.std.proofs.Common.{◌≡◌, refl, ap, sym, ◌∙◌, subst, ℕ, ◌+◌, ◌*◌, ◌<◌, ◌≤◌, ◌++◌, List, [], ◌∷◌, length, map, take, get_or, Bool, true, false, cond, None, Some, arith}
 use Rattle.std.specs.Global.{Global}
-use Rattle.std.specs.List.{find, flat_map, filter_map, cons_option}
+use Rattle.std.specs.List.{find, flat_map, cons_option}
 use Rattle.std.specs.declared.vec.Vec.{Vec}
 use Rattle.std.proofs.lemmas.Bool.{lt-ltb, le-ltb}
 use Rattle.std.proofs.lemmas.Grind.{flat_map-append}
 use Rattle.std.proofs.lemmas.List.{append-nil, length-append, length-map, map-append, take_more, get_or_default}
 use Rattle.std.proofs.lemmas.List.Elements.{filter_map-append}
 use Rattle.std.proofs.lemmas.List.Sums.{sum_by-cons}
-use Rattle.std.proofs.Math.Nat.{mul-le-mul}
 use Rattle.check_index.specs.Norms.{norm_count}
 use Rattle.doc_marks.specs.Norms.{nrm_bytes, nrm_spelling, norm_header}
 use Rattle.lu_types.specs.Tables.{TableField}
 use Rattle.lu_types.specs.declared.document.Document.{Document}
-use Rattle.lu_types.specs.declared.kind.FileKind.{FileKind}
 use Rattle.lu_types.specs.declared.kind.FileKind.TheVariants.{Nrm}
 use Rattle.lu_types.specs.declared.named_file.NamedFile.{NamedFile}
 use Rattle.lu_model.specs.Contents.{has_norms, name_of}
-use Rattle.segment_files.specs.Parts.{have_norms, norm_columns}
+use Rattle.segment_files.specs.Parts.{norm_columns}
 use Rattle.segment_files.specs.Written.{first_past}
 use Rattle.posting_files.specs.States.{named}
 use Rattle.seg_writer.specs.declared.columns.Appearance.{Appearance}
-use Rattle.seg_writer.specs.Appearing.{AreColumns, appeared, column_from, is_named}
+use Rattle.seg_writer.specs.Appearing.{appeared, column_from, is_named}
 use Rattle.seg_writer.specs.NormColumns.{field_norms, found_norm, norm_bytes, norm_files, norms_of, given_norms, AreColumnsIn, AreSomeColumns, IsColumnIn, IsSomeColumn}
 use Rattle.seg_writer.proofs.FnmLemmas.{past-alone, within-alone}
 
@@ -50,8 +47,8 @@ norm_bytes-length docs (f ∷ fields) =
     let rest = norm_bytes-length docs fields in
     let all = ap length (norm_bytes-append docs (f ∷ []) fields) ∙ length-append (norm_bytes docs (f ∷ [])) (norm_bytes docs fields) in
     elim (has_norms f.bits) as (λ b. has_norms f.bits ≡ b → norm_count (f ∷ fields) ≡ cond b 1 0 + norm_count fields → length (norm_bytes docs (f ∷ fields)) ≡ norm_count (f ∷ fields) * length docs) [
-      true ↦ λ has count. (let own = ap length (one-with docs f has) ∙ length-map docs (λ (doc : Document). found_norm (find (is_named f.name) doc.indexed)) in let times = ap (λ n. n * length docs) count in omega (arith, rest, all, own, times))
-    | false ↦ λ none count. (let own = ap length (one-without docs f none) in let times = ap (λ n. n * length docs) count in omega (arith, rest, all, own, times))
+      | true ↦ λ has count. (let own = ap length (one-with docs f has) ∙ length-map docs (λ (doc : Document). found_norm (find (is_named f.name) doc.indexed)) in let times = ap (λ n. n * length docs) count in omega (arith, rest, all, own, times))
+      | false ↦ λ none count. (let own = ap length (one-without docs f none) in let times = ap (λ n. n * length docs) count in omega (arith, rest, all, own, times))
     ] refl (sum_by-cons (λ (g : TableField). cond (has_norms g.bits) 1 0) f fields)
 
 -- ---- the file
@@ -77,10 +74,11 @@ norms-past limit documents docs fields size some long =
 
 pub norms-within : (limit documents : ℕ) (docs : List Document) (fields : List TableField) (norms nrm : List ℕ) → length docs ≡ documents → 0 < norm_count fields → 4 + norm_count fields * documents ≤ limit → norms ≡ norm_bytes docs fields → nrm ≡ nrm_bytes norms
     → (first_past limit (norm_files docs fields) ≡ None) × (given_norms (Some nrm) ≡ norm_files docs fields)
-norms-within limit documents docs fields norms nrm size some short are is =
-    (ap (first_past limit) (there docs fields some)
-     ∙ within-alone limit Nrm (nrm_spelling (norm_columns (field_norms docs fields))) (subst (λ n. n ≤ limit) (sym (spelled docs fields ∙ ap (λ n. 4 + norm_count fields * n) size)) short),
-     ap (λ bytes. named Nrm bytes ∷ []) (is ∙ ap nrm_bytes are) ∙ sym (there docs fields some))
+norms-within limit documents docs fields norms nrm size some short are is = (
+  ap (first_past limit) (there docs fields some)
+      ∙ within-alone limit Nrm (nrm_spelling (norm_columns (field_norms docs fields))) (subst (λ n. n ≤ limit) (sym (spelled docs fields ∙ ap (λ n. 4 + norm_count fields * n) size)) short),
+  ap (λ bytes. named Nrm bytes ∷ []) (is ∙ ap nrm_bytes are) ∙ sym (there docs fields some),
+)
 
 -- ---- columns
 

@@ -1,10 +1,9 @@
 -- The occurrences of an entry, one token more.
-use Rattle.std.proofs.Common.{◌≡◌, refl, ap, sym, ◌∙◌, subst, ℕ, suc, ◌+◌, ◌-◌, ◌<◌, ◌≤◌, ◌⊎◌, ◌^◌, ◌++◌, List, [], ◌∷◌, length, map, take, drop, get_or, Bool, true, false, cond, All, Ok, Err, Result, arith}
-use Rattle.std.proofs.lemmas.List.{map-append, take_more, take_all, drop_more, append_assoc, length-append}
+use Rattle.std.proofs.Common.{◌≡◌, refl, ap, sym, ◌∙◌, subst, ℕ, ◌+◌, ◌-◌, ◌<◌, ◌≤◌, ◌⊎◌, ◌++◌, List, [], ◌∷◌, length, map, take, drop, get_or, Bool, true, false, Err, arith}
+use Rattle.std.proofs.lemmas.List.{map-append, take_more, drop_more, length-append}
 use Rattle.lu_types.specs.DocFaults.{AreSoundTokens, IsSoundToken}
 use Rattle.lu_types.specs.declared.document.Token.{Token}
-use Rattle.lu_types.specs.declared.kind.FileKind.TheVariants.{Prx}
-use Rattle.lu_model.specs.Index.{Occurrence, Occurrences, given, omitted, IndexedEntry, frequency}
+use Rattle.lu_model.specs.Index.{IndexedEntry, frequency}
 use Rattle.freq_skips.specs.Written.{last_doc}
 use Rattle.segment_files.specs.Postings.{PostingIntervals, KeptTerm, parts_of, prx_bytes, prx_occurrence, prx_occurrences}
 use Rattle.posting_files.specs.States.{ListState, PostingState, is_within, IsTermBegun, IsEntryBegun, StepsTo, occurrence_added, entry_added, entry_begun, IsProxPast}
@@ -14,7 +13,7 @@ use Rattle.posting_files.specs.declared.fault.PostingFault.TheVariants as postin
 use Rattle.seg_writer.specs.declared.fault.WriteFault.{WriteFault}
 use Rattle.seg_writer.specs.Answers.{write_fault}
 use Rattle.seg_writer.specs.declared.inverted.Use.{Use}
-use Rattle.seg_writer.specs.Entries.{no_token, occurrence_of, listed_occurrences, entry_occurrences, entry_with, tokens_at, AddsEntries, IsRun, MayFollow}
+use Rattle.seg_writer.specs.Entries.{no_token, occurrence_of, listed_occurrences, entry_occurrences, entry_with, tokens_at, AddsEntries, MayFollow}
 
 -- the token of a use
 abbrev token_at : List Token → Use → Token
@@ -25,7 +24,7 @@ pub tokens-left : (tokens : List Token) (run : List Use) (k : ℕ) (here : Use) 
     → (position ≤ token.position) × IsSoundToken token × AreSoundTokens token.position (tokens_at tokens (drop (k + 1) run))
 tokens-left tokens run k here token position lt at is sound =
     let first : tokens_at tokens (drop k run) ≡ token ∷ tokens_at tokens (drop (k + 1) run) =
-        ap (tokens_at tokens) (drop_more run k here lt) ∙ ap (λ h. token_at tokens h ∷ tokens_at tokens (drop (k + 1) run)) (sym at) ∙ ap (λ t. t ∷ tokens_at tokens (drop (k + 1) run)) (sym is) in
+    ap (tokens_at tokens) (drop_more run k here lt) ∙ ap (λ h. token_at tokens h ∷ tokens_at tokens (drop (k + 1) run)) (sym at) ∙ ap (λ t. t ∷ tokens_at tokens (drop (k + 1) run)) (sym is) in
     subst (AreSoundTokens position) first sound
 
 -- one occurrence more
@@ -35,8 +34,8 @@ pub occurrences-next : (tokens : List Token) (run : List Use) (k : ℕ) (here : 
 occurrences-next tokens run k here token s new lt at is adds i limit ts omit payloads es b =
     let front = tokens_at tokens (take k run) in
     let more : tokens_at tokens (take (k + 1) run) ≡ front ++ token ∷ [] =
-        ap (tokens_at tokens) (take_more run k here lt) ∙ map-append (token_at tokens) (take k run) (get_or run k here ∷ [])
-        ∙ ap (λ h. front ++ token_at tokens h ∷ []) (sym at) ∙ ap (λ t. front ++ t ∷ []) (sym is) in
+    ap (tokens_at tokens) (take_more run k here lt) ∙ map-append (token_at tokens) (take k run) (get_or run k here ∷ [])
+    ∙ ap (λ h. front ++ token_at tokens h ∷ []) (sym at) ∙ ap (λ t. front ++ t ∷ []) (sym is) in
     let all : map occurrence_of (tokens_at tokens (take (k + 1) run)) ≡ map occurrence_of front ++ occurrence_of token ∷ [] = ap (map occurrence_of) more ∙ map-append occurrence_of front (token ∷ []) in
     subst (λ os. IsEntryBegun i limit ts omit payloads es os new) (sym all)
     (subst (IsEntryBegun i limit ts omit payloads es (map occurrence_of front ++ occurrence_of token ∷ [])) (sym adds) (occurrence-added i limit ts omit payloads es (map occurrence_of front) (occurrence_of token) s b))
@@ -58,7 +57,7 @@ entry-done omit document tokens before freq s m n new (place, begins) often list
     let done = entry-ended i limit ts om payloads es (listed_occurrences omit tokens) e n (listed-kept omit tokens) begun in
     let where_is : before ≡ length (prx_bytes payloads es) = place ∙ entry-before i limit ts om payloads es s b in
     let same : entry_added n (record { doc = document; freq = frequency e.occurrences; prox = length (prx_bytes payloads es) }) ≡ new =
-        ap (λ k. entry_added n (record { doc = document; freq = frequency e.occurrences; prox = k })) (sym where_is) ∙ ap (λ k. entry_added n (record { doc = document; freq = k; prox = before })) (sym often) ∙ sym ends in
+    ap (λ k. entry_added n (record { doc = document; freq = frequency e.occurrences; prox = k })) (sym where_is) ∙ ap (λ k. entry_added n (record { doc = document; freq = k; prox = before })) (sym often) ∙ sym ends in
     subst (IsTermBegun i limit ts om payloads (es ++ e ∷ [])) same done
 
 -- positions before an entry that pass the limit

@@ -1,5 +1,5 @@
 -- The terms of all columns, field by field in the order of their names, are the terms of the documents in their order.
-use Rattle.std.proofs.Common.{◌≡◌, ◌≢◌, ◌⊎◌, refl, ap, sym, ◌∙◌, subst, ℕ, suc, ◌+◌, ◌<◌, ◌++◌, List, [], ◌∷◌, length, map, Bool, true, false, cond, Option, None, Some, All, Contains, IsUtf8, inl, inr, arith}
+use Rattle.std.proofs.Common.{◌≡◌, ◌≢◌, refl, ap, sym, ◌∙◌, subst, ℕ, suc, ◌++◌, List, [], ◌∷◌, map, cond, Option, None, Some, All, IsUtf8, inl, inr, arith}
 use Rattle.std.specs.Prelude.{option_map}
 use Rattle.std.specs.List.{find, flat_map, AllByRecursion}
 use Rattle.std.specs.List.Sorted.{IsStrictlySortedBy}
@@ -17,7 +17,7 @@ use Rattle.lu_types.specs.declared.document.IndexedField.{IndexedField}
 use Rattle.lu_types.specs.declared.document.Token.{Token}
 use Rattle.lu_model.specs.Index.{Term, term_cmp, in_order}
 use Rattle.lu_model.specs.Contents.{Content, content_of}
-use Rattle.lu_model.proofs.Words.{IsIn, HaveSame, IsTerm}
+use Rattle.lu_model.proofs.Words.{IsIn, IsTerm}
 use Rattle.lu_model.proofs.Among.{in_left, in_right, in_either, in_map, from_map, in_flat_map, from_flat_map, in-from_contains, contains-from_in}
 use Rattle.lu_model.proofs.Alike.{term_order, terms_level}
 use Rattle.lu_model.proofs.Held.{StandsIn, stands_in, in_terms}
@@ -78,9 +78,9 @@ rises-all [] h = tt
 rises-all (c ∷ columns) h =
     rises-append (terms_of_column c) (terms_of_columns columns) (rises-named c.name (texts_of c.column) (rises-in_order text_cmp text_order (column_texts c.column))) (rises-all columns h.1)
     (λ x p y q.
-        let d = from_flat_map terms_of_column y columns q in
-        let low : text_cmp c.name d.0.name ≡ Less = least text_cmp text_order c.name d.0.name (map (λ (e : NamedColumn). e.name) columns) h.0 (in_map (λ (e : NamedColumn). e.name) d.0 columns d.1) in
-        ap (λ n. ordering_then (text_cmp n y.field) (text_cmp x.text y.text)) (field-named c x p) ∙ ap (λ n. ordering_then (text_cmp c.name n) (text_cmp x.text y.text)) (field-named d.0 y d.2) ∙ ap (λ o. ordering_then o (text_cmp x.text y.text)) low)
+    let d = from_flat_map terms_of_column y columns q in
+    let low : text_cmp c.name d.0.name ≡ Less = least text_cmp text_order c.name d.0.name (map (λ (e : NamedColumn). e.name) columns) h.0 (in_map (λ (e : NamedColumn). e.name) d.0 columns d.1) in
+    ap (λ n. ordering_then (text_cmp n y.field) (text_cmp x.text y.text)) (field-named c x p) ∙ ap (λ n. ordering_then (text_cmp c.name n) (text_cmp x.text y.text)) (field-named d.0 y d.2) ∙ ap (λ o. ordering_then o (text_cmp x.text y.text)) low)
 
 -- ---- where a name appears
 
@@ -102,9 +102,9 @@ found-origin name n doc s (Some f) is (inr h) = absurd h
 origin : (name : List ℕ) (n : ℕ) (docs : List Document) (s : Appeared) → IsIn s (column_from name n docs) → Origin name docs s.field
 origin name n [] s h = absurd h
 origin name n (doc ∷ docs) s h = elim (in_either s (found_in name n doc.indexed) (column_from name (suc n) docs) h) [
-    inl here ↦ (let r = found-origin name n doc s (find (is_named name) doc.indexed) refl here in record { doc = doc; inside = inl refl; own = r.0; named = r.1 })
+  | inl here ↦ (let r = found-origin name n doc s (find (is_named name) doc.indexed) refl here in record { doc = doc; inside = inl refl; own = r.0; named = r.1 })
   | inr there ↦ (let r = origin name (suc n) docs s there in record { doc = r.doc; inside = inr r.inside; own = r.own; named = r.named })
-  ]
+]
 
 -- a field is the one that is found by its name
 unnamed : (name : List ℕ) (fields : List IndexedField) (field : IndexedField) → AllByRecursion (λ other. name ≢ other) (names_of fields) → IsIn field fields → name ≡ field.field → ⊥

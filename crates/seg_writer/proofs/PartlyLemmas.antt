@@ -1,15 +1,13 @@
 -- The entries of a term, one run of uses more.
-use Rattle.std.proofs.Common.{◌≡◌, refl, ap, sym, ◌∙◌, subst, ℕ, zero, suc, ◌+◌, ◌-◌, ◌<◌, ◌≤◌, ◌⊎◌, ◌^◌, ◌++◌, List, [], ◌∷◌, length, take, drop, get_or, Bool, true, false, cond, inl, inr, None, All, Ok, Err, Result, arith}
-use Rattle.std.proofs.lemmas.List.{append_assoc, append-nil, length-append, length-drop, get_or-drop, drop-drop, drop_all, drop_more, get_or_default}
+use Rattle.std.proofs.Common.{◌≡◌, refl, ap, sym, ◌∙◌, subst, ℕ, suc, ◌+◌, ◌<◌, ◌≤◌, ◌⊎◌, ◌^◌, ◌++◌, List, [], ◌∷◌, length, take, drop, get_or, Bool, false, cond, inl, inr, None, Err, arith}
+use Rattle.std.proofs.lemmas.List.{append_assoc, append-nil, length-append, length-drop, get_or-drop, drop-drop, drop_more, get_or_default}
 use Rattle.std.proofs.Math.Seq.{drop-append_seam, take-append_seam}
-use Rattle.lu_types.specs.DocFaults.{AreSoundTokens}
-use Rattle.lu_types.specs.declared.document.Token.{Token}
 use Rattle.lu_types.specs.declared.document.Vector.TheVariants.{Off}
 use Rattle.lu_model.specs.Index.{IndexedEntry}
 use Rattle.lu_model.specs.Contents.{tokens_with}
 use Rattle.freq_skips.specs.Written.{last_doc}
 use Rattle.segment_files.specs.Postings.{PostingIntervals, KeptTerm, handed_from, parts_of, prx_bytes, prx_occurrences}
-use Rattle.posting_files.specs.States.{PostingState, IsTermBegun, entry_begun, is_within}
+use Rattle.posting_files.specs.States.{PostingState, IsTermBegun, entry_begun}
 use Rattle.posting_files.proofs.PostingLemmas.{entry-begun, end-may, prx_bytes-append}
 use Rattle.positions.specs.Written.{document_bytes}
 use Rattle.seg_writer.specs.declared.columns.Appearance.{Appearance}
@@ -19,7 +17,7 @@ use Rattle.seg_writer.specs.declared.fault.WriteFault.TheVariants.{Doc, TooLarge
 use Rattle.seg_writer.specs.Columns.{tokens_in, uses_among, uses_from, uses_of}
 use Rattle.seg_writer.specs.Entries.{entry_with, entries_of, run_length, tokens_at, last_document, AddsEntries, IsColumn, IsRun, IsTermFresh, IsPartly, MayFollow}
 use Rattle.seg_writer.proofs.TokenLemmas.{tokens-from, run-among, uses-few, uses-many, empty-none}
-use Rattle.seg_writer.proofs.RunLemmas.{NextRun, next-run, run-is}
+use Rattle.seg_writer.proofs.RunLemmas.{next-run, run-is}
 
 pub length-nil : (us : List Use) → length us ≡ 0 → us ≡ []
 length-nil [] none = refl
@@ -127,19 +125,20 @@ run-next column text omit passed rest first d valid x =
     let ts = tokens_in (get_or column first.entry d) in
     let few = uses-few text first.entry ts in
     let small = valid.numberable.tokens first.entry d x.inside in
-    let size = ap length x.run in
-    (subst (IsRun ts) (sym x.run) (run-among text first.entry ts (valid.sound first.entry d x.inside)),
-     subst (λ w. 0 < length w) (sym x.run) x.some,
-     omega (arith, few, small, size))
+    let size = ap length x.run in (
+      subst (IsRun ts) (sym x.run) (run-among text first.entry ts (valid.sound first.entry d x.inside)),
+      subst (λ w. 0 < length w) (sym x.run) x.some,
+      omega (arith, few, small, size),
+    )
 
 pub follow-next : (column : List Appearance) (text : List ℕ) (omit : Bool) (rest : List Use) (old s : PostingState) (first : Use) (d : Appearance) (p : IsPartly column text omit rest old s) → IsTermFresh old
     → IsNext column text omit p.passed rest first d → MayFollow (get_or column first.entry d).doc s
 follow-next column text omit rest old s first d p (i, limit, ts, om, payloads, fresh) x within =
     let begun = p.begun i limit ts om payloads fresh in
     let order : (p.entries ≡ []) ⊎ (last_doc 0 (handed_from payloads 0 p.entries) < (get_or column first.entry d).doc) = elim (p.below first.entry d x.low x.inside) [
-        inl none ↦ inl none
+      | inl none ↦ inl none
       | inr above ↦ inr (subst (λ n. n < (get_or column first.entry d).doc) (sym (last_doc-handed payloads 0 0 p.entries)) above)
-      ] in
+    ] in
     end-may i limit ts om payloads p.entries [] (get_or column first.entry d).doc (entry_begun s) (entry-begun i limit ts om payloads p.entries s begun) order within
 
 no-entries : (text : List ℕ) (omit : Bool) (n : ℕ) (column : List Appearance) → uses_from text n column ≡ [] → entries_of omit text column ≡ []

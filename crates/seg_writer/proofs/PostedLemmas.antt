@@ -1,10 +1,9 @@
 -- The terms of a column are written, one more.
-use Rattle.std.proofs.Common.{◌≡◌, refl, ap, sym, ◌∙◌, subst, ℕ, zero, suc, ◌+◌, ◌<◌, ◌≤◌, ◌⊎◌, ◌^◌, ◌++◌, List, [], ◌∷◌, length, map, take, drop, get_or, Bool, true, false, cond, All, Ok, Err, Result, arith}
-use Rattle.std.proofs.lemmas.List.{append_assoc, append-nil, length-append, map-append, take_more, take_all, take-append-drop}
+use Rattle.std.proofs.Common.{◌≡◌, refl, ap, sym, ◌∙◌, subst, ℕ, zero, suc, ◌+◌, ◌<◌, ◌≤◌, ◌++◌, List, [], ◌∷◌, length, take, drop, get_or, Bool, true, Err, arith}
+use Rattle.std.proofs.lemmas.List.{append_assoc, length-append, map-append, take_more, take-append-drop}
 use Rattle.lu_types.specs.declared.document.Token.{Token}
-use Rattle.lu_model.specs.Index.{IndexedEntry}
 use Rattle.lu_model.specs.Contents.{tokens_with}
-use Rattle.segment_files.specs.Postings.{PostingIntervals, PostingParts, KeptTerm, parts_of, prx_bytes}
+use Rattle.segment_files.specs.Postings.{PostingIntervals, PostingParts, KeptTerm}
 use Rattle.posting_files.specs.declared.fault.PostingFault.{PostingFault}
 use Rattle.posting_files.specs.declared.fault.PostingFault.TheVariants as posting
 use Rattle.posting_files.specs.States.{PostingState, ArePostings, IsTermBegun, Steps, is_within, term_begun, term_finished}
@@ -15,11 +14,11 @@ use Rattle.seg_writer.specs.declared.terms.Kept.{Kept}
 use Rattle.seg_writer.specs.declared.fault.WriteFault.{WriteFault}
 use Rattle.seg_writer.specs.declared.fault.WriteFault.TheVariants.{Doc, TooLarge, OutOfMemory}
 use Rattle.seg_writer.specs.Answers.{write_fault}
-use Rattle.seg_writer.specs.Columns.{tokens_in, uses_among, uses_from, uses_of}
-use Rattle.seg_writer.specs.Entries.{entry_with, entry_if_any, entries_of, AddsEntries, AddsTerms, IsTermFresh, IsBetweenTerms}
+use Rattle.seg_writer.specs.Columns.{tokens_in, uses_among, uses_from}
+use Rattle.seg_writer.specs.Entries.{entry_if_any, entries_of, AddsEntries, AddsTerms, IsTermFresh, IsBetweenTerms}
 use Rattle.seg_writer.specs.Terms.{term_in, terms_in}
 use Rattle.seg_writer.specs.Texts.{texts_in}
-use Rattle.seg_writer.proofs.TokenLemmas.{uses-many, empty-some, empty-none}
+use Rattle.seg_writer.proofs.TokenLemmas.{uses-many}
 
 -- ---- how many entries a text has
 
@@ -111,7 +110,7 @@ between-after kept column text s new (i, limit, ts, h) after = (i, limit, ts ++ 
 terms-more : (kept : Kept) (column : List Appearance) (terms : List Inverted) (k : ℕ) (t : Inverted) → k < length terms → t ≡ get_or terms k t → terms_in kept column (texts_in (take k terms)) ++ term_in kept column t.text.now ∷ [] ≡ terms_in kept column (texts_in (take (k + 1) terms))
 terms-more kept column terms k t lt is =
     let more : texts_in (take (k + 1) terms) ≡ texts_in (take k terms) ++ t.text.now ∷ [] =
-        ap texts_in (take_more terms k t lt) ∙ map-append (λ (x : Inverted). x.text.now) (take k terms) (get_or terms k t ∷ []) ∙ ap (λ (x : Inverted). texts_in (take k terms) ++ x.text.now ∷ []) (sym is) in
+    ap texts_in (take_more terms k t lt) ∙ map-append (λ (x : Inverted). x.text.now) (take k terms) (get_or terms k t ∷ []) ∙ ap (λ (x : Inverted). texts_in (take k terms) ++ x.text.now ∷ []) (sym is) in
     sym (ap (terms_in kept column) more ∙ map-append (term_in kept column) (texts_in (take k terms)) (t.text.now ∷ []))
 
 pub terms-next : (kept : Kept) (column : List Appearance) (terms : List Inverted) (k : ℕ) (t : Inverted) (old s new : PostingState) → k < length terms → t ≡ get_or terms k t
@@ -133,6 +132,6 @@ terms-not-added kept column terms k t fault old s new lt is so_far says i limit 
     let own = says i limit (ts ++ front) (so_far i limit ts h) in
     let seen : AddsTerms i limit (ts ++ next) new (Err fault) = subst (λ us. AddsTerms i limit us new (Err fault)) (append_assoc ts front (term_in kept column t.text.now ∷ []) ∙ ap (λ w. ts ++ w) (terms-more kept column terms k t lt is)) own in
     let all : next ++ back ≡ terms_in kept column (texts_in terms) =
-        sym (map-append (term_in kept column) (texts_in (take (k + 1) terms)) (texts_in (drop (k + 1) terms)))
-        ∙ ap (terms_in kept column) (sym (map-append (λ (x : Inverted). x.text.now) (take (k + 1) terms) (drop (k + 1) terms)) ∙ ap texts_in (take-append-drop (k + 1) terms)) in
+    sym (map-append (term_in kept column) (texts_in (take (k + 1) terms)) (texts_in (drop (k + 1) terms)))
+    ∙ ap (terms_in kept column) (sym (map-append (λ (x : Inverted). x.text.now) (take (k + 1) terms) (drop (k + 1) terms)) ∙ ap texts_in (take-append-drop (k + 1) terms)) in
     subst (λ us. AddsTerms i limit us new (Err fault)) (append_assoc ts next back ∙ ap (λ w. ts ++ w) all) (faults-grow i limit (ts ++ next) back fault new new seen)

@@ -1,17 +1,15 @@
 -- The columns of sound documents are sound.
-use Rattle.std.proofs.Common.{◌≡◌, refl, ap, sym, ◌∙◌, subst, ℕ, zero, suc, ◌+◌, ◌-◌, ◌<◌, ◌≤◌, ◌^◌, ◌++◌, List, [], ◌∷◌, length, map, get_or, Option, None, Some, All, inl, inr, arith}
+use Rattle.std.proofs.Common.{◌≡◌, refl, sym, subst, ℕ, zero, suc, ◌+◌, ◌<◌, ◌≤◌, ◌^◌, ◌++◌, List, [], ◌∷◌, length, map, get_or, Option, None, Some, inl, inr, arith}
 use Rattle.std.specs.Prelude.{option_map}
 use Rattle.std.specs.List.{find, AllByRecursion}
 use Rattle.std.specs.Option.{option_to_list}
 use Rattle.std.proofs.lemmas.List.{length-map}
-use Rattle.lu_types.specs.DocFaults.{AreSoundTokens}
 use Rattle.lu_types.specs.declared.document.Document.{Document}
 use Rattle.lu_types.specs.declared.document.IndexedField.{IndexedField}
 use Rattle.lu_model.proofs.Words.{IsIn}
 use Rattle.lu_model.proofs.Tables.{find_in}
 use Rattle.seg_writer.specs.declared.columns.Appearance.{Appearance}
-use Rattle.seg_writer.specs.Appearing.{Appeared, appeared, appeared_in, column_from, found_in, is_named}
-use Rattle.seg_writer.specs.Columns.{tokens_in}
+use Rattle.seg_writer.specs.Appearing.{Appeared, appeared, appeared_in, column_from, is_named}
 use Rattle.seg_writer.specs.Entries.{IsColumn, IsWritableField, AreWritableDocuments}
 
 -- from a document on these rise, are below a bound, and their fields can be written

@@ -1,13 +1,12 @@
 -- Stored values, one more.
-use Rattle.std.proofs.Common.{◌≡◌, refl, ap, sym, ◌∙◌, subst, ℕ, suc, ◌+◌, ◌<◌, ◌≤◌, ◌≢◌, ◌^◌, ◌++◌, List, [], ◌∷◌, length, map, take, get_or, Option, None, Some, Bool, if◌then◌else◌, ◌==◌, arith}
-use Rattle.std.specs.Prelude.{nat_lt, cond, Err}
+use Rattle.std.proofs.Common.{◌≡◌, ap, sym, ◌∙◌, ℕ, ◌+◌, ◌<◌, ◌≤◌, ◌≢◌, ◌^◌, ◌++◌, List, [], ◌∷◌, length, take, get_or, None, Some, if◌then◌else◌, arith}
+use Rattle.std.specs.Prelude.{cond, Err}
 use Rattle.std.specs.List.{flat_map}
 use Rattle.std.proofs.lemmas.List.{length-append, length-map, length-take, take_more, take_all, map-append}
-use Rattle.std.proofs.lemmas.List.Concat.{flat_map-cons}
 use Rattle.std.proofs.lemmas.List.Folds.{length-flat_map-take}
 use Rattle.std.proofs.lemmas.List.{get_or-map}
 use Rattle.std.proofs.lemmas.Bool.{eq-eqb, ne_eqb, lt-ltb}
-use Rattle.lu_grammar.specs.Parts.{int32, num, text, spelling, groups}
+use Rattle.lu_grammar.specs.Parts.{int32, num, spelling, groups}
 use Rattle.stored_fields.specs.Format.{store_format}
 use Rattle.lu_types.specs.Documents.{stored_bytes}
 use Rattle.lu_types.specs.StoredFields.{StoredField}
@@ -18,7 +17,7 @@ use Rattle.lu_types.specs.declared.stored.Stored.{Stored}
 use Rattle.lu_types.specs.declared.stored.Stored.TheVariants.{Text, Binary}
 use Rattle.lu_types.specs.declared.stored.StoredValue.{StoredValue}
 use Rattle.lu_model.specs.Contents.{stored_in, field_number}
-use Rattle.stored_fields.specs.Writing.{HeldDocuments, OpenDocument, with_document, with_stored, one_longer, value_bits, value_bytes, content_bytes, document_bytes, fdt_bytes, fdx_bytes}
+use Rattle.stored_fields.specs.Writing.{HeldDocuments, OpenDocument, with_document, with_stored, value_bits, value_bytes, content_bytes, document_bytes, fdt_bytes, fdx_bytes}
 use Rattle.segment_files.specs.Written.{first_past}
 use Rattle.posting_files.specs.States.{named}
 use Rattle.seg_writer.specs.declared.fault.WriteFault.{WriteFault}

@@ -1,16 +1,14 @@
 -- The texts of a column, each once, in their order.
-use Rattle.std.proofs.Common.{◌≡◌, refl, ap, sym, ◌∙◌, subst, ℕ, zero, suc, ◌+◌, ◌<◌, ◌≤◌, ◌⊎◌, ◌^◌, ◌++◌, List, [], ◌∷◌, length, map, get_or, Bool, true, false, cond, if◌then◌else◌, bytes_eq, All, Contains, IsUtf8, inl, inr, arith}
-use Rattle.std.specs.declared.cmp.Ordering.TheVariants.{Equal}
-use Rattle.std.specs.List.{flat_map}
+use Rattle.std.proofs.Common.{◌≡◌, refl, ap, sym, subst, ℕ, zero, suc, ◌<◌, ◌≤◌, ◌^◌, ◌++◌, List, [], ◌∷◌, length, map, get_or, true, false, if◌then◌else◌, bytes_eq, All, IsUtf8, inl, inr, arith}
 use Rattle.std.specs.Cmp.Lexicographic.{bytes_decides}
-use Rattle.std.proofs.lemmas.List.{length-append, get_or-map, length-map}
+use Rattle.std.proofs.lemmas.List.{length-append}
 use Rattle.lu_prims.specs.Order.{text_cmp}
 use Rattle.lu_prims.proofs.Units.{level_same, text_order}
 use Rattle.lu_types.specs.Bounds.{most_bytes}
 use Rattle.lu_types.specs.DocFaults.{AreSoundTokens}
 use Rattle.lu_types.specs.declared.document.Token.{Token}
-use Rattle.lu_model.proofs.Words.{IsIn, HaveSame}
-use Rattle.lu_model.proofs.Among.{in_left, in_right, in_either, in-from_contains, contains-from_in}
+use Rattle.lu_model.proofs.Words.{IsIn}
+use Rattle.lu_model.proofs.Among.{in_left, in_right, in_either, in-from_contains}
 use Rattle.lu_model.proofs.Ordered.{only_in_order}
 use Rattle.seg_writer.specs.declared.columns.Appearance.{Appearance}
 use Rattle.seg_writer.specs.declared.inverted.Inverted.{Inverted}
@@ -20,9 +18,9 @@ use Rattle.seg_writer.specs.Texts.{AreInverted, column_texts, texts_in, texts_of
 used-token : (text : List ℕ) (entry n : ℕ) (ts : List Token) → 0 < length (uses_among text entry n ts) → IsIn text (map (λ (t : Token). t.text) ts)
 used-token text entry n [] some = absurd (omega (arith, some))
 used-token text entry n (t ∷ ts) some = elim (bytes_eq text t.text) as (λ b. bytes_eq text t.text ≡ b → 0 < length ((if b then use_of entry n ∷ [] else []) ++ uses_among text entry (suc n) ts) → IsIn text (t.text ∷ map (λ (x : Token). x.text) ts)) [
-    true ↦ λ same more. inl ((bytes_decides text t.text).0 same)
+  | true ↦ λ same more. inl ((bytes_decides text t.text).0 same)
   | false ↦ λ other more. inr (used-token text entry (suc n) ts more)
-  ] refl some
+] refl some
 
 token-used : (text : List ℕ) (entry n : ℕ) (ts : List Token) → IsIn text (map (λ (t : Token). t.text) ts) → 0 < length (uses_among text entry n ts)
 token-used text entry n [] h = absurd h
@@ -50,8 +48,8 @@ in-used text n [] h = absurd h
 in-used text n (a ∷ column) h =
     let size = length-append (uses_among text n 0 (tokens_in a)) (uses_from text (suc n) column) in
     elim (in_either text (map (λ (t : Token). t.text) (tokens_in a)) (column_texts column) h) [
-      inl here ↦ (let own = token-used text n 0 (tokens_in a) here in omega (arith, own, size))
-    | inr there ↦ (let rest = in-used text (suc n) column there in omega (arith, rest, size))
+      | inl here ↦ (let own = token-used text n 0 (tokens_in a) here in omega (arith, own, size))
+      | inr there ↦ (let rest = in-used text (suc n) column there in omega (arith, rest, size))
     ]
 
 -- what holds of the text of each term holds of each text that is listed
@@ -87,9 +85,9 @@ token-short text before (t ∷ ts) (first, own, rest) (inr h) = token-short text
 column-short : (text : List ℕ) (column : List Appearance) → All (λ a. AreSoundTokens 0 (tokens_in a)) column → IsIn text (column_texts column) → length text ≤ most_bytes
 column-short text [] sound h = absurd h
 column-short text (a ∷ column) sound h = elim (in_either text (map (λ (t : Token). t.text) (tokens_in a)) (column_texts column) h) [
-    inl here ↦ token-short text 0 (tokens_in a) (sound 0 a (omega arith)) here
+  | inl here ↦ token-short text 0 (tokens_in a) (sound 0 a (omega arith)) here
   | inr there ↦ column-short text column (λ k d lt. sound (suc k) d (omega (arith, lt))) there
-  ]
+]
 
 pub texts-short : (column : List Appearance) (terms : List Inverted) → AreInverted column terms → All (λ a. AreSoundTokens 0 (tokens_in a)) column → All (λ (t : Inverted). length t.text.now < 2 ^ 31) terms
 texts-short column terms h sound k d lt =

@@ -1,7 +1,7 @@
 -- Uses of a text, and the tokens that they are.
-use Rattle.std.proofs.Common.{◌≡◌, ◌≢◌, refl, ap, sym, ◌∙◌, subst, ℕ, zero, suc, add-one, ◌+◌, ◌-◌, ◌<◌, ◌≤◌, ◌++◌, List, [], ◌∷◌, length, map, take, drop, get_or, Bool, true, false, cond, if◌then◌else◌, ◌==◌, bytes_eq, All, arith}
+use Rattle.std.proofs.Common.{◌≡◌, ◌≢◌, refl, ap, sym, ◌∙◌, subst, ℕ, suc, add-one, ◌+◌, ◌<◌, ◌≤◌, ◌++◌, List, [], ◌∷◌, length, drop, get_or, Bool, true, false, cond, if◌then◌else◌, bytes_eq, All, arith}
 use Rattle.std.specs.List.{filter}
-use Rattle.std.proofs.lemmas.List.{append_assoc, length-append, length-map, length-drop, get_or-drop, drop_more}
+use Rattle.std.proofs.lemmas.List.{length-map, length-drop, drop_more}
 use Rattle.std.proofs.lemmas.List.Elements.{All-cons}
 use Rattle.std.proofs.lemmas.Bool.{eq-eqb, ne_eqb}
 use Rattle.lu_types.specs.DocFaults.{AreSoundTokens}
@@ -9,7 +9,7 @@ use Rattle.lu_types.specs.Joins.{is_empty}
 use Rattle.lu_types.specs.declared.document.Token.{Token}
 use Rattle.lu_model.specs.Contents.{tokens_with}
 use Rattle.seg_writer.specs.declared.inverted.Use.{Use}
-use Rattle.seg_writer.specs.Columns.{use_of, uses_here, uses_among}
+use Rattle.seg_writer.specs.Columns.{use_of, uses_among}
 use Rattle.seg_writer.specs.Entries.{no_token, tokens_at, run_length, IsRun}
 
 abbrev head_or : Token → List Token → Token
@@ -35,8 +35,8 @@ tokens-from text entry n tokens [] is = refl
 tokens-from text entry n tokens (t ∷ ts) is =
     let next = from-next tokens n t ts is in
     elim (bytes_eq text t.text) as (λ b. tokens_at tokens ((if b then use_of entry n ∷ [] else []) ++ uses_among text entry (suc n) ts) ≡ cond b (t ∷ tokens_with text ts) (tokens_with text ts)) [
-      true ↦ ap (λ x. x ∷ tokens_at tokens (uses_among text entry (suc n) ts)) next.1 ∙ ap (λ w. t ∷ w) (tokens-from text entry (suc n) tokens ts next.2)
-    | false ↦ tokens-from text entry (suc n) tokens ts next.2
+      | true ↦ ap (λ x. x ∷ tokens_at tokens (uses_among text entry (suc n) ts)) next.1 ∙ ap (λ w. t ∷ w) (tokens-from text entry (suc n) tokens ts next.2)
+      | false ↦ tokens-from text entry (suc n) tokens ts next.2
     ]
 
 within-from : (text : List ℕ) (entry n : ℕ) (tokens ts : List Token) → drop n tokens ≡ ts → All (λ (here : Use). here.token < length tokens) (uses_among text entry n ts)
@@ -44,8 +44,8 @@ within-from text entry n tokens [] is = λ k d lt. absurd (omega (arith, lt))
 within-from text entry n tokens (t ∷ ts) is =
     let next = from-next tokens n t ts is in
     elim (bytes_eq text t.text) as (λ b. All (λ (here : Use). here.token < length tokens) ((if b then use_of entry n ∷ [] else []) ++ uses_among text entry (suc n) ts)) [
-      true ↦ All-cons (λ (here : Use). here.token < length tokens) (use_of entry n) (uses_among text entry (suc n) ts) next.0 (within-from text entry (suc n) tokens ts next.2)
-    | false ↦ within-from text entry (suc n) tokens ts next.2
+      | true ↦ All-cons (λ (here : Use). here.token < length tokens) (use_of entry n) (uses_among text entry (suc n) ts) next.0 (within-from text entry (suc n) tokens ts next.2)
+      | false ↦ within-from text entry (suc n) tokens ts next.2
     ]
 
 sound-lower : (below before : ℕ) (ts : List Token) → below ≤ before → AreSoundTokens before ts → AreSoundTokens below ts
@@ -55,9 +55,9 @@ sound-lower below before (t ∷ ts) le h = let first = h.0 in (omega (arith, le,
 sound-with : (text : List ℕ) (before : ℕ) (ts : List Token) → AreSoundTokens before ts → AreSoundTokens before (tokens_with text ts)
 sound-with text before [] h = tt
 sound-with text before (t ∷ ts) (first, own, rest) = elim (bytes_eq text t.text) as (λ b. AreSoundTokens before (cond b (t ∷ tokens_with text ts) (tokens_with text ts))) [
-    true ↦ (first, own, sound-with text t.position ts rest)
+  | true ↦ (first, own, sound-with text t.position ts rest)
   | false ↦ sound-lower before t.position (tokens_with text ts) first (sound-with text t.position ts rest)
-  ]
+]
 
 pub run-among : (text : List ℕ) (entry : ℕ) (tokens : List Token) → AreSoundTokens 0 tokens → IsRun tokens (uses_among text entry 0 tokens)
 run-among text entry tokens sound = record {
@@ -91,10 +91,10 @@ run-own text entry n (t ∷ ts) us =
     let rest = run-own text entry (suc n) ts us in
     let next = uses_among text entry (suc n) ts in
     elim (bytes_eq text t.text) as (λ b. run_length entry (((if b then use_of entry n ∷ [] else []) ++ next) ++ us) ≡ length ((if b then use_of entry n ∷ [] else []) ++ next) + run_length entry us) [
-      true ↦
+      | true ↦
           let one : run_length entry (use_of entry n ∷ (next ++ us)) ≡ suc (run_length entry (next ++ us)) = ap (λ b. cond b (suc (run_length entry (next ++ us))) 0) (eq-eqb entry entry refl) in
           omega (arith, one, rest)
-    | false ↦ rest
+      | false ↦ rest
     ]
 
 pub run-other : (text : List ℕ) (entry other n : ℕ) (ts : List Token) (us : List Use) → other ≢ entry → run_length entry us ≡ 0 → run_length entry (uses_among text other n ts ++ us) ≡ 0
@@ -102,17 +102,17 @@ run-other text entry other n [] us differs none = none
 run-other text entry other n (t ∷ ts) us differs none =
     let next = uses_among text other (suc n) ts in
     elim (bytes_eq text t.text) as (λ b. run_length entry (((if b then use_of other n ∷ [] else []) ++ next) ++ us) ≡ 0) [
-      true ↦ ap (λ b. cond b (suc (run_length entry (next ++ us))) 0) (ne_eqb other entry differs)
-    | false ↦ run-other text entry other (suc n) ts us differs none
+      | true ↦ ap (λ b. cond b (suc (run_length entry (next ++ us))) 0) (ne_eqb other entry differs)
+      | false ↦ run-other text entry other (suc n) ts us differs none
     ]
 
 -- a use among these is in their field
 pub among-entry : (text : List ℕ) (entry n : ℕ) (ts : List Token) (first : Use) (more : List Use) → uses_among text entry n ts ≡ first ∷ more → first.entry ≡ entry
 among-entry text entry n [] first more is = absurd (let size = ap length is in omega (arith, size))
 among-entry text entry n (t ∷ ts) first more is = elim (bytes_eq text t.text) as (λ b. (if b then use_of entry n ∷ [] else []) ++ uses_among text entry (suc n) ts ≡ first ∷ more → first.entry ≡ entry) [
-    true ↦ λ same. sym (ap (entry_in entry) same)
+  | true ↦ λ same. sym (ap (entry_in entry) same)
   | false ↦ λ same. among-entry text entry (suc n) ts first more same
-  ] is
+] is
   where
     entry_in : ℕ → List Use → ℕ
     entry_in d [] = d

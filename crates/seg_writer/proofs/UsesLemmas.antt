@@ -1,7 +1,6 @@
 -- The uses of a text, one token or document more.
 use Rattle.std.proofs.Common.{◌≡◌, ap, sym, ◌∙◌, ℕ, suc, ◌+◌, ◌<◌, ◌++◌, List, [], ◌∷◌, length, take, if◌then◌else◌, bytes_eq, get_or, true, false, arith}
 use Rattle.std.proofs.lemmas.List.{append_assoc, append-nil, take_more, length-take}
-use Rattle.seg_writer.specs.declared.inverted.Use.{Use}
 use Rattle.lu_types.specs.declared.document.Token.{Token}
 use Rattle.seg_writer.specs.declared.columns.Appearance.{Appearance}
 use Rattle.seg_writer.specs.Columns.{use_of, uses_here, uses_among, uses_from}

@@ -1,5 +1,5 @@
 -- Where the fields of a table appear in documents.
-use Rattle.std.specs.Prelude.{◌≡◌, ℕ, suc, ◌<◌, List, [], ◌∷◌, ◌++◌, length, map, filter, find, Bool, Option, None, Some, option_map, slice_index_or, slice_set, All}
+use Rattle.std.specs.Prelude.{◌≡◌, ℕ, suc, ◌<◌, List, [], ◌∷◌, ◌++◌, length, map, find, Bool, Some, option_map, slice_index_or, slice_set, All}
 use Rattle.std.specs.Option.{option_to_list}
 use Rattle.std.specs.Global.{Global}
 use Rattle.std.specs.Str.{bytes_eq}

@@ -1,5 +1,5 @@
 -- The entries of a text, out of a column.
-use Rattle.std.specs.Prelude.{◌≡◌, ◌<◌, ◌≤◌, ◌^◌, ◌⊎◌, ◌==◌, ℕ, zero, suc, ◌+◌, Bool, true, false, cond, List, [], ◌∷◌, ◌++◌, length, map, drop, All, slice_index_or, Result, Ok, Err, IsSome}
+use Rattle.std.specs.Prelude.{◌≡◌, ◌<◌, ◌≤◌, ◌^◌, ◌⊎◌, ◌==◌, ℕ, suc, Bool, true, cond, List, [], ◌∷◌, ◌++◌, length, map, drop, All, slice_index_or, Result, Ok, Err}
 use Rattle.lu_types.specs.DocFaults.{AreSoundTokens}
 use Rattle.lu_types.specs.Joins.{is_empty}
 use Rattle.std.specs.List.{AllByRecursion}
@@ -8,11 +8,10 @@ use Rattle.lu_types.specs.declared.document.IndexedField.{IndexedField}
 use Rattle.lu_types.specs.declared.document.Token.{Token}
 use Rattle.lu_types.specs.declared.kind.FileKind.TheVariants.{Prx}
 use Rattle.lu_model.specs.Contents.{tokens_with}
-use Rattle.lu_model.specs.Index.{Occurrence, Occurrences, given, omitted, IndexedEntry, IndexedTerm}
+use Rattle.lu_model.specs.Index.{Occurrence, Occurrences, given, omitted, IndexedEntry}
 use Rattle.freq_skips.specs.Written.{last_doc}
 use Rattle.segment_files.specs.Postings.{PostingIntervals, KeptTerm, parts_of, prx_bytes}
 use Rattle.posting_files.specs.States.{PostingState, ArePostings, IsTermBegun, is_within}
-use Rattle.seg_writer.specs.Appearing.{Appeared, appeared}
 use Rattle.seg_writer.specs.Columns.{IsNumberable, tokens_in, uses_from}
 use Rattle.seg_writer.specs.declared.columns.Appearance.{Appearance}
 use Rattle.seg_writer.specs.declared.inverted.Use.{Use}

@@ -28,12 +28,7 @@ pub(crate) fn columns_of<'a>(
 {
     let mut columns = empty_columns(alloc, table.count())?;
     for (number, doc) in docs.iter().enumerate() {
-        match add_fields(
-            &mut columns,
-            table,
-            number as u32,
-            doc.indexed.as_slice(),
-        ) {
+        match add_fields(&mut columns, table, number as u32, doc.indexed.as_slice()) {
             Ok(()) => {}
             Err(error) => return Err(error),
         }
@@ -42,10 +37,7 @@ pub(crate) fn columns_of<'a>(
 }
 
 // So many columns in which no field appears.
-fn empty_columns<'a>(
-    alloc: Global,
-    count: usize,
-) -> Result<Vec<Vec<Appearance<'a>>>, OutOfMemory>
+fn empty_columns<'a>(alloc: Global, count: usize) -> Result<Vec<Vec<Appearance<'a>>>, OutOfMemory>
     ensures { IfOk result (λ columns. AreEmpty count columns.items) }
 {
     let mut columns = Vec::new(alloc);

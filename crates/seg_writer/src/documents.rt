@@ -7,7 +7,11 @@ use lu_types::{Document, Limits, first_fault};
 use std::alloc::Global;
 
 /// That no document has a fault, or the first that does.
-pub(crate) fn check_documents(alloc: Global, docs: &[Document], limits: &Limits) -> Result<(), WriteFault>
+pub(crate) fn check_documents(
+    alloc: Global,
+    docs: &[Document],
+    limits: &Limits,
+) -> Result<(), WriteFault>
     requires { length docs.now < 2 ^ 31 }
     ensures { JudgesDocuments docs.now limits.now result }
 {

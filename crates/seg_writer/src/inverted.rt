@@ -54,13 +54,10 @@ fn add_tokens<'a>(
     ensures used { OnOk result (AreUsed groups.old → AreUsed groups.new) }
 {
     for (number, token) in tokens.iter().enumerate() {
-        groups
-            .entry(token.text.as_str())?
-            .or_default()
-            .push(Use {
-                entry,
-                token: number as u32,
-            })?;
+        groups.entry(token.text.as_str())?.or_default().push(Use {
+            entry,
+            token: number as u32,
+        })?;
     }
     Ok(())
 }

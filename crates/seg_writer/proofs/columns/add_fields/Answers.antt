@@ -1,4 +1,4 @@
-use Rattle.std.proofs.Common.{sym, ap, subst, ◌∙◌, ◌+◌, List}
+use Rattle.std.proofs.Common.{sym, ap, subst, ◌∙◌, ◌+◌}
 use Rattle.std.specs.Global.{Global}
 use Rattle.std.specs.declared.vec.Vec.{Vec}
 use Rattle.lu_types.specs.Tables.{number_of}
@@ -20,8 +20,8 @@ loop-field-preserved c =
     let old = c.args.columns.now.items in
     let named = ap (λ q. number_of q table) (sym c.as_str.ensures.same) in
     elim c.match-find.branch [
-      in-Some+in-Ok w ↦ subst (λ (v : Vec (Vec Appearance Global) Global). HaveMore (so_far table c.args.doc fields (i + 1)) old v.items) (sym w.columns-is)
+      | in-Some+in-Ok w ↦ subst (λ (v : Vec (Vec Appearance Global) Global). HaveMore (so_far table c.args.doc fields (i + 1)) old v.items) (sym w.columns-is)
           (columns-put table c.args.doc fields i field w.in-Some.number old c.loop-field.columns.items w.add_to.new.columns.items c.requires.first c.requires.count c.loop-field-test.true c.field-item.is (named ∙ sym w.in-Some.ensures.found) w.in-Some.ensures.below w.in-Ok.ensures c.loop-field.invariant)
-    | in-None w ↦ subst (λ (v : Vec (Vec Appearance Global) Global). HaveMore (so_far table c.args.doc fields (i + 1)) old v.items) (sym w.columns-is)
+      | in-None w ↦ subst (λ (v : Vec (Vec Appearance Global) Global). HaveMore (so_far table c.args.doc fields (i + 1)) old v.items) (sym w.columns-is)
           (columns-kept table c.args.doc fields i field old c.loop-field.columns.items c.requires.first c.requires.count c.loop-field-test.true c.field-item.is (named ∙ sym w.in-None.ensures.found) c.loop-field.invariant)
     ]

@@ -1,7 +1,4 @@
-use Rattle.std.proofs.Common.{◌∙◌, ap, refl, ◌++◌, ◌∷◌, []}
-use Rattle.std.specs.Global.{Global}
-use Rattle.std.specs.declared.vec.Vec.{Vec}
-use Rattle.seg_writer.specs.declared.columns.Appearance.{Appearance}
+use Rattle.std.proofs.Common.{refl}
 use Rattle.seg_writer.proofs.ColumnLemmas.{grown-at}
 use Rattle.seg_writer.proofs.columns.add_to.Goals as goal
 

@@ -1,7 +1,3 @@
-use Rattle.std.proofs.Common.{subst, sym, ap, ◌∙◌}
-use Rattle.std.proofs.lemmas.List.{take_all}
-use Rattle.lu_types.specs.declared.document.Document.{Document}
-use Rattle.seg_writer.specs.Appearing.{AreColumns}
 use Rattle.seg_writer.proofs.ColumnLemmas.{columns-more, columns-none}
 use Rattle.seg_writer.proofs.columns.columns_of.Goals as goal
 

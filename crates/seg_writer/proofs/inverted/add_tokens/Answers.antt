@@ -6,6 +6,6 @@ use Rattle.seg_writer.proofs.inverted.add_tokens.Goals as goal
 
 pub loop-number-preserved : goal.loop-number-preserved
 loop-number-preserved c = (
-    λ q. grind (arith, text_keys, append_assoc, append-nil, uses_more_yes, uses_more_no, c.loop-number.invariant.0 q),
-    λ all q g. grind (arith, text_keys, c.loop-number.invariant.1 all q)
+  λ q. grind (arith, text_keys, append_assoc, append-nil, uses_more_yes, uses_more_no, c.loop-number.invariant.0 q),
+  λ all q g. grind (arith, text_keys, c.loop-number.invariant.1 all q),
 )

@@ -15,8 +15,7 @@ moved done more t e left rest all grown is taken was =
 
 pub loop-text-preserved : goal.loop-text-preserved
 loop-text-preserved c =
-    let grown = c.in_ok-push.ensures.items in
-    (
-        moved _ _ _ _ _ _ _ grown c.term_of.ensures.is (rest_more (λ x. x) _ _ _ _ c.in-Some.is c.next.ensures.steps) c.loop-text.invariant.0,
-        subst (λ w. All (λ (t : Inverted). IsUtf8 t.text.now) w) (sym grown) (All-push (λ (t : Inverted). IsUtf8 t.text.now) _ _ c.loop-text.invariant.1 c.term_of.ensures.utf8)
+    let grown = c.in_ok-push.ensures.items in (
+      moved _ _ _ _ _ _ _ grown c.term_of.ensures.is (rest_more (λ x. x) _ _ _ _ c.in-Some.is c.next.ensures.steps) c.loop-text.invariant.0,
+      subst (λ w. All (λ (t : Inverted). IsUtf8 t.text.now) w) (sym grown) (All-push (λ (t : Inverted). IsUtf8 t.text.now) _ _ c.loop-text.invariant.1 c.term_of.ensures.utf8),
     )

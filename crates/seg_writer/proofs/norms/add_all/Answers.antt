@@ -1,4 +1,4 @@
-use Rattle.std.proofs.Common.{◌≡◌, ap, sym, ◌∙◌, subst, ◌++◌, ◌∷◌, [], take}
+use Rattle.std.proofs.Common.{ap, sym, ◌∙◌, ◌++◌, ◌∷◌, [], take}
 use Rattle.std.proofs.lemmas.List.{append_assoc}
 use Rattle.seg_writer.specs.NormColumns.{norm_bytes}
 use Rattle.seg_writer.proofs.NormFileLemmas.{column-in, norm_bytes-more}

@@ -1,4 +1,4 @@
-use Rattle.std.proofs.Common.{◌≡◌, ◌≤◌, ◌<◌, ◌^◌, ◌-◌, ◌++◌, ap, sym, ◌∙◌, subst, length, arith}
+use Rattle.std.proofs.Common.{◌-◌, ◌++◌, ap, sym, ◌∙◌, arith}
 use Rattle.std.proofs.lemmas.Result.{on_ok_weaker}
 use Rattle.seg_writer.specs.NormColumns.{missing_norms}
 use Rattle.seg_writer.proofs.NormLemmas.{added-begun, added-next, added-end, next-fits}
@@ -23,4 +23,4 @@ loop-here-preserved c name docs of =
 pub returns : goal.returns
 returns c =
     on_ok_weaker c.add_missing-2.result (λ filled name docs of. added-end name docs c.args.column.now c.loop-here.here-index c.loop-here.next c.args.writer.now c.loop-here.writer c.add_missing-2.new.writer c.loop-here-test.false (c.loop-here.invariant name docs of)
-      (filled ∙ ap (λ n. c.loop-here.writer ++ missing_norms (n - c.loop-here.next)) (sym of.1))) c.add_missing-2.ensures
+    (filled ∙ ap (λ n. c.loop-here.writer ++ missing_norms (n - c.loop-here.next)) (sym of.1))) c.add_missing-2.ensures

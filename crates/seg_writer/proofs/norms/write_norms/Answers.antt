@@ -1,4 +1,4 @@
-use Rattle.std.proofs.Common.{◌≡◌, ◌<◌, ◌≤◌, ◌+◌, ◌*◌, ◌++◌, ap, sym, ◌∙◌, subst, arith}
+use Rattle.std.proofs.Common.{◌<◌, ◌≤◌, ◌+◌, ◌*◌, ◌++◌, ap, ◌∙◌, subst, arith}
 use Rattle.check_index.specs.Norms.{norm_count}
 use Rattle.seg_writer.specs.NormColumns.{norm_bytes}
 use Rattle.seg_writer.proofs.NormFileLemmas.{norms-past, norms-within}

@@ -1,4 +1,4 @@
-use Rattle.std.proofs.Common.{refl, ap, ◌∙◌, subst, ◌≤◌, ◌^◌, length}
+use Rattle.std.proofs.Common.{refl, subst, ◌≤◌, ◌^◌, length}
 use Rattle.seg_writer.proofs.StoreLemmas.{many-values, long-value}
 use Rattle.seg_writer.proofs.stored.write_values.Goals as goal
 

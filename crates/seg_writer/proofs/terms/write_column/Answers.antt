@@ -1,7 +1,7 @@
-use Rattle.std.proofs.Common.{ap, sym, ◌∙◌, subst, ◌++◌}
+use Rattle.std.proofs.Common.{sym, subst, ◌++◌}
 use Rattle.seg_writer.specs.Entries.{AddsTerms}
 use Rattle.seg_writer.specs.Terms.{terms_in}
-use Rattle.seg_writer.specs.Texts.{AreInverted, texts_in}
+use Rattle.seg_writer.specs.Texts.{AreInverted}
 use Rattle.seg_writer.proofs.TextLemmas.{inverted-texts, texts-short}
 use Rattle.seg_writer.proofs.terms.write_column.Goals as goal
 

@@ -1,6 +1,6 @@
-use Rattle.std.proofs.Common.{ap, sym, ◌∙◌, subst, ◌++◌, take, get_or}
+use Rattle.std.proofs.Common.{sym, subst, ◌++◌}
 use Rattle.std.specs.Prelude.{flat_map}
-use Rattle.std.proofs.lemmas.List.{append-nil, take_all, get_or_default}
+use Rattle.std.proofs.lemmas.List.{append-nil, take_all}
 use Rattle.posting_files.specs.States.{ArePostings}
 use Rattle.seg_writer.specs.Terms.{kept_column_terms}
 use Rattle.seg_writer.proofs.BlockLemmas.{blocks-next, blocks-not-added}

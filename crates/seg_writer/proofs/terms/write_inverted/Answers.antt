@@ -1,4 +1,4 @@
-use Rattle.std.proofs.Common.{ap, sym, ◌∙◌, subst, ◌++◌, take}
+use Rattle.std.proofs.Common.{sym, subst, ◌++◌}
 use Rattle.std.proofs.lemmas.List.{append-nil, take_all}
 use Rattle.posting_files.specs.States.{ArePostings}
 use Rattle.seg_writer.specs.Terms.{terms_in}

@@ -1,9 +1,6 @@
-use Rattle.std.proofs.Common.{◌≡◌, ◌<◌, ◌^◌, ap, sym, ◌∙◌, subst, ℕ, Bool, Err, List, [], ◌∷◌, ◌++◌, length, arith}
-use Rattle.segment_files.specs.Postings.{PostingIntervals, KeptTerm}
-use Rattle.posting_files.specs.States.{ArePostings, term_begun}
+use Rattle.std.proofs.Common.{◌<◌, subst, length, arith}
+use Rattle.posting_files.specs.States.{term_begun}
 use Rattle.seg_writer.specs.Terms.{term_in}
-use Rattle.seg_writer.specs.Columns.{uses_of}
-use Rattle.seg_writer.specs.Entries.{entries_of}
 use Rattle.seg_writer.proofs.PostedLemmas.{entries-few, entries-some, term-may, term-fresh, term-not-begun, term-not-added, term-entries, term-written, between-after}
 use Rattle.seg_writer.proofs.terms.write_term.Goals as goal
 

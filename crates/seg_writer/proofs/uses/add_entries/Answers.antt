@@ -1,9 +1,7 @@
-use Rattle.std.proofs.Common.{◌≡◌, ◌≤◌, ◌<◌, ◌^◌, ap, sym, ◌∙◌, subst, ℕ, Bool, Err, List, [], ◌∷◌, ◌++◌, length, take, drop, get_or, arith}
-use Rattle.lu_model.specs.Index.{IndexedEntry}
-use Rattle.segment_files.specs.Postings.{PostingIntervals, KeptTerm}
+use Rattle.std.proofs.Common.{◌≤◌, ◌<◌, ◌^◌, ap, sym, ◌∙◌, subst, Err, [], ◌∷◌, ◌++◌, length, take, drop, get_or, arith}
 use Rattle.posting_files.specs.States.{IsTermBegun}
 use Rattle.seg_writer.specs.declared.columns.Appearance.{Appearance}
-use Rattle.seg_writer.specs.Entries.{AddsEntries, MayFollow, run_length}
+use Rattle.seg_writer.specs.Entries.{AddsEntries, MayFollow}
 use Rattle.seg_writer.proofs.PartlyLemmas.{no_use, no_appearance, length-nil, next-at, run-at, entry-at, follow-next, partly-begun, partly-next, partly-past, partly-end}
 use Rattle.seg_writer.proofs.uses.add_entries.Goals as goal
 

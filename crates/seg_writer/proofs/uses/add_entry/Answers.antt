@@ -1,8 +1,8 @@
-use Rattle.std.proofs.Common.{◌≡◌, ◌-◌, length, ap, sym, ◌∙◌, subst, ℕ, Bool, List, [], ◌∷◌, ◌++◌}
+use Rattle.std.proofs.Common.{◌≡◌, ◌-◌, length, ap, ◌∙◌, subst, ℕ, Bool, List, [], ◌∷◌, ◌++◌}
 use Rattle.lu_model.specs.Index.{IndexedEntry}
 use Rattle.segment_files.specs.Postings.{PostingIntervals, KeptTerm}
 use Rattle.posting_files.specs.States.{PostingState, IsTermBegun, entry_begun}
-use Rattle.seg_writer.specs.Entries.{entry_with, tokens_at, MayFollow}
+use Rattle.seg_writer.specs.Entries.{entry_with, tokens_at}
 use Rattle.seg_writer.proofs.OccurrenceLemmas.{begin-fault, entry-done, may-still}
 use Rattle.seg_writer.proofs.uses.add_entry.Goals as goal
 

@@ -1,7 +1,6 @@
-use Rattle.std.proofs.Common.{◌≡◌, ap, sym, ◌∙◌, subst, ◌+◌, false, drop, get_or, arith}
+use Rattle.std.proofs.Common.{◌≡◌, ap, sym, ◌∙◌, subst, ◌+◌, false, drop, get_or}
 use Rattle.std.proofs.lemmas.List.{get_or_default, take_all}
 use Rattle.lu_types.specs.DocFaults.{AreSoundTokens}
-use Rattle.lu_types.specs.declared.document.Token.{Token}
 use Rattle.posting_files.specs.States.{PostingState, IsEntryBegun, occurrence_added}
 use Rattle.seg_writer.specs.Entries.{no_token, occurrence_of, listed_occurrences, tokens_at}
 use Rattle.seg_writer.proofs.OccurrenceLemmas.{tokens-left, occurrences-next}

@@ -1,0 +1,10 @@
+pub mod Answers
+pub mod Appearing
+pub mod Columns
+pub mod Entries
+pub mod Groups
+pub mod NormColumns
+pub mod Orders
+pub mod Stores
+pub mod Terms
+pub mod Texts

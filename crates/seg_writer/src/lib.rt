@@ -1,0 +1,18 @@
+//! A segment written from documents, piece by piece: documents are judged; their field table, stored values and norms are written;
+//! their indexed fields are gathered in columns, and the terms of a column are written.
+#![tactic(auto)]
+
+mod columns;
+mod documents;
+mod fault;
+mod fields;
+mod inverted;
+pub mod laws;
+mod norms;
+mod stored;
+mod table;
+mod terms;
+mod uses;
+
+pub use fault::WriteFault;
+pub use segment_files::{SegmentFiles, WriteOptions};

@@ -9,7 +9,7 @@ use Rattle.freq_skips.specs.declared.writer.Handed.{Handed}
 use Rattle.freq_skips.specs.Written.{entries_bytes, entry_bytes, last_doc}
 use Rattle.freq_skips.specs.Writing as frq
 use Rattle.freq_skips.specs.Writing.{FrqWriting, bytes_so_far, skip_delta, skips}
-use Rattle.positions.specs.Written.{document_bytes, occurrences_bytes}
+use Rattle.positions.specs.Written.{document_occurrence_bytes, occurrences_bytes}
 use Rattle.positions.proofs.WrittenTerms.{occurrences_bytes-none}
 use Rattle.term_dict.specs.Terms.{DictionaryTerm}
 use Rattle.term_dict.specs.Writing.{TermsWritten, with_written}
@@ -45,9 +45,9 @@ same-writing interval interval_now most most_now bytes bytes_now omit payloads e
 abbrev pub handed : ℕ → IndexedEntry → Handed
 handed before e = record { doc = e.document; freq = frequency e.occurrences; prox = before }
 
-prx_bytes-cons : (payloads : Bool) (e : IndexedEntry) (es : List IndexedEntry) → prx_bytes payloads (e ∷ es) ≡ document_bytes payloads None 0 (prx_occurrences e.occurrences) ++ prx_bytes payloads es
+prx_bytes-cons : (payloads : Bool) (e : IndexedEntry) (es : List IndexedEntry) → prx_bytes payloads (e ∷ es) ≡ document_occurrence_bytes payloads None 0 (prx_occurrences e.occurrences) ++ prx_bytes payloads es
 unfolding occurrences_bytes
-prx_bytes-cons payloads e es = flat_map-cons (λ os. document_bytes payloads None 0 os) (prx_occurrences e.occurrences) (prx_entries es)
+prx_bytes-cons payloads e es = flat_map-cons (λ os. document_occurrence_bytes payloads None 0 os) (prx_occurrences e.occurrences) (prx_entries es)
 
 pub handed_from-more : (payloads : Bool) (before : ℕ) (es : List IndexedEntry) (e : IndexedEntry) → handed_from payloads before (es ++ e ∷ []) ≡ handed_from payloads before es ++ handed (before + length (prx_bytes payloads es)) e ∷ []
 handed_from-more payloads before [] e =
@@ -55,14 +55,14 @@ handed_from-more payloads before [] e =
     let same : before ≡ before + length (prx_bytes payloads []) = omega (arith, none) in
     ap (λ n. handed n e ∷ []) same
 handed_from-more payloads before (x ∷ es) e =
-    let own = length (document_bytes payloads None 0 (prx_occurrences x.occurrences)) in
-    let size : length (prx_bytes payloads (x ∷ es)) ≡ own + length (prx_bytes payloads es) = ap length (prx_bytes-cons payloads x es) ∙ length-append (document_bytes payloads None 0 (prx_occurrences x.occurrences)) (prx_bytes payloads es) in
+    let own = length (document_occurrence_bytes payloads None 0 (prx_occurrences x.occurrences)) in
+    let size : length (prx_bytes payloads (x ∷ es)) ≡ own + length (prx_bytes payloads es) = ap length (prx_bytes-cons payloads x es) ∙ length-append (document_occurrence_bytes payloads None 0 (prx_occurrences x.occurrences)) (prx_bytes payloads es) in
     let sum : before + own + length (prx_bytes payloads es) ≡ before + length (prx_bytes payloads (x ∷ es)) = omega (arith, size) in
     ap (λ w. handed before x ∷ w) (handed_from-more payloads (before + own) es e ∙ ap (λ n. handed_from payloads (before + own) es ++ handed n e ∷ []) sum)
 
 pub handed_from-length : (payloads : Bool) (before : ℕ) (es : List IndexedEntry) → length (handed_from payloads before es) ≡ length es
 handed_from-length payloads before [] = refl
-handed_from-length payloads before (e ∷ es) = ap suc (handed_from-length payloads (before + length (document_bytes payloads None 0 (prx_occurrences e.occurrences))) es)
+handed_from-length payloads before (e ∷ es) = ap suc (handed_from-length payloads (before + length (document_occurrence_bytes payloads None 0 (prx_occurrences e.occurrences))) es)
 
 -- the bytes of entries grow with each
 grows : (parts : PostingParts) (omit payloads : Bool) (es : List IndexedEntry) (e : IndexedEntry) → length (frq_so_far parts omit payloads es) ≤ length (frq_so_far parts omit payloads (es ++ e ∷ []))
@@ -96,7 +96,7 @@ pub lists-added : (i : PostingIntervals) (p : PostingParts) (omit payloads : Boo
 lists-added i p omit payloads es e s (inl h) =
     let x = handed (length (prx_bytes payloads es)) e in
     let more : handed_from payloads 0 es ++ x ∷ [] ≡ handed_from payloads 0 (es ++ e ∷ []) =
-        (let zero_more : length (prx_bytes payloads es) ≡ 0 + length (prx_bytes payloads es) = omega arith in ap (λ n. handed_from payloads 0 es ++ handed n e ∷ []) zero_more) ∙ sym (handed_from-more payloads 0 es e) in
+    (let zero_more : length (prx_bytes payloads es) ≡ 0 + length (prx_bytes payloads es) = omega arith in ap (λ n. handed_from payloads 0 es ++ handed n e ∷ []) zero_more) ∙ sym (handed_from-more payloads 0 es e) in
     by_within (AreTermLists i p omit payloads (es ++ e ∷ [])) s (record { limit = s.limit; terms = s.terms; freq = frq.added s.freq x; place = s.place })
     (λ w. inl (record {
       lines = record { terms = h.lines.terms };

@@ -1,11 +1,12 @@
 -- Writers of terms, and of which terms they hold the canonical files.
 use Rattle.std.specs.Prelude.{◌≡◌, ◌<◌, ◌≤◌, ◌⊎◌, ℕ, Bool, true, false, cond, List, [], ◌∷◌, ◌++◌, length, map, nat_le, nat_lt, Option, None, Some, Result, Ok, Err}
-use Rattle.lu_model.specs.Index.{Occurrence as IndexedOccurrence, given, omitted, frequency, IndexedEntry, IndexedTerm}
+use Rattle.lu_model.specs.Index.{given, omitted, frequency, IndexedEntry, IndexedTerm}
+use Rattle.lu_types.specs.Occurrences.{Occurrence as IndexedOccurrence}
 use Rattle.freq_skips.specs.declared.writer.Handed.{Handed}
 use Rattle.freq_skips.specs.Written.{entries_bytes}
 use Rattle.freq_skips.specs.Writing as frq
 use Rattle.freq_skips.specs.Writing.{FrqWriting, bytes_so_far, skip_delta}
-use Rattle.positions.specs.Occurrences.{Occurrence}
+use Rattle.lu_types.specs.Occurrences.{Occurrence}
 use Rattle.positions.specs.Writing as prx
 use Rattle.positions.specs.Writing.{WriterState, HoldsTerm, HoldsDocument}
 use Rattle.term_dict.specs.Terms.{DictionaryTerm}

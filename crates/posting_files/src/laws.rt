@@ -1,6 +1,7 @@
 //! What the writer writes: each law stands on a function that does nothing.
 ghost use Rattle.std.specs.Prelude.{◌≡◌, ◌⊎◌, ◌<◌, ◌≤◌, ◌-◌, ℕ, Bool, true, List, [], ◌∷◌, ◌++◌, length, map, Result};
-ghost use Rattle.lu_model.specs.Index.{Occurrence, frequency, IndexedEntry};
+ghost use Rattle.lu_model.specs.Index.{frequency, IndexedEntry};
+ghost use Rattle.lu_types.specs.Occurrences.{Occurrence};
 ghost use Rattle.freq_skips.specs.Written.{last_doc};
 ghost use Rattle.posting_files.specs.declared.fault.PostingFault.{PostingFault};
 ghost use Rattle.posting_files.specs.declared.writer.PostingFiles.{PostingFiles};

@@ -10,7 +10,7 @@ use Rattle.lu_types.specs.DocFaults.{AreApart}
 use Rattle.lu_types.specs.declared.document.Document.{Document}
 use Rattle.lu_types.specs.declared.document.IndexedField.{IndexedField}
 use Rattle.lu_types.specs.declared.document.Token.{Token}
-use Rattle.lu_model.specs.Index.{Term, Occurrences, omitted, IndexedEntry}
+use Rattle.lu_model.specs.Index.{Term, KeptOccurrences, omitted, IndexedEntry}
 use Rattle.lu_types.specs.Bits as bit
 use Rattle.lu_types.specs.Bits.{has_bit}
 use Rattle.lu_types.specs.Tables.{TableField}
@@ -60,7 +60,7 @@ tokens-found term (f ∷ fields) apart = elim (bytes_eq term.field f.field) as (
 
 -- the entry of a document with these tokens of the term
 abbrev entry_of_tokens : Bool → ℕ → List Token → Option IndexedEntry
-entry_of_tokens omit document tokens = option_map (λ (o : Occurrences). (record { document = document; occurrences = cond omit omitted o })) (given_if_any tokens)
+entry_of_tokens omit document tokens = option_map (λ (o : KeptOccurrences). (record { document = document; occurrences = cond omit omitted o })) (given_if_any tokens)
 
 entry-tokens : (omit : Bool) (document : ℕ) (tokens : List Token) → entry_if_any omit document tokens ≡ option_to_list (entry_of_tokens omit document tokens)
 entry-tokens omit document [] = refl
@@ -72,7 +72,7 @@ entry-found omit term document (Some field) = append-nil (entry_if_any omit docu
 
 -- the entry that an index has of a document
 abbrev pub model_entry : Bool → Term → ℕ × Content → Option IndexedEntry
-model_entry omit term numbered = option_map (λ (o : Occurrences). (record { document = numbered.0; occurrences = cond omit omitted o })) (numbered.1.occurrences term)
+model_entry omit term numbered = option_map (λ (o : KeptOccurrences). (record { document = numbered.0; occurrences = cond omit omitted o })) (numbered.1.occurrences term)
 
 cons-option : {X : Type 0} (o : Option X) (xs : List X) → option_to_list o ++ xs ≡ cons_option o xs
 cons-option None xs = refl

@@ -8,7 +8,7 @@ use Rattle.std.proofs.lemmas.Grind.{flat_map-append}
 use Rattle.std.proofs.lemmas.List.{append-nil, length-append, length-map, map-append, take_more, get_or_default}
 use Rattle.std.proofs.lemmas.List.Elements.{filter_map-append}
 use Rattle.std.proofs.lemmas.List.Sums.{sum_by-cons}
-use Rattle.check_index.specs.Norms.{norm_count}
+use Rattle.check_index.specs.Norms.{count_with_norms}
 use Rattle.doc_marks.specs.Norms.{nrm_bytes, nrm_spelling, norm_header}
 use Rattle.lu_types.specs.Tables.{TableField}
 use Rattle.lu_types.specs.declared.document.Document.{Document}
@@ -41,42 +41,42 @@ one-with docs field has = ap (one_column (norms_of field.name docs)) has ∙ app
 pub one-without : (docs : List Document) (field : TableField) → has_norms field.bits ≡ false → norm_bytes docs (field ∷ []) ≡ []
 one-without docs field none = ap (one_column (norms_of field.name docs)) none
 
-pub norm_bytes-length : (docs : List Document) (fields : List TableField) → length (norm_bytes docs fields) ≡ norm_count fields * length docs
+pub norm_bytes-length : (docs : List Document) (fields : List TableField) → length (norm_bytes docs fields) ≡ count_with_norms fields * length docs
 norm_bytes-length docs [] = omega arith
 norm_bytes-length docs (f ∷ fields) =
     let rest = norm_bytes-length docs fields in
     let all = ap length (norm_bytes-append docs (f ∷ []) fields) ∙ length-append (norm_bytes docs (f ∷ [])) (norm_bytes docs fields) in
-    elim (has_norms f.bits) as (λ b. has_norms f.bits ≡ b → norm_count (f ∷ fields) ≡ cond b 1 0 + norm_count fields → length (norm_bytes docs (f ∷ fields)) ≡ norm_count (f ∷ fields) * length docs) [
+    elim (has_norms f.bits) as (λ b. has_norms f.bits ≡ b → count_with_norms (f ∷ fields) ≡ cond b 1 0 + count_with_norms fields → length (norm_bytes docs (f ∷ fields)) ≡ count_with_norms (f ∷ fields) * length docs) [
       | true ↦ λ has count. (let own = ap length (one-with docs f has) ∙ length-map docs (λ (doc : Document). found_norm (find (is_named f.name) doc.indexed)) in let times = ap (λ n. n * length docs) count in omega (arith, rest, all, own, times))
       | false ↦ λ none count. (let own = ap length (one-without docs f none) in let times = ap (λ n. n * length docs) count in omega (arith, rest, all, own, times))
     ] refl (sum_by-cons (λ (g : TableField). cond (has_norms g.bits) 1 0) f fields)
 
 -- ---- the file
 
-spelled : (docs : List Document) (fields : List TableField) → length (nrm_spelling (norm_columns (field_norms docs fields))) ≡ 4 + norm_count fields * length docs
+spelled : (docs : List Document) (fields : List TableField) → length (nrm_spelling (norm_columns (field_norms docs fields))) ≡ 4 + count_with_norms fields * length docs
 spelled docs fields = let size = length-append norm_header (norm_bytes docs fields) in let own = norm_bytes-length docs fields in omega (arith, size, own)
 
 abbrev file_if : List ℕ → Bool → List NamedFile
 file_if nrm has = cond has (named Nrm nrm ∷ []) []
 
-there : (docs : List Document) (fields : List TableField) → 0 < norm_count fields → norm_files docs fields ≡ named Nrm (nrm_spelling (norm_columns (field_norms docs fields))) ∷ []
-there docs fields some = ap (file_if (nrm_spelling (norm_columns (field_norms docs fields)))) (lt-ltb 0 (norm_count fields) some)
+there : (docs : List Document) (fields : List TableField) → 0 < count_with_norms fields → norm_files docs fields ≡ named Nrm (nrm_spelling (norm_columns (field_norms docs fields))) ∷ []
+there docs fields some = ap (file_if (nrm_spelling (norm_columns (field_norms docs fields)))) (lt-ltb 0 (count_with_norms fields) some)
 
-pub norms-none : (limit : ℕ) (docs : List Document) (fields : List TableField) → norm_count fields ≡ 0 → (first_past limit (norm_files docs fields) ≡ None) × (given_norms None ≡ norm_files docs fields)
+pub norms-none : (limit : ℕ) (docs : List Document) (fields : List TableField) → count_with_norms fields ≡ 0 → (first_past limit (norm_files docs fields) ≡ None) × (given_norms None ≡ norm_files docs fields)
 norms-none limit docs fields none =
-    let nothing : norm_files docs fields ≡ [] = ap (file_if (nrm_spelling (norm_columns (field_norms docs fields)))) (le-ltb 0 (norm_count fields) (omega (arith, none))) in
+    let nothing : norm_files docs fields ≡ [] = ap (file_if (nrm_spelling (norm_columns (field_norms docs fields)))) (le-ltb 0 (count_with_norms fields) (omega (arith, none))) in
     (ap (first_past limit) nothing, sym nothing)
 
-pub norms-past : (limit documents : ℕ) (docs : List Document) (fields : List TableField) → length docs ≡ documents → 0 < norm_count fields → limit < 4 + norm_count fields * documents → first_past limit (norm_files docs fields) ≡ Some Nrm
+pub norms-past : (limit documents : ℕ) (docs : List Document) (fields : List TableField) → length docs ≡ documents → 0 < count_with_norms fields → limit < 4 + count_with_norms fields * documents → first_past limit (norm_files docs fields) ≡ Some Nrm
 norms-past limit documents docs fields size some long =
     ap (first_past limit) (there docs fields some)
-    ∙ past-alone limit Nrm (nrm_spelling (norm_columns (field_norms docs fields))) (subst (λ n. limit < n) (sym (spelled docs fields ∙ ap (λ n. 4 + norm_count fields * n) size)) long)
+    ∙ past-alone limit Nrm (nrm_spelling (norm_columns (field_norms docs fields))) (subst (λ n. limit < n) (sym (spelled docs fields ∙ ap (λ n. 4 + count_with_norms fields * n) size)) long)
 
-pub norms-within : (limit documents : ℕ) (docs : List Document) (fields : List TableField) (norms nrm : List ℕ) → length docs ≡ documents → 0 < norm_count fields → 4 + norm_count fields * documents ≤ limit → norms ≡ norm_bytes docs fields → nrm ≡ nrm_bytes norms
+pub norms-within : (limit documents : ℕ) (docs : List Document) (fields : List TableField) (norms nrm : List ℕ) → length docs ≡ documents → 0 < count_with_norms fields → 4 + count_with_norms fields * documents ≤ limit → norms ≡ norm_bytes docs fields → nrm ≡ nrm_bytes norms
     → (first_past limit (norm_files docs fields) ≡ None) × (given_norms (Some nrm) ≡ norm_files docs fields)
 norms-within limit documents docs fields norms nrm size some short are is = (
   ap (first_past limit) (there docs fields some)
-      ∙ within-alone limit Nrm (nrm_spelling (norm_columns (field_norms docs fields))) (subst (λ n. n ≤ limit) (sym (spelled docs fields ∙ ap (λ n. 4 + norm_count fields * n) size)) short),
+      ∙ within-alone limit Nrm (nrm_spelling (norm_columns (field_norms docs fields))) (subst (λ n. n ≤ limit) (sym (spelled docs fields ∙ ap (λ n. 4 + count_with_norms fields * n) size)) short),
   ap (λ bytes. named Nrm bytes ∷ []) (is ∙ ap nrm_bytes are) ∙ sym (there docs fields some),
 )
 

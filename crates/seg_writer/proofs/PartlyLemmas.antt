@@ -9,7 +9,7 @@ use Rattle.freq_skips.specs.Written.{last_doc}
 use Rattle.segment_files.specs.Postings.{PostingIntervals, KeptTerm, handed_from, parts_of, prx_bytes, prx_occurrences}
 use Rattle.posting_files.specs.States.{PostingState, IsTermBegun, entry_begun}
 use Rattle.posting_files.proofs.PostingLemmas.{entry-begun, end-may, prx_bytes-append}
-use Rattle.positions.specs.Written.{document_bytes}
+use Rattle.positions.specs.Written.{document_occurrence_bytes}
 use Rattle.seg_writer.specs.declared.columns.Appearance.{Appearance}
 use Rattle.seg_writer.specs.declared.inverted.Use.{Use}
 use Rattle.seg_writer.specs.declared.fault.WriteFault.{WriteFault}
@@ -99,7 +99,7 @@ last_document-more before (x ∷ es) e = last_document-more x.document es e
 
 last_doc-handed : (payloads : Bool) (before prox : ℕ) (es : List IndexedEntry) → last_doc before (handed_from payloads prox es) ≡ last_document before es
 last_doc-handed payloads before prox [] = refl
-last_doc-handed payloads before prox (e ∷ es) = last_doc-handed payloads e.document (prox + length (document_bytes payloads None 0 (prx_occurrences e.occurrences))) es
+last_doc-handed payloads before prox (e ∷ es) = last_doc-handed payloads e.document (prox + length (document_occurrence_bytes payloads None 0 (prx_occurrences e.occurrences))) es
 
 pub partly-next : (column : List Appearance) (text : List ℕ) (omit : Bool) (rest behind : List Use) (old s new : PostingState) (first : Use) (d : Appearance) (p : IsPartly column text omit rest old s) → IsColumn column
     → IsNext column text omit p.passed rest first d → behind ≡ drop (run_length first.entry rest) rest

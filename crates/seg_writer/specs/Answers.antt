@@ -8,7 +8,7 @@ use Rattle.lu_types.specs.declared.document.Limits.{Limits}
 use Rattle.lu_types.specs.declared.named_file.NamedFile.{NamedFile}
 use Rattle.lu_types.specs.declared.kind.FileKind.{FileKind}
 use Rattle.lu_model.specs.Contents.{index_of_documents}
-use Rattle.segment_files.specs.Written.{canonical_files, first_past, too_large}
+use Rattle.segment_files.specs.Written.{canonical_files, first_past, too_large_file}
 use Rattle.segment_files.specs.declared.options.SegmentFiles.{SegmentFiles}
 use Rattle.segment_files.specs.declared.options.WriteOptions.{WriteOptions}
 use Rattle.posting_files.specs.declared.fault.PostingFault.{PostingFault}
@@ -39,7 +39,7 @@ segment_due (Some faulty) due = Err (Doc faulty.0 faulty.1)
 -- what writing the documents is to answer: the first with its fault; else the first canonical file of their index that passes the limit; else these files
 abbrev pub written_segment : List Document → WriteOptions → Result SegmentFiles WriteFault
 written_segment docs options = let index = index_of_documents docs in
-    segment_due (first_faulty options.limits 0 docs) (files_due (too_large options index) (canonical_files options index))
+    segment_due (first_faulty options.limits 0 docs) (files_due (too_large_file options index) (canonical_files options index))
 
 -- a call answers what it is to answer, or that there was no memory
 abbrev pub Answers : Result SegmentFiles WriteFault → Result SegmentFiles WriteFault → Type 0

@@ -8,7 +8,8 @@ use Rattle.lu_types.specs.declared.document.IndexedField.{IndexedField}
 use Rattle.lu_types.specs.declared.document.Token.{Token}
 use Rattle.lu_types.specs.declared.kind.FileKind.TheVariants.{Prx}
 use Rattle.lu_model.specs.Contents.{tokens_with}
-use Rattle.lu_model.specs.Index.{Occurrence, Occurrences, given, omitted, IndexedEntry}
+use Rattle.lu_model.specs.Index.{KeptOccurrences, given, omitted, IndexedEntry}
+use Rattle.lu_types.specs.Occurrences.{Occurrence}
 use Rattle.freq_skips.specs.Written.{last_doc}
 use Rattle.segment_files.specs.Postings.{PostingIntervals, KeptTerm, parts_of, prx_bytes}
 use Rattle.posting_files.specs.States.{PostingState, ArePostings, IsTermBegun, is_within}
@@ -29,7 +30,7 @@ abbrev pub listed_occurrences : Bool → List Token → List Occurrence
 listed_occurrences omit tokens = cond omit [] (map occurrence_of tokens)
 
 -- what it keeps of them in an entry
-abbrev pub entry_occurrences : Bool → List Token → Occurrences
+abbrev pub entry_occurrences : Bool → List Token → KeptOccurrences
 entry_occurrences omit tokens = cond omit omitted (given (map occurrence_of tokens))
 
 -- the entry of a document in which these tokens have the text

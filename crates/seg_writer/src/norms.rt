@@ -1,6 +1,6 @@
 //! Norms are written, column by column.
 ghost use Rattle.std.specs.Prelude.{◌≡◌, ◌<◌, ◌^◌, [], ◌∷◌, ◌++◌, ℕ, List, length, OnOk, unwrap_or};
-ghost use Rattle.check_index.specs.Norms.{norm_count};
+ghost use Rattle.check_index.specs.Norms.{count_with_norms};
 ghost use Rattle.lu_model.specs.Contents.{has_norms, missing_norm};
 ghost use Rattle.lu_types.specs.declared.document.Document.{Document};
 ghost use Rattle.seg_writer.specs.Answers.{Wrote};
@@ -75,7 +75,7 @@ fn add_column(
 // How many fields have norms.
 fn norm_count(fields: &[FieldInfo]) -> u64
     requires { length fields.now < 2 ^ 31 }
-    ensures count { result ≡ norm_count fields.now }
+    ensures count { result ≡ count_with_norms fields.now }
     ensures few { result < 2 ^ 31 }
 {
     let mut count = 0;

@@ -1,5 +1,5 @@
 use Rattle.std.proofs.Common.{◌<◌, ◌≤◌, ◌+◌, ◌*◌, ◌++◌, ap, ◌∙◌, subst, arith}
-use Rattle.check_index.specs.Norms.{norm_count}
+use Rattle.check_index.specs.Norms.{count_with_norms}
 use Rattle.seg_writer.specs.NormColumns.{norm_bytes}
 use Rattle.seg_writer.proofs.NormFileLemmas.{norms-past, norms-within}
 use Rattle.seg_writer.proofs.norms.write_norms.Goals as goal
@@ -9,7 +9,7 @@ returns-then-count-from c docs are =
     let fields = c.args.fields.now in
     let count = c.norm_count-count.ensures.count in
     let few = c.if-count-eq0.false in
-    let some : 0 < norm_count fields = omega (arith, count, few) in
+    let some : 0 < count_with_norms fields = omega (arith, count, few) in
     let test = c.if-count-from.true in
     let documents = c.from.ensures in
     let limit = c.from-2.ensures in
@@ -20,7 +20,7 @@ returns-in-Ok-add_all c docs are =
     let fields = c.args.fields.now in
     let count = c.norm_count-count.ensures.count in
     let few = c.if-count-eq0.false in
-    let some : 0 < norm_count fields = omega (arith, count, few) in
+    let some : 0 < count_with_norms fields = omega (arith, count, few) in
     let test = c.if-count-from.false in
     let documents = c.from.ensures in
     let limit = c.from-2.ensures in

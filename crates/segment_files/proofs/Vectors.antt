@@ -97,8 +97,9 @@ pub vectors-there : (fields : List TableField) (stored : List StoredDocument) (d
     → (b ≡ true → AreStoreVectors (record { total = length documents; window = whole_store (length documents) }) fields (canonical_store true stored documents) documents)
     → IfThere (canonical_store b stored documents).tvx × IfThere (canonical_store b stored documents).tvd × IfThere (canonical_store b stored documents).tvf
 vectors-there fields stored documents true h =
-    let a = h refl in
-    (read-bytes (tvx_plan (length documents)) (tvx_bytes documents) a.places a.places_held,
-    read-bytes (tvd_plan fields (whole_store (length documents)) a.places) (tvd_bytes documents) a.slots a.slots_held,
-    read-bytes (tvf_plan a.slots) (tvf_bytes documents) a.all a.vectors_held)
+    let a = h refl in (
+      read-bytes (tvx_plan (length documents)) (tvx_bytes documents) a.places a.places_held,
+      read-bytes (tvd_plan fields (whole_store (length documents)) a.places) (tvd_bytes documents) a.slots a.slots_held,
+      read-bytes (tvf_plan a.slots) (tvf_bytes documents) a.all a.vectors_held,
+    )
 vectors-there fields stored documents false h = (tt, tt, tt)

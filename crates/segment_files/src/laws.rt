@@ -10,8 +10,12 @@ ghost use Rattle.segment_files.specs.Lines.{new_line, folder_with, StandsForInde
 /// The canonical files of a valid index without deleted documents, of which none passes the limit, stand for this index, as parts
 /// of their own and packed into one; and they stand for no other.
 pub fn canonical_files_stand()
-    ensures stand { (options : WriteOptions) (index : Index) (diagnostics : List MapPair) → IsValid index → index.deleted ≡ [] → too_large_file options index ≡ None
-        → StandsForIndex (folder_with (canonical_files options index).files) (new_line options.number diagnostics (canonical_files options index)) index }
-    ensures only { (options : WriteOptions) (index other : Index) (diagnostics : List MapPair) → IsValid index → index.deleted ≡ [] → too_large_file options index ≡ None
-        → StandsForIndex (folder_with (canonical_files options index).files) (new_line options.number diagnostics (canonical_files options index)) other → other ≡ index }
+    ensures stand { (options : WriteOptions) (index : Index) (diagnostics : List MapPair)
+        → IsValid index → index.deleted ≡ [] → too_large_file options index ≡ None
+        → StandsForIndex (folder_with (canonical_files options index).files)
+        (new_line options.number diagnostics (canonical_files options index)) index }
+    ensures only { (options : WriteOptions) (index other : Index) (diagnostics : List MapPair)
+        → IsValid index → index.deleted ≡ [] → too_large_file options index ≡ None
+        → StandsForIndex (folder_with (canonical_files options index).files)
+        (new_line options.number diagnostics (canonical_files options index)) other → other ≡ index }
 {}

@@ -65,7 +65,7 @@ module _ (fields : List TableField) (size : ℕ) (d : Dictionary) (frq : List �
       let found = element (λ (t : DictionaryTerm). t.info) (slice_get d.terms n) info there in
       let t = found.0 in
       let here : has_bit bit.omit_tf (bits_at fields t.info.field) ≡ true =
-          subst (λ (u : DictionaryTerm). has_bit bit.omit_tf (bits_at fields u.info.field) ≡ true) (get_or_from_slice_get d.terms n t t found.1) (omitted n t (slice_get_within d.terms n t found.1)) in
+      subst (λ (u : DictionaryTerm). has_bit bit.omit_tf (bits_at fields u.info.field) ≡ true) (get_or_from_slice_get d.terms n t t found.1) (omitted n t (slice_get_within d.terms n t found.1)) in
       ap (λ (r : TermRules). r.omit_tf) is ∙ ap (λ (i : TermInfo). has_bit bit.omit_tf (bits_at fields i.field)) (sym found.2) ∙ here
 
   pub stands-there : (prx : Option (List ℕ)) → ArePositions fields size d lists prx → StandsThere (term_of info rules) held.0 (bytes_if_any prx)

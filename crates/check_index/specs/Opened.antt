@@ -14,12 +14,13 @@ use Rattle.freq_skips.specs.Points.{KnownTerm, IsPoint}
 use Rattle.freq_skips.specs.declared.skip_point.SkipPoint.{SkipPoint}
 use Rattle.term_dict.specs.Facts.{AreGoodTerms}
 use Rattle.positions.specs.Cursors.{CursorState, IsAmong}
+use Rattle.lu_model.specs.Valid.{IsValid}
 use Rattle.check_index.specs.declared.standing.OpenContents.{OpenContents}
 use Rattle.check_index.specs.declared.standing.OpenColumns.{OpenColumns}
 use Rattle.check_index.specs.Terms.{listed_terms, lists_in, AreListed}
 use Rattle.check_index.specs.Positions.{occurrences_in, ArePositions}
 use Rattle.check_index.specs.Vectors.{HaveSome, vectors_seen}
-use Rattle.check_index.specs.Segments.{Contents, Columns, SegmentValue}
+use Rattle.check_index.specs.Segments.{Contents, Columns, SegmentValue, segment_value}
 
 -- what the open files of a segment of so many documents stand for
 abbrev pub contents_of : ℕ → OpenContents → Contents
@@ -35,7 +36,7 @@ columns_of size o = record { norms = o.norms; deleted = o.live.documents; vector
 
 -- they belong together
 pub record IsTied (size : ℕ) (contents : OpenContents) (columns : OpenColumns) : Type 0 where
-  pub documents : length contents.stored ≡ size
+  pub valid : IsValid (segment_value size (contents_of size contents) (columns_of size columns)).index
   pub checked : AreChecked contents.terms.tii.now contents.terms.terms contents.fields
   pub listed : AreListed contents.fields size contents.terms.terms contents.terms.frq.now (lists_in contents.fields size contents.terms.terms contents.terms.frq.now)
   pub good : AreGoodTerms contents.fields size contents.terms.terms

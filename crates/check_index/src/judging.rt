@@ -35,7 +35,6 @@ fn open_contents<'a>(
     requires line { IsLine info.now }
     requires short { AreShortParts (part_files_of files.now) }
     ensures judged { Judges (contents_of info.now.size) (content_files (part_files_of files.now) info.now) result }
-    ensures documents { IfOk result (λ o. length o.stored ≡ info.now.size) }
     ensures checked { IfOk result (λ o. AreChecked o.terms.tii.now o.terms.terms o.fields) }
     ensures good { IfOk result (λ o. AreGoodTerms o.fields info.now.size o.terms.terms) }
     ensures small { IfOk result (λ o. length o.terms.frq.now < 2 ^ 31) }

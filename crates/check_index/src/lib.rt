@@ -22,4 +22,6 @@ pub use parts::{CheckFault, Parts, SepFiles};
 pub use standing::Standing;
 
 #[cfg(test)]
+mod standing_tests;
+#[cfg(test)]
 mod tests;

@@ -1,6 +1,9 @@
 //! A segment whose files stand together (format page, "Indexes").
-ghost use Rattle.std.specs.Prelude.{◌≡◌, ℕ, List, IfOk, IfSome, option_copied};
+ghost use Rattle.std.specs.Prelude.{◌≡◌, ℕ, List, length, IfOk, IfSome, option_copied};
 ghost use Rattle.term_index.specs.Seeking.{searched, names_of};
+ghost use Rattle.lu_model.specs.Valid.{IsValid};
+ghost use Rattle.term_dict.specs.Facts.{AreGoodTerms};
+ghost use Rattle.check_index.specs.Indexed.{indexed_terms};
 ghost use Rattle.check_index.specs.Files.{file_at};
 ghost use Rattle.check_index.specs.Vectors.{HaveSome, vectors_seen};
 ghost use Rattle.lu_types.specs.Occurrences.{Occurrence};
@@ -84,9 +87,12 @@ impl<'a> Standing<'a> {
         self.contents.stored.again()
     }
 
-    /// The terms of the segment.
+    /// The terms of the segment: those of its index, of each of which the entries and the positions are known.
     pub fn terms(&self) -> &TermFile<'a>
-        ensures { result.now ≡ self.now.dictionary }
+        ensures terms { result.now ≡ self.now.dictionary }
+        ensures good { AreGoodTerms self.now.index.fields self.now.index.size self.now.dictionary }
+        ensures indexed { self.now.index.terms ≡ indexed_terms self.now.index.fields self.now.dictionary.terms self.now.lists self.now.occurrences }
+        ensures count { length self.now.lists ≡ length self.now.dictionary.terms }
     {
         &self.contents.terms.terms
     }
@@ -117,9 +123,10 @@ impl<'a> Standing<'a> {
         }
     }
 
-    /// How many documents the segment has.
+    /// How many documents the segment has. Its index is one that files can stand for.
     pub fn size(&self) -> u32
         ensures size { result ≡ self.now.index.size }
+        ensures valid { IsValid self.now.index }
     {
         self.size
     }

@@ -83,13 +83,13 @@ const FDT_OF_TWO: [u8; 34] = [
 ];
 
 /// The places of the vectors of document 0.
-const TVX: [u8; 20] = [0, 0, 0, 4, 0, 0, 0, 0, 0, 0, 0, 4, 0, 0, 0, 0, 0, 0, 0, 4];
+pub(crate) const TVX: [u8; 20] = [0, 0, 0, 4, 0, 0, 0, 0, 0, 0, 0, 4, 0, 0, 0, 0, 0, 0, 0, 4];
 
 /// It has one, of field 1.
-const TVD: [u8; 6] = [0, 0, 0, 4, 1, 1];
+pub(crate) const TVD: [u8; 6] = [0, 0, 0, 4, 1, 1];
 
 /// Its terms are `hello` and `world`.
-const TVF: [u8; 28] = [
+pub(crate) const TVF: [u8; 28] = [
     0, 0, 0, 4, 2, 3, 0, 5, 104, 101, 108, 108, 111, 1, 0, 0, 5, 0, 5, 119, 111, 114, 108, 100, 1,
     1, 6, 5,
 ];
@@ -110,7 +110,7 @@ const TVF_OF_TWO: [u8; 34] = [
 ];
 
 /// The segment of one document with two terms.
-fn parts(alloc: Global) -> Parts<'static> {
+pub(crate) fn parts(alloc: Global) -> Parts<'static> {
     Parts {
         cfs: None,
         cfx: None,
@@ -152,7 +152,7 @@ fn packed(alloc: Global) -> Parts<'static> {
 }
 
 /// Its line in the commit, with the documents in this store.
-fn line_in(alloc: Global, store: Option<SharedStore>, compound: bool) -> SegInfo
+pub(crate) fn line_in(alloc: Global, store: Option<SharedStore>, compound: bool) -> SegInfo
     requires { IsStore store }
     ensures { IsLine result }
 {
@@ -200,14 +200,14 @@ fn is_short(file: Option<&[u8]>) -> bool
 }
 
 /// Whether the files of documents have.
-fn are_short_documents(parts: &Parts<'_>) -> bool
+pub(crate) fn are_short_documents(parts: &Parts<'_>) -> bool
     ensures { result ≡ true → (IsShort (option_copied parts.now.fdx)) × (IsShort (option_copied parts.now.tvx)) × (IsShort (option_copied parts.now.tvd)) × (IsShort (option_copied parts.now.tvf)) }
 {
     is_short(parts.fdx) && is_short(parts.tvx) && is_short(parts.tvd) && is_short(parts.tvf)
 }
 
 /// Whether the other files have.
-fn are_short_index(parts: &Parts<'_>) -> bool
+pub(crate) fn are_short_index(parts: &Parts<'_>) -> bool
     ensures { result ≡ true → (IsShort (option_copied parts.now.tis)) × (IsShort (option_copied parts.now.frq)) × (IsShort (option_copied parts.now.prx)) × (IsShort (option_copied parts.now.cfs)) × (IsShort (option_copied parts.now.cfx)) }
 {
     is_short(parts.tis)

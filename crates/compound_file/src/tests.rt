@@ -18,6 +18,10 @@ const ONE_PART: &[u8] =
 const TWO_PARTS: &[u8] =
     b"\x02\x00\x00\x00\x00\x00\x00\x00\x15\x01a\x00\x00\x00\x00\x00\x00\x00\x17\x01bxyz";
 
+/// The packed files of the segment `_1z`: a `.fdt` of one byte and a `.tii` of two.
+const PACKED: &[u8] =
+    b"\x02\x00\x00\x00\x00\x00\x00\x00\x21\x07_1z.fdt\x00\x00\x00\x00\x00\x00\x00\x22\x07_1z.tiizxy";
+
 #[test]
 fn a_faulty_file_has_its_first_fault(rt: HostRuntime) {
     let faults = [
@@ -111,7 +115,7 @@ fn file(alloc: Global, kind: FileKind, bytes: &[u8]) -> Result<NamedFile, OutOfM
 }
 
 #[test]
-fn files_are_packed_in_the_order_of_checks(rt: HostRuntime) -> Result<(), Fail> {
+fn one_file_is_packed(rt: HostRuntime) -> Result<(), Fail> {
     let fnm = b"\xfe\xff\xff\xff\x0f\x01\x01a\x01";
     let alone = [file(rt.alloc(), FileKind::Fnm, fnm)?];
     let one = pack(rt.alloc(), &alone, 0, 25)?;
@@ -120,6 +124,18 @@ fn files_are_packed_in_the_order_of_checks(rt: HostRuntime) -> Result<(), Fail> 
         pack(rt.alloc(), &alone, 0, 24).err(),
         Some(PackFault::TooLarge)
     );
+    Ok(())
+}
+
+#[test]
+fn no_files_are_packed(rt: HostRuntime) -> Result<(), Fail> {
+    let none = pack(rt.alloc(), &[], 0, 1)?;
+    assert_eq!(rt; none.as_slice(), b"\x00".as_slice());
+    Ok(())
+}
+
+#[test]
+fn files_over_the_limit_are_refused(rt: HostRuntime) -> Result<(), Fail> {
     let pair = [
         file(rt.alloc(), FileKind::Tii, b"xy")?,
         file(rt.alloc(), FileKind::Fdt, b"z")?,
@@ -128,13 +144,24 @@ fn files_are_packed_in_the_order_of_checks(rt: HostRuntime) -> Result<(), Fail> 
         pack(rt.alloc(), &pair, 71, 10).err(),
         Some(PackFault::TooLarge)
     );
+    Ok(())
+}
+
+#[test]
+fn files_are_packed_in_the_order_of_checks(rt: HostRuntime) -> Result<(), Fail> {
+    let pair = [
+        file(rt.alloc(), FileKind::Tii, b"xy")?,
+        file(rt.alloc(), FileKind::Fdt, b"z")?,
+    ];
     let both = pack(rt.alloc(), &pair, 71, 1000)?;
-    let packed =
-        b"\x02\x00\x00\x00\x00\x00\x00\x00\x21\x07_1z.fdt\x00\x00\x00\x00\x00\x00\x00\x22\x07_1z.tiizxy";
-    assert_eq!(rt; both.as_slice(), packed.as_slice());
-    let parts = split(rt.alloc(), FileKind::Cfs, both.as_slice())?;
+    assert_eq!(rt; both.as_slice(), PACKED);
+    Ok(())
+}
+
+#[test]
+fn packed_files_are_split(rt: HostRuntime) -> Result<(), Fail> {
+    let parts = split(rt.alloc(), FileKind::Cfs, PACKED)?;
     assert_eq!(rt; parts.get("_1z.tii"), Some(b"xy".as_slice()));
-    let none = pack(rt.alloc(), &[], 0, 1)?;
-    assert_eq!(rt; none.as_slice(), b"\x00".as_slice());
+    assert_eq!(rt; parts.get("_1z.fdt"), Some(b"z".as_slice()));
     Ok(())
 }

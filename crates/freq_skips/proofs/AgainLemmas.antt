@@ -1,6 +1,6 @@
 -- A datum of a good level, read again: what is wanted of it, and where it ends.
-use Rattle.std.proofs.Common.{◌≡◌, ℕ, zero, suc, add-one, ◌+◌, ◌-◌, ◌*◌, ◌<◌, ◌≤◌, false, List, [], ◌∷◌, ◌++◌, length, drop, get_or, Option, Some, None, Result, Ok, Err, refl, sym, ap, subst, ◌∙◌, arith}
-use Rattle.std.specs.Prelude.{slice_index_or, MatchResult}
+use Rattle.std.proofs.Common.{◌≡◌, ℕ, zero, suc, add-one, ◌+◌, ◌<◌, ◌≤◌, List, ◌++◌, length, drop, Result, Ok, refl, sym, ap, subst, ◌∙◌, arith}
+use Rattle.std.specs.Prelude.{slice_index_or}
 use Rattle.std.proofs.lemmas.List.{length-append}
 use Rattle.lu_grammar.specs.declared.bad.Bad.{Bad}
 use Rattle.lu_grammar.specs.Bytes.{IsBytes, Cursor, place_in}
@@ -13,12 +13,12 @@ use Rattle.lu_grammar.proofs.Codecs.{place_in-after, IsBytes-after, reads-read_p
 use Rattle.freq_skips.specs.declared.rules.RuledTerm.{RuledTerm}
 use Rattle.freq_skips.specs.declared.datum.Point.{Point}
 use Rattle.freq_skips.specs.declared.datum.Skip.{Skip}
-use Rattle.freq_skips.specs.Records.{Record, datum, skip_of, datum_shape, length_to_child, datum_length}
+use Rattle.freq_skips.specs.Records.{Record, skip_of, datum_shape, datum_length}
 use Rattle.freq_skips.specs.Written.{optional_bytes}
 use Rattle.freq_skips.specs.Entries.{Posting}
 use Rattle.freq_skips.specs.Levels.{Level, no_datum, no_point, wanted, datum_conditions, point_of, datum_kind, data_count, Follows, AreData}
 use Rattle.freq_skips.proofs.DatumParts.{DatumSpelled, datum-spelled, optional-length}
-use Rattle.freq_skips.proofs.LevelLemmas.{datum_at, Follows-none, Follows-more, Follows-again, Follows-end, point-is}
+use Rattle.freq_skips.proofs.LevelLemmas.{datum_at, Follows-none, Follows-more, Follows-again, point-is}
 
 -- a place does not fall while a plan is read
 pub read_plan-on : {V R : Type 0} (plan : Plan V R) (c : Cursor) (v : V) (d : Cursor) → IsBytes c.rest → read_plan plan c ≡ Ok (v, d) → c.place ≤ d.place

@@ -1,6 +1,6 @@
 -- Where the levels of a good term start and end.
-use Rattle.std.proofs.Common.{◌≡◌, ℕ, zero, suc, add-one, ◌+◌, ◌-◌, ◌*◌, ◌^◌, ◌<◌, ◌≤◌, ◌⊎◌, inl, inr, true, false, Bool, not, List, [], ◌∷◌, ◌++◌, length, drop, get_or, Option, Some, None, Ok, Err, refl, sym, ap, subst, ◌∙◌, arith}
-use Rattle.std.specs.Prelude.{slice_index_or, ◌==◌, min, if◌then◌else◌, MatchOption}
+use Rattle.std.proofs.Common.{◌≡◌, ℕ, suc, ◌+◌, ◌-◌, ◌^◌, ◌<◌, ◌≤◌, ◌⊎◌, inl, inr, false, List, [], ◌∷◌, length, drop, get_or, Option, Some, Ok, Err, refl, sym, ap, subst, ◌∙◌, arith}
+use Rattle.std.specs.Prelude.{slice_index_or, ◌==◌, min, MatchOption}
 use Rattle.std.proofs.lemmas.Bool.{eq-eqb, ne_eqb, cases_eq}
 use Rattle.std.proofs.lemmas.List.{get_or-drop}
 use Rattle.std.proofs.Math.Nat.{le-div_iff_mul-le, pow-le-pow_right}
@@ -10,16 +10,16 @@ use Rattle.lu_grammar.proofs.Plans.{err_is_not_ok}
 use Rattle.lu_grammar.proofs.Codecs.{record_at-kept, all_unbroken, same-of}
 use Rattle.freq_skips.specs.declared.rules.RuledTerm.{RuledTerm}
 use Rattle.freq_skips.specs.declared.datum.Point.{Point}
-use Rattle.freq_skips.specs.Records.{length_shape, length_of, datum_shape, skip_of, datum_length}
+use Rattle.freq_skips.specs.Records.{datum_shape, skip_of, datum_length}
 use Rattle.freq_skips.specs.Entries.{Posting, postings_from}
-use Rattle.freq_skips.specs.Levels.{Along, no_point, level_of, level_count, stride, data_count, wanted, datum_conditions, differs, length_conditions, level_data, level_plan, levels, greatest_power, AreData}
+use Rattle.freq_skips.specs.Levels.{no_point, level_of, level_count, stride, data_count, wanted, datum_conditions, differs, level_data, level_plan, levels, AreData}
 use Rattle.freq_skips.specs.Walks.{start_in, value_from, points_in}
 use Rattle.freq_skips.specs.Points.{is_highest}
 use Rattle.freq_skips.specs.Finding.{LevelsLeft, LevelStands}
 use Rattle.freq_skips.proofs.Powers.{power-pos, greatest_power-low}
 use Rattle.freq_skips.proofs.LevelLemmas.{Follows-end}
 use Rattle.freq_skips.proofs.WalkLemmas.{levels-drop, levels-read, levels-points}
-use Rattle.freq_skips.proofs.AgainLemmas.{DatumAgain, datum-again, datum-bytes, datum-long}
+use Rattle.freq_skips.proofs.AgainLemmas.{datum-again, datum-bytes, datum-long}
 
 -- a number that is wanted is the one that stands there
 pub differs-not : (n m : ℕ) → differs (Some n) m ≡ false → n ≡ m

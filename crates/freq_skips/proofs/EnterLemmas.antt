@@ -1,13 +1,12 @@
 -- A level is entered where the level above leads.
-use Rattle.std.proofs.Common.{◌≡◌, ℕ, zero, suc, ◌+◌, ◌-◌, ◌*◌, ◌/◌, ◌%◌, ◌^◌, ◌<◌, ◌≤◌, ◌⊎◌, inl, inr, eqb, true, false, List, [], ◌∷◌, ◌++◌, length, drop, Option, Some, None, Ok, refl, sym, ap, subst, ◌∙◌, append_assoc, arith}
-use Rattle.std.specs.Prelude.{slice_index_or, ◌==◌}
+use Rattle.std.proofs.Common.{◌≡◌, ℕ, suc, ◌+◌, ◌-◌, ◌*◌, ◌/◌, ◌%◌, ◌<◌, ◌≤◌, ◌⊎◌, inl, inr, eqb, true, false, List, [], ◌∷◌, ◌++◌, length, drop, Option, Some, Ok, refl, sym, ap, subst, ◌∙◌, append_assoc, arith}
+use Rattle.std.specs.Prelude.{slice_index_or}
 use Rattle.std.proofs.lemmas.Bool.{cases_eq, eq-eqb}
 use Rattle.std.proofs.lemmas.List.{length-append, append-nil, drop-drop}
 use Rattle.std.proofs.Math.Seq.{drop-append_seam}
 use Rattle.std.proofs.Math.Nat.{le-div_iff_mul-le, pow-suc, mul_comm, mul_assoc, mul-mod_left, mul-div_cancel, mul-le-mul_right}
 use Rattle.lu_grammar.specs.Bytes.{IsBytes, Cursor, place_in}
 use Rattle.lu_grammar.specs.Parts.{IsValue, vlong, spelling}
-use Rattle.lu_grammar.specs.Records.{read_shape}
 use Rattle.lu_grammar.specs.Reading.{read_part}
 use Rattle.lu_grammar.proofs.Records.{ok_pair, read_shape-spelled}
 use Rattle.lu_grammar.proofs.Codecs.{alone_was, record_at-kept, all_unbroken}
@@ -17,7 +16,7 @@ use Rattle.freq_skips.specs.declared.datum.Skip.{Skip}
 use Rattle.freq_skips.specs.Records.{skip_of, alone, datum_shape, length_to_child}
 use Rattle.freq_skips.specs.Written.{optional_bytes}
 use Rattle.freq_skips.specs.Entries.{Posting, no_posting, postings_from}
-use Rattle.freq_skips.specs.Levels.{no_point, level_of, level_count, stride, data_count, wanted, child_above, differs, datum_conditions, number_or, Follows, AreData}
+use Rattle.freq_skips.specs.Levels.{no_point, level_of, level_count, stride, data_count, wanted, child_above, differs, datum_conditions, number_or, Follows}
 use Rattle.freq_skips.specs.Walks.{start_in, points_in}
 use Rattle.freq_skips.specs.Finding.{CanSearch, LevelStands, IsLike, last_of, HasPassedData, StandsOn}
 use Rattle.freq_skips.proofs.AboveLemmas.{data_count-above}
@@ -25,7 +24,7 @@ use Rattle.freq_skips.proofs.DatumParts.{DatumSpelled}
 use Rattle.freq_skips.proofs.LevelLemmas.{Follows-none}
 use Rattle.freq_skips.proofs.BoundLemmas.{differs-not}
 use Rattle.freq_skips.proofs.PointLemmas.{leads-there}
-use Rattle.freq_skips.proofs.AgainLemmas.{DatumAgain, DatumBytes, datum-again, datum-bytes}
+use Rattle.freq_skips.proofs.AgainLemmas.{datum-again, datum-bytes}
 
 -- where a child pointer leads: behind the ProxSkip of a datum
 pub record Lands (frq : List ℕ) (level at child : ℕ) (next : Cursor) : Type 0 where

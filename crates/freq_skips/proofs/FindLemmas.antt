@@ -1,31 +1,27 @@
 -- How many data of a level lead below a target, and what that says of the level below.
-use Rattle.std.proofs.Common.{◌≡◌, ℕ, zero, suc, ◌+◌, ◌-◌, ◌*◌, ◌/◌, ◌^◌, ◌<◌, ◌≤◌, ◌⊎◌, inl, inr, Bool, eqb, true, false, List, [], ◌∷◌, length, drop, get_or, Option, Ok, refl, sym, ap, subst, ◌∙◌, arith}
-use Rattle.std.specs.Prelude.{slice_index_or, nat_lt, min, ◌==◌, if◌then◌else◌}
+use Rattle.std.proofs.Common.{◌≡◌, ℕ, suc, ◌+◌, ◌-◌, ◌*◌, ◌<◌, ◌≤◌, ◌⊎◌, inl, inr, Bool, true, false, List, [], length, get_or, refl, sym, ap, ◌∙◌, arith}
+use Rattle.std.specs.Prelude.{slice_index_or, nat_lt, min, if◌then◌else◌}
 use Rattle.std.specs.List.{prefix_len}
-use Rattle.std.proofs.lemmas.Bool.{cases_lt, cases_eq, eq-eqb, ne_eqb}
+use Rattle.std.proofs.lemmas.Bool.{cases_lt, ne_eqb}
 use Rattle.std.proofs.lemmas.Bool.Decides.{nat_tests}
 use Rattle.std.proofs.lemmas.List.{get_or-drop}
-use Rattle.std.proofs.lemmas.List.Sums.{prefix_len_is, prefix_len_passes, prefix_len_stops}
-use Rattle.std.proofs.Math.Nat.{le-div_iff_mul-le, mul-le-mul_right}
-use Rattle.lu_grammar.specs.Bytes.{Cursor, place_in}
-use Rattle.lu_grammar.specs.Plans.{times, read_plan}
-use Rattle.lu_grammar.proofs.Codecs.{same_pair, ok_of}
+use Rattle.std.proofs.lemmas.List.Sums.{prefix_len_passes, prefix_len_stops}
+use Rattle.std.proofs.Math.Nat.{mul-le-mul_right}
+use Rattle.lu_grammar.specs.Bytes.{Cursor}
+use Rattle.lu_grammar.proofs.Codecs.{same_pair}
 use Rattle.freq_skips.specs.declared.rules.RuledTerm.{RuledTerm}
 use Rattle.freq_skips.specs.declared.datum.Point.{Point}
-use Rattle.freq_skips.specs.Entries.{Posting, no_posting, postings_from}
-use Rattle.freq_skips.specs.Levels.{Level, no_point, level_of, level_count, levels, stride, data_count, datum_kind, no_datum, AreData, Follows}
+use Rattle.freq_skips.specs.Entries.{Posting, postings_from}
+use Rattle.freq_skips.specs.Levels.{Level, no_point, level_of, level_count, stride, data_count, AreData, Follows}
 use Rattle.freq_skips.specs.Terms.{TermData}
 use Rattle.freq_skips.specs.Walks.{start_in, value_from, points_in}
-use Rattle.freq_skips.specs.Points.{is_highest, data_below, data_led, data_searched, data_read, find_steps, highest_count, most_steps}
-use Rattle.freq_skips.specs.Finding.{CanSearch, LevelsLeft, HasPassedData, StopsAt}
-use Rattle.freq_skips.proofs.Powers.{power-pos}
-use Rattle.freq_skips.proofs.AboveLemmas.{data_count-above}
+use Rattle.freq_skips.specs.Points.{is_highest, data_below, data_led, data_searched, data_read}
+use Rattle.freq_skips.specs.Finding.{CanSearch, LevelsLeft}
 use Rattle.freq_skips.proofs.TermLemmas.{TermParts-ReadsTo}
 use Rattle.freq_skips.proofs.WalkLemmas.{LevelsRead-good, levels-drop, value_from-is}
 use Rattle.freq_skips.proofs.AgainLemmas.{Follows-upto}
 use Rattle.freq_skips.proofs.PostingLemmas.{before-rises}
 use Rattle.freq_skips.proofs.PointLemmas.{entries-good, level-of-term, leads-there}
-use Rattle.freq_skips.proofs.EnterLemmas.{led-entry, led-within}
 
 -- a level has as many data as it is to have
 points-long : (t : RuledTerm) (ps : List Posting) (l : Level) (start : Cursor) (points : List Point) (end : Cursor) → AreData t ps l start points end → length points ≡ data_count t l.number

@@ -1,7 +1,7 @@
 -- A term that a writer finishes is good, and stands for what was handed over.
-use Rattle.std.proofs.Common.{◌≡◌, ℕ, zero, suc, ◌+◌, ◌-◌, ◌*◌, ◌^◌, ◌<◌, ◌≤◌, eqb, true, false, List, [], ◌∷◌, ◌++◌, length, drop, get_or, inl, inr, refl, sym, ap, subst, ◌∙◌, append_assoc, arith}
-use Rattle.std.specs.Prelude.{if◌then◌else◌, slice_index_or}
-use Rattle.std.proofs.lemmas.Bool.{cases_eq, eq-eqb, ne_eqb}
+use Rattle.std.proofs.Common.{◌≡◌, ℕ, zero, suc, ◌+◌, ◌-◌, ◌*◌, ◌<◌, eqb, false, List, [], ◌++◌, length, drop, get_or, inl, inr, refl, sym, ap, subst, ◌∙◌, append_assoc, arith}
+use Rattle.std.specs.Prelude.{slice_index_or}
+use Rattle.std.proofs.lemmas.Bool.{cases_eq, ne_eqb}
 use Rattle.std.proofs.lemmas.List.{length-append, append-nil}
 use Rattle.std.proofs.Math.Seq.{drop-append_seam}
 use Rattle.lu_grammar.specs.Bytes.{IsBytes, place_in}
@@ -13,18 +13,17 @@ use Rattle.lu_grammar.proofs.Records.{at}
 use Rattle.lu_grammar.proofs.Writers.{Writes, Writes-done, Writes-and_then}
 use Rattle.freq_skips.specs.declared.rules.RuledTerm.{RuledTerm}
 use Rattle.freq_skips.specs.declared.datum.Point.{Point}
-use Rattle.freq_skips.specs.declared.writer.Mark.{Mark}
 use Rattle.freq_skips.specs.Records.{Record}
 use Rattle.freq_skips.specs.Entries.{Posting, no_entry, entries}
 use Rattle.freq_skips.specs.Levels.{level_count, levels, stride, data_count, no_point}
-use Rattle.freq_skips.specs.Written.{Handed, entries_bytes, last_doc, mark_of, written_postings, SkipLevel, skip_level, mark_after, data_bytes, data_number, level_above, skip_bytes}
-use Rattle.freq_skips.specs.Writing.{FrqWriting, bytes_so_far, levels_due, lowest, skips, term_bytes, finished, skip_delta, term_written, IsFinishable, LeadsTo, IsAsHanded}
+use Rattle.freq_skips.specs.Written.{Handed, entries_bytes, last_doc, mark_of, written_postings, SkipLevel, skip_level, data_bytes, data_number, level_above, skip_bytes}
+use Rattle.freq_skips.specs.Writing.{FrqWriting, levels_due, lowest, skips, term_bytes, finished, skip_delta, term_written, IsFinishable, LeadsTo, IsAsHanded}
 use Rattle.freq_skips.specs.Terms.{TermData, term_plan}
 use Rattle.freq_skips.proofs.TermLemmas.{levels_after}
 use Rattle.freq_skips.proofs.LevelsLemmas.{levels-none}
 use Rattle.freq_skips.proofs.WrittenEntries.{passed_with, Writes-entries}
-use Rattle.freq_skips.proofs.WrittenLevels.{written_point, written_points}
-use Rattle.freq_skips.proofs.WrittenTerms.{AllLead, base_for, found_points, levels-written, written_points-at, skip_bytes-none}
+use Rattle.freq_skips.proofs.WrittenLevels.{written_points}
+use Rattle.freq_skips.proofs.WrittenTerms.{base_for, found_points, levels-written, written_points-at, skip_bytes-none}
 use Rattle.freq_skips.proofs.LeadLemmas.{IsHandedOver, level_for, level-count, all-lead}
 
 -- what is finished was handed over

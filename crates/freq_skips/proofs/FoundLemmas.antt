@@ -1,5 +1,5 @@
 -- The point that a search finds is the last one below the target.
-use Rattle.std.proofs.Common.{◌≡◌, ℕ, zero, suc, ◌+◌, ◌-◌, ◌*◌, ◌/◌, ◌%◌, ◌^◌, ◌<◌, ◌≤◌, ◌⊎◌, inl, inr, false, List, [], refl, sym, ap, subst, ◌∙◌, arith}
+use Rattle.std.proofs.Common.{◌≡◌, ℕ, zero, suc, ◌+◌, ◌-◌, ◌*◌, ◌/◌, ◌^◌, ◌<◌, ◌≤◌, ◌⊎◌, inl, inr, false, List, refl, sym, ap, subst, ◌∙◌, arith}
 use Rattle.std.specs.Prelude.{slice_index_or, ◌==◌, if◌then◌else◌}
 use Rattle.std.proofs.lemmas.Bool.{cases_lt, ne_eqb}
 use Rattle.std.proofs.lemmas.Nat.{div-add-mod'}
@@ -8,11 +8,11 @@ use Rattle.freq_skips.specs.declared.rules.RuledTerm.{RuledTerm}
 use Rattle.freq_skips.specs.declared.datum.Point.{Point}
 use Rattle.freq_skips.specs.declared.skip_point.SkipPoint.{SkipPoint}
 use Rattle.freq_skips.specs.Entries.{Posting, no_posting, postings_from}
-use Rattle.freq_skips.specs.Levels.{no_point, level_count, stride, data_count}
+use Rattle.freq_skips.specs.Levels.{level_count, stride, data_count}
 use Rattle.freq_skips.specs.Terms.{TermData}
-use Rattle.freq_skips.specs.Walks.{start_in, value_from, points_in, point_at, HasDatum}
+use Rattle.freq_skips.specs.Walks.{start_in, value_from, point_at, HasDatum}
 use Rattle.freq_skips.specs.ProxPlaces.{HasProxPlaces}
-use Rattle.freq_skips.specs.Points.{KnownTerm, entry_behind, point_after, IsPoint, IsLastBelow, data_below}
+use Rattle.freq_skips.specs.Points.{KnownTerm, entry_behind, point_after, IsLastBelow, data_below}
 use Rattle.freq_skips.specs.Finding.{CanSearch, HasPassedData}
 use Rattle.freq_skips.proofs.Powers.{power-pos}
 use Rattle.freq_skips.proofs.TermLemmas.{TermParts-ReadsTo}

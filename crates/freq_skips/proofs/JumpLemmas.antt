@@ -1,5 +1,5 @@
 -- A point of a good term is a place among its entries.
-use Rattle.std.proofs.Common.{◌≡◌, ℕ, zero, suc, ◌+◌, ◌-◌, ◌*◌, ◌<◌, ◌≤◌, ◌⊎◌, inl, inr, List, length, refl, sym, ap, subst, ◌∙◌, arith}
+use Rattle.std.proofs.Common.{◌≡◌, ℕ, zero, suc, ◌*◌, ◌<◌, ◌≤◌, ◌⊎◌, inl, inr, List, length, sym, ap, subst, ◌∙◌, arith}
 use Rattle.std.specs.Prelude.{slice_index_or}
 use Rattle.lu_grammar.specs.Bytes.{IsBytes, Cursor, place_in}
 use Rattle.lu_grammar.specs.Plans.{times}
@@ -9,7 +9,7 @@ use Rattle.freq_skips.specs.declared.skip_point.SkipPoint.{SkipPoint}
 use Rattle.freq_skips.specs.Entries.{Posting, no_posting, no_entry, entry_kind, postings_from, AreGoodFrom, IsBehindEntries}
 use Rattle.freq_skips.specs.Levels.{level_count, stride, data_count}
 use Rattle.freq_skips.specs.Terms.{TermData}
-use Rattle.freq_skips.specs.Walks.{start_in, value_from}
+use Rattle.freq_skips.specs.Walks.{start_in}
 use Rattle.freq_skips.specs.Points.{entry_behind, point_after, IsPoint}
 use Rattle.freq_skips.proofs.EntryLemmas.{IsBehindEntries-none, IsBehindEntries-upto}
 use Rattle.freq_skips.proofs.WantedLemmas.{posting-at}

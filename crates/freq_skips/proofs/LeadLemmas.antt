@@ -1,13 +1,12 @@
 -- The skip levels of a term whose entries were handed over lead to those entries.
-use Rattle.std.proofs.Common.{◌≡◌, ℕ, zero, suc, ◌+◌, ◌-◌, ◌*◌, ◌/◌, ◌^◌, ◌<◌, ◌≤◌, Bool, true, false, List, [], ◌++◌, length, get_or, Option, Some, None, inl, inr, refl, sym, ap, subst, ◌∙◌, arith}
-use Rattle.std.specs.Prelude.{if◌then◌else◌, slice_index_or, nat_lt}
+use Rattle.std.proofs.Common.{◌≡◌, ℕ, zero, suc, ◌-◌, ◌*◌, ◌/◌, ◌^◌, ◌<◌, ◌≤◌, Bool, true, List, ◌++◌, length, inl, inr, refl, sym, ap, subst, ◌∙◌, arith}
+use Rattle.std.specs.Prelude.{nat_lt}
 use Rattle.std.proofs.lemmas.Bool.{cases_eq}
 use Rattle.std.proofs.lemmas.Bool.Decides.{nat_tests}
 use Rattle.std.proofs.lemmas.List.{length-append}
 use Rattle.std.proofs.Math.Nat.{div-div-eq-div-mul, div-mul-le_self, mul-le-mul_right, pow-suc}
 use Rattle.lu_grammar.specs.Parts.{vlong, spelling}
 use Rattle.freq_skips.specs.declared.rules.RuledTerm.{RuledTerm}
-use Rattle.freq_skips.specs.declared.writer.Mark.{Mark}
 use Rattle.freq_skips.specs.Levels.{stride, data_count}
 use Rattle.freq_skips.specs.Written.{Handed, optional_bytes, entries_bytes, mark_of, written_postings, AreInOrder, SkipLevel, skip_level, mark_after, child_after, child_pointer, data_bytes, data_number, level_above, with_level_length, skip_bytes, bytes_to_child, written_skip, place_with}
 use Rattle.freq_skips.specs.Writing.{IsRisingProx}

@@ -1,13 +1,13 @@
 -- The levels that a writer makes out of marks and child pointers are the levels of its entries.
-use Rattle.std.proofs.Common.{◌≡◌, ℕ, zero, suc, add-one, ◌+◌, ◌-◌, ◌*◌, ◌/◌, ◌%◌, ◌^◌, ◌<◌, ◌≤◌, eqb, Bool, true, false, List, [], ◌∷◌, ◌++◌, length, get_or, Option, Some, None, inl, inr, refl, sym, ap, subst, ◌∙◌, arith}
-use Rattle.std.specs.Prelude.{slice_index, slice_index_or, ◌==◌, if◌then◌else◌}
+use Rattle.std.proofs.Common.{◌≡◌, ℕ, zero, suc, add-one, ◌+◌, ◌-◌, ◌*◌, ◌/◌, ◌%◌, ◌^◌, ◌<◌, ◌≤◌, eqb, Bool, true, false, List, [], ◌∷◌, ◌++◌, length, get_or, Option, Some, inl, inr, refl, sym, ap, subst, ◌∙◌, arith}
+use Rattle.std.specs.Prelude.{slice_index}
 use Rattle.std.proofs.lemmas.Bool.{cases_eq, cases_lt, eq-eqb, ne_eqb}
 use Rattle.std.proofs.Math.ListN.{get_or-append}
 use Rattle.std.proofs.Math.Seq.{get_or-append_seam}
 use Rattle.std.proofs.Math.Nat.{div-div-eq-div-mul, div-mul-le_self, mul-le-mul_right, mul_assoc, mul_comm, mul-mod_left, div-eq_of_lt-le, pow-suc, pow-zero}
 use Rattle.freq_skips.specs.declared.datum.Skip.{Skip}
 use Rattle.freq_skips.specs.declared.writer.Mark.{Mark}
-use Rattle.freq_skips.specs.Written.{Handed, no_mark, mark_of, skip_between, bytes_to_child, datum_bytes, SkipLevel, skip_level, mark_after, child_after, child_pointer, written_skip, data_bytes, data_with, data_number, level_above, with_level_length, skip_bytes, place_with}
+use Rattle.freq_skips.specs.Written.{Handed, mark_of, skip_between, bytes_to_child, datum_bytes, SkipLevel, skip_level, mark_after, child_after, child_pointer, written_skip, data_bytes, data_number, level_above, with_level_length, skip_bytes, place_with}
 use Rattle.freq_skips.specs.InnerLevels.{LevelMarks, HasMarks, marked_after, pointed_after, marked_skip, marked_bytes, places_after, marked_count, marked_above, marked_levels, lowest_marks}
 use Rattle.freq_skips.proofs.Powers.{quotient-below}
 use Rattle.freq_skips.proofs.WriterLemmas.{places_after-length, marked_bytes-none, marked_bytes-more, marked_levels-none, marked_levels-next}

@@ -1,8 +1,8 @@
 -- What marks and postings of entries that were handed over have in common.
-use Rattle.std.proofs.Common.{◌≡◌, ℕ, zero, suc, ◌+◌, ◌-◌, ◌*◌, ◌/◌, ◌^◌, ◌<◌, ◌≤◌, Bool, true, false, List, [], ◌∷◌, ◌++◌, length, take, get_or, refl, arith}
+use Rattle.std.proofs.Common.{◌≡◌, ℕ, zero, suc, ◌+◌, ◌^◌, ◌<◌, ◌≤◌, Bool, true, false, List, [], ◌∷◌, length, take, get_or, refl, arith}
 use Rattle.std.specs.Prelude.{if◌then◌else◌, slice_index_or}
 use Rattle.std.proofs.lemmas.List.{length-append}
-use Rattle.freq_skips.specs.Entries.{Posting, no_posting}
+use Rattle.freq_skips.specs.Entries.{no_posting}
 use Rattle.freq_skips.specs.Written.{Handed, no_handed, entry_bytes, entries_bytes, last_doc, mark_of, written_postings, AreInOrder}
 use Rattle.freq_skips.specs.Writing.{IsRisingProx}
 use Rattle.freq_skips.proofs.WrittenLevels.{IsUpTo}

@@ -1,5 +1,5 @@
 -- What holds of the postings of a good term.
-use Rattle.std.proofs.Common.{◌≡◌, ◌≢◌, ℕ, zero, suc, add-one, ◌+◌, ◌-◌, ◌<◌, ◌≤◌, inl, inr, Bool, true, false, not, List, length, Option, Some, None, Ok, refl, sym, ap, subst, ◌∙◌, arith}
+use Rattle.std.proofs.Common.{◌≡◌, ℕ, zero, suc, add-one, ◌+◌, ◌<◌, ◌≤◌, inl, inr, Bool, true, false, not, List, length, Option, Some, None, refl, sym, ap, subst, ◌∙◌, arith}
 use Rattle.std.specs.Prelude.{slice_index_or, ◌==◌, ◌&&◌, nat_le, nat_lt}
 use Rattle.std.proofs.lemmas.Bool.{ne_eqb, cases_lt}
 use Rattle.std.proofs.lemmas.Bool.Decides.{nat_tests}
@@ -8,7 +8,7 @@ use Rattle.lu_grammar.specs.Plans.{times}
 use Rattle.lu_grammar.proofs.Parts.{IsBytes-drop}
 use Rattle.lu_grammar.proofs.Codecs.{same_pair, record_at-kept, all_unbroken, place_in-after}
 use Rattle.freq_skips.specs.declared.rules.RuledTerm.{RuledTerm}
-use Rattle.freq_skips.specs.Records.{Record, stated_of, delta_of, entry_shape}
+use Rattle.freq_skips.specs.Records.{stated_of, delta_of, entry_shape}
 use Rattle.freq_skips.specs.Entries.{Posting, no_posting, no_entry, gap, frequency, is_low, posting_of, entry_conditions, entry_kind, postings_from, AreEntries, IsBehindEntries}
 use Rattle.freq_skips.proofs.EntryLemmas.{IsBehindEntries-none, IsBehindEntries-more, IsBehindEntries-again, IsBehindEntries-upto, posting-is}
 use Rattle.freq_skips.proofs.WantedLemmas.{posting-at}

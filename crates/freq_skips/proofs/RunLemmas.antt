@@ -1,5 +1,5 @@
 -- Entries that are handed over one after another, each behind the last.
-use Rattle.std.proofs.Common.{◌≡◌, ◌⊎◌, ℕ, suc, ◌+◌, ◌-◌, ◌^◌, ◌<◌, ◌≤◌, Bool, true, false, List, [], ◌∷◌, ◌++◌, length, inl, inr, refl, sym, ap, subst, ◌∙◌, arith}
+use Rattle.std.proofs.Common.{◌≡◌, ◌⊎◌, ℕ, ◌+◌, ◌^◌, ◌<◌, ◌≤◌, Bool, true, false, List, [], ◌∷◌, ◌++◌, length, inl, inr, refl, sym, ap, subst, ◌∙◌, arith}
 use Rattle.std.specs.Prelude.{slice_index_or, if◌then◌else◌}
 use Rattle.std.proofs.lemmas.List.{length-append}
 use Rattle.lu_grammar.specs.Bytes.{IsBytes}
@@ -7,7 +7,7 @@ use Rattle.lu_types.specs.declared.term.TermInfo.{TermInfo}
 use Rattle.lu_types.specs.declared.term.TermRules.{TermRules}
 use Rattle.freq_skips.specs.Points.{HasKnownPlaces}
 use Rattle.freq_skips.specs.Written.{Handed, no_handed, entries_bytes, last_doc, AreInOrder}
-use Rattle.freq_skips.specs.Writing.{FrqWriting, IsRisingProx, IsFinishable, bytes_so_far, entry_added, prox_of, finished, skips, skip_delta, term_written}
+use Rattle.freq_skips.specs.Writing.{FrqWriting, IsRisingProx, bytes_so_far, entry_added, finished, skips, skip_delta, term_written}
 use Rattle.freq_skips.proofs.HandedLemmas.{rising-more, prox-below, order-more, last_doc-more}
 use Rattle.freq_skips.proofs.SoundLemmas.{places-written}
 

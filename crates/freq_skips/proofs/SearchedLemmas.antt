@@ -1,5 +1,5 @@
 -- A level is searched from where the level above leads: how many data lead below the target, and how many were read.
-use Rattle.std.proofs.Common.{◌≡◌, ℕ, zero, suc, ◌+◌, ◌-◌, ◌*◌, ◌/◌, ◌^◌, ◌<◌, ◌≤◌, ◌⊎◌, inl, inr, Bool, true, false, true≢false, List, [], length, refl, sym, ap, subst, ◌∙◌, arith}
+use Rattle.std.proofs.Common.{◌≡◌, ℕ, zero, suc, ◌+◌, ◌-◌, ◌*◌, ◌/◌, ◌<◌, ◌≤◌, ◌⊎◌, inl, inr, Bool, true, false, true≢false, List, refl, sym, ap, subst, ◌∙◌, arith}
 use Rattle.std.specs.Prelude.{slice_index_or, nat_lt, min, if◌then◌else◌}
 use Rattle.std.proofs.lemmas.Bool.{cases_lt, cases_eq, eq-eqb, ne_eqb}
 use Rattle.std.proofs.lemmas.List.Sums.{prefix_len_is}
@@ -12,7 +12,7 @@ use Rattle.freq_skips.specs.Terms.{TermData}
 use Rattle.freq_skips.specs.Walks.{start_in, value_from, points_in}
 use Rattle.lu_prims.specs.Steps.{ticked}
 use Rattle.freq_skips.specs.Points.{is_highest, data_below, data_led, data_searched, data_read, find_steps, highest_count, most_steps}
-use Rattle.freq_skips.specs.Finding.{CanSearch, HasPassedData, StopsAt}
+use Rattle.freq_skips.specs.Finding.{CanSearch, StopsAt}
 use Rattle.freq_skips.proofs.AboveLemmas.{data_count-above}
 use Rattle.lu_prims.proofs.StepLemmas.{ticked-ticked}
 use Rattle.freq_skips.proofs.PointLemmas.{leads-there}

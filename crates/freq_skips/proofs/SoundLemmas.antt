@@ -1,14 +1,12 @@
 -- A term that is good is sound, and one that was written has the places of positions that were handed over.
-use Rattle.std.proofs.Common.{◌≡◌, ℕ, suc, ◌+◌, ◌-◌, ◌*◌, ◌^◌, ◌<◌, ◌≤◌, Bool, true, false, List, ◌++◌, length, refl, sym, ap, subst, ◌∙◌, arith}
+use Rattle.std.proofs.Common.{◌≡◌, ℕ, suc, ◌+◌, ◌^◌, ◌<◌, ◌≤◌, Bool, true, false, List, ◌++◌, length, refl, sym, ap, subst, ◌∙◌, arith}
 use Rattle.std.specs.Prelude.{slice_index_or, if◌then◌else◌}
 use Rattle.lu_grammar.specs.Bytes.{IsBytes, Cursor, place_in}
 use Rattle.lu_grammar.specs.Meaning.{ReadsTo}
 use Rattle.freq_skips.specs.declared.rules.RuledTerm.{RuledTerm}
-use Rattle.freq_skips.specs.Entries.{Posting, no_posting, postings_from}
-use Rattle.freq_skips.specs.Levels.{level_count, stride, data_count}
+use Rattle.freq_skips.specs.Entries.{Posting, postings_from}
 use Rattle.freq_skips.specs.Terms.{TermData, IsGoodTerm, term_plan}
-use Rattle.freq_skips.specs.Walks.{start_in, value_from, point_at}
-use Rattle.freq_skips.specs.ProxPlaces.{HasProxPlaces}
+use Rattle.freq_skips.specs.Walks.{start_in, value_from}
 use Rattle.freq_skips.specs.Points.{HasKnownPlaces}
 use Rattle.freq_skips.specs.Sound.{IsSoundTermData}
 use Rattle.freq_skips.specs.Written.{no_handed}

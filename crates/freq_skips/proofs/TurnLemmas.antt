@@ -1,7 +1,7 @@
 -- The terms of a file, one after another.
 use Rattle.std.proofs.Common.{◌≡◌, ℕ, inl, inr, List, [], ◌∷◌, ◌++◌, Err}
-use Rattle.lu_grammar.specs.Bytes.{IsBytes, Cursor, start_of, place_in}
-use Rattle.lu_grammar.specs.Plans.{Broken, read_plan}
+use Rattle.lu_grammar.specs.Bytes.{IsBytes, Cursor, place_in}
+use Rattle.lu_grammar.specs.Plans.{read_plan}
 use Rattle.lu_grammar.specs.Meaning.{ReadsTo, FirstFault}
 use Rattle.lu_grammar.proofs.Parts.{IsBytes-drop}
 use Rattle.lu_grammar.proofs.Files.{read_plan-FaultFrom}

@@ -1,5 +1,5 @@
 -- What a reader relies on of a term that was checked (docs/FORMAT.md, "Entries and skip data").
-use Rattle.std.specs.Prelude.{◌≡◌, ◌<◌, ◌≤◌, ◌-◌, ◌*◌, ℕ, suc, List, [], length, slice_index_or}
+use Rattle.std.specs.Prelude.{◌≡◌, ◌<◌, ◌≤◌, ◌-◌, ◌*◌, ℕ, suc, length, slice_index_or}
 use Rattle.freq_skips.specs.declared.rules.RuledTerm.{RuledTerm}
 use Rattle.freq_skips.specs.Entries.{no_posting}
 use Rattle.freq_skips.specs.Levels.{level_count, stride, data_count}

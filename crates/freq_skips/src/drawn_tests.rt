@@ -121,11 +121,7 @@ struct WrittenFile {
 }
 
 /// A file of a term of one entry, and where the drawn term behind it starts.
-fn begun_file(
-    rt: &impl Abort,
-    alloc: Global,
-    drawn: &Drawn,
-) -> Result<(FreqWriter, u32), Fail>
+fn begun_file(rt: &impl Abort, alloc: Global, drawn: &Drawn) -> Result<(FreqWriter, u32), Fail>
     requires { 2 ≤ drawn.now.interval }
     ensures interval { IfOk result (λ x. x.0.interval ≡ drawn.now.interval) }
     ensures levels { IfOk result (λ x. x.0.most ≡ drawn.now.levels) }

@@ -99,7 +99,13 @@ fn check_level(
         (λ places. IsGoodLevel entries.now.term (postings_from entries.now.term (place_in entries.now.frq.now entries.now.start)) number points entries.now.frq.now at places.«data» places.end)
         (λ spot. IsBroken Frq (read_plan (level_plan entries.now.term (postings_from entries.now.term (place_in entries.now.frq.now entries.now.start)) number points) (place_in entries.now.frq.now at)) spot) }
 {
-    let (stated, data) = match level_length(entries.frq, at, &entries.term, number, above.is_none()) {
+    let (stated, data) = match level_length(
+        entries.frq,
+        at,
+        &entries.term,
+        number,
+        above.is_none(),
+    ) {
         Err(spot) => return Err(spot),
         Ok(found) => found,
     };

@@ -84,7 +84,13 @@ fn data_end(frq: &[u8], start: usize, term: &RuledTerm, number: u32, count: u32)
 }
 
 /// Passes the next datum along a level.
-fn pass_datum(frq: &[u8], term: &RuledTerm, level: u32, place_before: &LevelPlace, before: u32) -> LevelPlace
+fn pass_datum(
+    frq: &[u8],
+    term: &RuledTerm,
+    level: u32,
+    place_before: &LevelPlace,
+    before: u32,
+) -> LevelPlace
     requires interval { 2 ≤ term.now.rules.skip_interval }
     requires level { level < count_of_levels term.now }
     requires within { before < term.now.info.doc_freq }

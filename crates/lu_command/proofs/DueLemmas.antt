@@ -13,7 +13,7 @@ use Rattle.check_index.specs.Files.{file_at}
 use Rattle.lu_command.specs.Files.{first_too_long, part_names, AreFound}
 use Rattle.lu_command.specs.Needs.{fields_kinds, docs_kinds, table_files, document_files}
 use Rattle.lu_command.specs.Texts.{field_lines, doc_lines}
-use Rattle.lu_command.specs.Outcomes.{too_large_outcome}
+use Rattle.lu_command.specs.Outcomes.{too_large_outcome, IsProper, IsAnswerOf}
 use Rattle.lu_command.specs.Due.{FieldsSay, DocsSay, FilesDue, MeaningDue, Due}
 use Rattle.lu_command.specs.Answers.{Scene, Answers}
 use Rattle.lu_command.specs.Asking.{GaveUp, IsAnswered, Completes}
@@ -22,7 +22,7 @@ use Rattle.lu_command.proofs.MeaningLemmas.{only_meaning}
 use Rattle.lu_command.proofs.FilesSayLemmas.{FieldsSay-one, DocsSay-one}
 use Rattle.lu_command.proofs.CheckLemmas.{CheckDue-one, CheckDue-idle}
 use Rattle.lu_command.specs.Checking.{CheckDue}
-use Rattle.lu_command.proofs.IdleLemmas.{IsIdle, idle-without_effect, FilesSay-idle}
+use Rattle.lu_command.proofs.IdleLemmas.{IsIdle, idle-proper, idle-without_effect, FilesSay-idle}
 
 -- a file that may be loaded is not too long
 not_over : (found : Option (List ℕ)) → IsLoadable file_limit found → is_over file_limit found ≡ false
@@ -91,11 +91,15 @@ pub Due-idle : (words : List (List ℕ)) (files : Option Files) (outcome : Outco
 Due-idle words files outcome (inl a) = subst IsIdle (sym a.1) (idle-without_effect _ _ tt)
 Due-idle words files outcome (inr a) = MeaningDue-idle a.0 files outcome a.2
 
+-- what is due of words is proper
+pub Due-proper : (words : List (List ℕ)) (files : Option Files) (outcome : Outcome) → Due words files outcome → IsProper files outcome
+Due-proper words files outcome due = idle-proper files outcome (Due-idle words files outcome due)
+
 -- a call that answers by what is due answers it, where it did not give up
-pub Completes-answers : (words : List (List ℕ)) (files : Option Files) (before after : Scene) (answer : Status) → Answers (Due words files) before after answer → Completes words files answer
-Completes-answers words files before after answer answers told tells outcome due =
-    judge (IsAnswered-answers (Due words files) before after answer answers)
+pub Completes-answers : (words : List (List ℕ)) (files : Option Files) (Failed : Type 0) (before after : Scene) (answer : Status) → Answers (Due words files) Failed before after answer → Completes words files answer
+Completes-answers words files Failed before after answer answers told tells outcome due =
+    judge (IsAnswered-answers (Due words files) Failed before after answer answers)
   where
-    judge : IsAnswered (Due words files) answer → (answer ≡ outcome.status) ⊎ GaveUp answer
-    judge (inl a) = inl (a.2 ∙ ap (λ (o : Outcome). o.status) (Due-one told words a.0 outcome (subst (λ o. Due words o a.0) tells a.1) due))
+    judge : IsAnswered (Due words files) answer → IsAnswerOf outcome answer ⊎ GaveUp answer
+    judge (inl a) = inl (subst (λ (o : Outcome). IsAnswerOf o answer) (Due-one told words a.0 outcome (subst (λ o. Due words o a.0) tells a.1) due) a.2)
     judge (inr gave) = inr gave

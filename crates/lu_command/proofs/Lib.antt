@@ -1,7 +1,10 @@
 pub mod MeaningLemmas
 pub mod WordLemmas
+pub mod FewLemmas
 pub mod TextLemmas
+pub mod TellingLemmas
 pub mod AnswerLemmas
+pub mod EffectLemmas
 pub mod PrintsLemmas
 pub mod SafetyLemmas
 pub mod IdleLemmas

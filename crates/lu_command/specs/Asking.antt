@@ -12,6 +12,7 @@ use Rattle.lu_command.specs.declared.status.Which.TheVariants.{Dir, Sink}
 use Rattle.lu_command.specs.declared.outcome.Outcome.{Outcome}
 use Rattle.lu_command.specs.Commands.{Meaning, fields, docs, check, Means}
 use Rattle.lu_command.specs.Due.{Due}
+use Rattle.lu_command.specs.Outcomes.{IsAnswerOf}
 
 -- the answer to a failure of the folder
 abbrev pub status_of : DirFail → Status
@@ -43,9 +44,9 @@ GaveUp answer = (answer ≡ NoMemory) ⊎ ((answer ≡ Device Dir) ⊎ (answer �
 
 -- the answer is that of an outcome that is due, or the call gave up
 abbrev pub IsAnswered : (Outcome → Type 0) → Status → Type 0
-IsAnswered IsDue answer = ((outcome : Outcome) × IsDue outcome × (answer ≡ outcome.status)) ⊎ GaveUp answer
+IsAnswered IsDue answer = ((outcome : Outcome) × IsDue outcome × IsAnswerOf outcome answer) ⊎ GaveUp answer
 
 -- where the folder tells its files, the answer that is due is given, or the call gave up
 abbrev pub Completes : List (List ℕ) → Option Files → Status → Type 0
 Completes words files answer = ForSome files (λ told. (outcome : Outcome)
-    → Due words (Some told) outcome → (answer ≡ outcome.status) ⊎ GaveUp answer)
+    → Due words (Some told) outcome → IsAnswerOf outcome answer ⊎ GaveUp answer)

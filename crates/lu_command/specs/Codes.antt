@@ -12,3 +12,4 @@ code_of (statuses.Refused refusal) = 3
 code_of (statuses.Device which) = 4
 code_of statuses.NoMemory = 5
 code_of statuses.NoIndex = 6
+code_of statuses.LeftBehind = 7

@@ -4,6 +4,7 @@ pub mod Checking
 pub mod Codes
 pub mod Commands
 pub mod Due
+pub mod Effects
 pub mod Files
 pub mod Finding
 pub mod Meanings

@@ -1,19 +1,16 @@
 -- What a command comes to where nothing fails: an answer, a text, and an effect on the folder.
-use Rattle.std.specs.Prelude.{◌≡◌, ◌≢◌, ℕ, List}
+use Rattle.std.specs.Prelude.{◌≡◌, ◌≢◌, ◌⊎◌, ℕ, List, ◌++◌, Option}
+use Rattle.std.specs.Option.{ForSome}
 use Rattle.lu_dir.specs.Files.{Files}
 use Rattle.lu_types.specs.declared.kind.FileKind.{FileKind}
 use Rattle.lu_types.specs.declared.fault.Spot.{Spot}
 use Rattle.lu_command.specs.declared.status.Status.{Status}
-use Rattle.lu_command.specs.declared.status.Status.TheVariants.{Ok, NotStanding, Usage, Refused, Device, NoMemory}
+use Rattle.lu_command.specs.declared.status.Status.TheVariants.{Ok, NotStanding, Usage, Refused, Device, NoMemory, LeftBehind}
 use Rattle.lu_command.specs.declared.status.Refusal.TheVariants.{FileTooLarge}
-use Rattle.lu_command.specs.declared.outcome.Effect.{Effect}
 use Rattle.lu_command.specs.declared.outcome.Effect.TheVariants.{Nothing}
 use Rattle.lu_command.specs.declared.outcome.Outcome.{Outcome}
-use Rattle.lu_command.specs.Texts.{usage_text, fault_text, too_large_text}
-
--- the folder that is to stand after an effect
-abbrev pub standing : Effect → Files → Files
-standing Nothing files = files
+use Rattle.lu_command.specs.Effects.{LosesNothing}
+use Rattle.lu_command.specs.Texts.{usage_text, fault_text, too_large_text, left_behind_text}
 
 -- the outcome with this answer and this text, that leaves the folder as it is
 abbrev pub without_effect : Status → List ℕ → Outcome
@@ -43,9 +40,19 @@ too_large_outcome kind = without_effect (Refused (FileTooLarge kind)) (too_large
 abbrev pub IsAnswer : Status → Type 0
 IsAnswer (Device which) = ⊥
 IsAnswer NoMemory = ⊥
+IsAnswer LeftBehind = ⊥
 IsAnswer answer = Unit {0}
 
--- an outcome that a call may come to: it has such an answer, and only `Ok` changes the folder
-pub record IsProper (outcome : Outcome) : Type 0 where
+-- an outcome that a call may come to over these files: it has such an answer, only `Ok` changes the folder, and it loses nothing
+pub record IsProper (files : Option Files) (outcome : Outcome) : Type 0 where
   pub answer : IsAnswer outcome.status
   pub idle : outcome.status ≢ Ok → outcome.effect ≡ Nothing
+  pub sound : ForSome files (LosesNothing outcome.effect)
+
+-- the answer of an outcome that is done: its own, or, where it has an effect, that names were left behind
+abbrev pub IsAnswerOf : Outcome → Status → Type 0
+IsAnswerOf outcome answer = (answer ≡ outcome.status) ⊎ ((outcome.effect ≢ Nothing) × (answer ≡ LeftBehind))
+
+-- the text that is printed with it
+abbrev pub IsTextOf : Outcome → List ℕ → Type 0
+IsTextOf outcome text = (text ≡ outcome.text) ⊎ ((outcome.effect ≢ Nothing) × (text ≡ outcome.text ++ left_behind_text))

@@ -1,9 +1,12 @@
 -- What is printed with each answer.
-use Rattle.std.specs.Prelude.{◌≡◌, ◌⊎◌, ℕ, ◌<◌, List, length, take, Option}
+use Rattle.std.specs.Prelude.{◌≡◌, ◌≢◌, ◌⊎◌, ℕ, ◌<◌, List, ◌++◌, length, take, Option}
 use Rattle.lu_command.specs.declared.status.Status.{Status}
-use Rattle.lu_command.specs.declared.status.Status.TheVariants.{Device, NoMemory}
+use Rattle.lu_command.specs.declared.status.Status.TheVariants.{Device, NoMemory, LeftBehind}
 use Rattle.lu_command.specs.declared.status.Which.TheVariants.{Dir, Source, Sink}
+use Rattle.lu_command.specs.declared.outcome.Effect.TheVariants.{Nothing}
 use Rattle.lu_command.specs.declared.outcome.Outcome.{Outcome}
+use Rattle.lu_command.specs.Outcomes.{IsTextOf}
+use Rattle.lu_command.specs.Texts.{left_behind_text}
 use Rattle.lu_command.specs.Telling.{Took}
 
 -- what was printed with an answer, where `IsDue` says which outcome is due
@@ -13,10 +16,13 @@ Prints IsDue (Device Dir) before after = after ≡ before
 -- that the input failed is never answered
 Prints IsDue (Device Source) before after = ⊥
 -- a strict prefix of the text that is due where the output failed
-Prints IsDue (Device Sink) before after = (outcome : Outcome) × IsDue outcome × (count : ℕ) × (count < length outcome.text)
-    × Took (take count outcome.text) before after
+Prints IsDue (Device Sink) before after = (outcome : Outcome) × IsDue outcome
+    × ((text : List ℕ) × IsTextOf outcome text × ((count : ℕ) × (count < length text) × Took (take count text) before after))
 -- a prefix of it where memory ended, or nothing
-Prints IsDue NoMemory before after = (after ≡ before)
-    ⊎ ((outcome : Outcome) × IsDue outcome × (count : ℕ) × Took (take count outcome.text) before after)
+Prints IsDue NoMemory before after = (after ≡ before) ⊎ ((outcome : Outcome) × IsDue outcome
+    × ((text : List ℕ) × IsTextOf outcome text × ((count : ℕ) × Took (take count text) before after)))
+-- the whole text and the line after it where names without use may be left: of an outcome with an effect
+Prints IsDue LeftBehind before after = (outcome : Outcome) × IsDue outcome × (outcome.effect ≢ Nothing)
+    × Took (outcome.text ++ left_behind_text) before after
 -- the whole text with an answer that is due
 Prints IsDue answer before after = (outcome : Outcome) × IsDue outcome × (answer ≡ outcome.status) × Took outcome.text before after

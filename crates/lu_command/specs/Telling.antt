@@ -1,9 +1,16 @@
 -- What becomes of a text at the output.
 use Rattle.std.specs.Prelude.{◌≡◌, ℕ, ◌<◌, List, length, take, Option}
 use Rattle.lu_dir.specs.Streams.{with_taken}
+use Rattle.lu_dir.specs.declared.fail.DirFail.{DirFail}
+use Rattle.lu_dir.specs.declared.fail.DirFail.TheVariants as fails
 use Rattle.lu_command.specs.declared.status.Status.{Status}
 use Rattle.lu_command.specs.declared.status.Status.TheVariants.{Device, NoMemory}
 use Rattle.lu_command.specs.declared.status.Which.TheVariants.{Sink}
+
+-- the answer to a failure of the output
+abbrev pub output_status_of : DirFail → Status
+output_status_of fails.Failed = Device Sink
+output_status_of fails.OutOfMemory = NoMemory
 
 -- the output took a text whole
 abbrev pub Took : List ℕ → Option (List ℕ) → Option (List ℕ) → Type 0

@@ -46,6 +46,10 @@ fault_text segment spot = spot_text (part_name segment spot.kind) spot
 abbrev pub no_index_text : List ℕ
 no_index_text = line (codes "no index")
 
+-- the line that follows the text where names without use may be left
+abbrev pub left_behind_text : List ℕ
+left_behind_text = line (codes "left behind")
+
 -- the line of a commit that stands: the name of its file, and how many segments, documents and deleted documents it has
 abbrev pub stands_text : List ℕ → ℕ → ℕ → ℕ → List ℕ
 stands_text name segments documents deleted =

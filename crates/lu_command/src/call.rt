@@ -1,6 +1,6 @@
 //! The call that answers the words of the program.
 ghost use Rattle.std.specs.Prelude.{◌≡◌, IfOk, IsErrOf};
-ghost use Rattle.lu_dir.specs.Faults.{IsCaused};
+ghost use Rattle.lu_dir.specs.Faults.{Rose, IsCaused};
 ghost use Rattle.std.specs.Option.{ForSome};
 ghost use Rattle.lu_dir.specs.Files.{Leaves, AreMadeOfBytes};
 ghost use Rattle.lu_dir.specs.Loading.{texts};
@@ -8,8 +8,8 @@ ghost use Rattle.lu_command.specs.Commands.{Meaning};
 ghost use Rattle.lu_command.specs.Meanings.{meaning_of};
 ghost use Rattle.lu_command.specs.Outcomes.{usage_outcome};
 ghost use Rattle.lu_command.specs.Due.{MeaningDue, Due};
-ghost use Rattle.lu_command.specs.Answers.{IsGivenUp, Answers};
-ghost use Rattle.lu_command.specs.Asking.{AsksFor, Asks, Completes, folder_meant, status_of};
+ghost use Rattle.lu_command.specs.Answers.{IsDirFault, Answers};
+ghost use Rattle.lu_command.specs.Asking.{AsksFor, Asks, Completes, folder_meant};
 ghost use Rattle.lu_command.specs.Safety.{IsSafe};
 
 use crate::checking::check_outcome;
@@ -17,20 +17,11 @@ use crate::command::Command;
 use crate::outcome::Outcome;
 use crate::reading::{docs_outcome, fields_outcome};
 use crate::status::{Status, Which};
-use crate::telling::{finish, tell};
+use crate::finishing::{finish, given_up};
+use crate::telling::tell;
 use crate::texts::USAGE;
 use lu_dir::{Dir, DirFail, Sink, Source};
 use std::alloc::Global;
-
-/// The answer to a failure of the folder.
-fn given_up(fail: DirFail) -> Status
-    ensures { result ≡ status_of fail }
-{
-    match fail {
-        DirFail::Failed => Status::Device(Which::Dir),
-        DirFail::OutOfMemory => Status::NoMemory,
-    }
-}
 
 /// What a command comes to in the folder that was entered.
 fn outcome_of<D: Dir>(alloc: Global, command: Command<'_>, dir: &mut D) -> Result<Outcome, DirFail>
@@ -55,24 +46,24 @@ fn conclude<D: Dir, K: Sink>(
     out: &mut K,
 ) -> Status
     requires { ForSome (D.files dir.old) AreMadeOfBytes }
-    ensures answers { Answers (MeaningDue (meaning_of command.entry) (D.files dir.old))
+    ensures answers { Answers (MeaningDue (meaning_of command.entry) (D.files dir.old)) (Rose (D.faults dir.old) (D.faults dir.new))
         (record { files = D.files dir.old; taken = K.taken out.old }) (record { files = D.files dir.new; taken = K.taken out.new }) result }
     ensures asked { D.asked dir.new ≡ D.asked dir.old }
-    ensures folder { IsCaused (D.faults dir.old) (D.faults dir.new) (result ≡ Status.Device Which.Dir) }
+    ensures folder { IsCaused (D.faults dir.old) (D.faults dir.new) (IsDirFault result) }
     ensures output { IsCaused (K.faults out.old) (K.faults out.new) (result ≡ Status.Device Which.Sink) }
 {
     match outcome_of(alloc, command, dir) {
-        Ok(outcome) => finish(alloc, &outcome, out),
+        Ok(outcome) => finish(alloc, &outcome, dir, out),
         Err(fail) => given_up(fail),
     }
 }
 
 /// Answers a command.
 fn obey<D: Dir, K: Sink>(alloc: Global, command: Command<'_>, dir: &mut D, out: &mut K) -> Status
-    ensures answers { Answers (MeaningDue (meaning_of command.entry) (D.files dir.old))
+    ensures answers { Answers (MeaningDue (meaning_of command.entry) (D.files dir.old)) (Rose (D.faults dir.old) (D.faults dir.new))
         (record { files = D.files dir.old; taken = K.taken out.old }) (record { files = D.files dir.new; taken = K.taken out.new }) result }
     ensures asked { AsksFor (folder_meant (meaning_of command.entry)) (D.asked dir.new) result }
-    ensures folder { IsCaused (D.faults dir.old) (D.faults dir.new) (result ≡ Status.Device Which.Dir) }
+    ensures folder { IsCaused (D.faults dir.old) (D.faults dir.new) (IsDirFault result) }
     ensures output { IsCaused (K.faults out.old) (K.faults out.new) (result ≡ Status.Device Which.Sink) }
 {
     match dir.enter(alloc, command.dir()) {
@@ -84,9 +75,9 @@ fn obey<D: Dir, K: Sink>(alloc: Global, command: Command<'_>, dir: &mut D, out: 
 /// Does what the words after the program's name ask for, over this folder, input and output, and answers how it went.
 ///
 /// The answer and the text are those of the outcome that is due by the words and the files, and the folder is then the one
-/// that is to stand. `Device` comes only where a fault of that thing was counted in the call, and `NoMemory` may come at
-/// any time. With neither, the answer that is due comes. Whatever comes, no file is lost: the folder is as before, or the
-/// one that the outcome leaves.
+/// that is to stand. `Device` comes only where a fault of that thing was counted in the call, `LeftBehind` only where one of
+/// the folder was, and `NoMemory` may come at any time. With none of them, the answer that is due comes. Whatever comes, no
+/// commit is lost: the folder reads as before, or as the outcome leaves it.
 pub fn run<D: Dir, S: Source, K: Sink>(
     alloc: Global,
     words: &[String],
@@ -94,11 +85,12 @@ pub fn run<D: Dir, S: Source, K: Sink>(
     src: &mut S,
     out: &mut K,
 ) -> Status
-    ensures answers { Answers (Due (texts words.now) (D.files dir.old))
+    ensures answers { Answers (Due (texts words.now) (D.files dir.old)) (Rose (D.faults dir.old) (D.faults dir.new))
         (record { files = D.files dir.old; taken = K.taken out.old }) (record { files = D.files dir.new; taken = K.taken out.new }) result }
-    ensures safe { Leaves (λ old new. IsSafe (Due (texts words.now) (D.files dir.old)) result old new) (D.files dir.old) (D.files dir.new) }
+    ensures safe { Leaves (λ old new. IsSafe (Due (texts words.now) (D.files dir.old)) (Rose (D.faults dir.old) (D.faults dir.new)) result old new)
+        (D.files dir.old) (D.files dir.new) }
     ensures asked { Asks (texts words.now) (D.asked dir.old) (D.asked dir.new) result }
-    ensures folder { IsCaused (D.faults dir.old) (D.faults dir.new) (result ≡ Status.Device Which.Dir) }
+    ensures folder { IsCaused (D.faults dir.old) (D.faults dir.new) (IsDirFault result) }
     ensures output { IsCaused (K.faults out.old) (K.faults out.new) (result ≡ Status.Device Which.Sink) }
     ensures input { src.new ≡ src.old }
     ensures complete { Completes (texts words.now) (D.files dir.old) result }

@@ -1,5 +1,6 @@
 //! What the words of the contract of `run` promise together. The functions do nothing.
 ghost use Rattle.std.specs.Prelude.{◌≡◌, ℕ, List, Option, Some};
+ghost use Rattle.lu_dir.specs.Faults.{Rose};
 ghost use Rattle.lu_dir.specs.Files.{Files};
 ghost use Rattle.lu_command.specs.declared.outcome.Outcome.{Outcome};
 ghost use Rattle.lu_command.specs.Commands.{Meaning, Means};
@@ -25,15 +26,16 @@ pub fn one_outcome()
 /// An outcome that is due has an answer that says neither that something failed nor that memory ended, and no outcome
 /// changes the folder.
 pub fn outcomes_are_proper()
-    ensures proper { (words : List (List ℕ)) (files : Option Files) (outcome : Outcome) → Due words files outcome → IsProper outcome }
+    ensures proper { (words : List (List ℕ)) (files : Option Files) (outcome : Outcome) → Due words files outcome → IsProper files outcome }
     ensures unchanged { (words : List (List ℕ)) (files : Option Files) (outcome : Outcome)
         → Due words files outcome → outcome.effect ≡ Effect.Nothing }
 {}
 
-/// What is printed with each answer of a call, and that the files of the folder are as before, whatever is answered.
+/// What is printed with each answer of a call, where the folder's count of faults was the first of two numbers before and is the
+/// last after it; and that the files of the folder are as before, whatever is answered.
 pub fn what_answers_leave()
-    ensures printed { (words : List (List ℕ)) (files : Option Files) (before after : Scene) (answer : Status)
-        → Answers (Due words files) before after answer → Prints (Due words files) answer before.taken after.taken }
-    ensures files { (words : List (List ℕ)) (files : Option Files) (before after : Scene) (answer : Status)
-        → Answers (Due words files) before after answer → after.files ≡ before.files }
+    ensures printed { (words : List (List ℕ)) (files : Option Files) (first last : ℕ) (before after : Scene) (answer : Status)
+        → Answers (Due words files) (Rose first last) before after answer → Prints (Due words files) answer before.taken after.taken }
+    ensures files { (words : List (List ℕ)) (files : Option Files) (first last : ℕ) (before after : Scene) (answer : Status)
+        → Answers (Due words files) (Rose first last) before after answer → after.files ≡ before.files }
 {}

@@ -5,6 +5,7 @@ mod call;
 mod checking;
 mod command;
 mod finding;
+mod finishing;
 mod judging;
 pub mod laws;
 mod limits;
@@ -28,6 +29,8 @@ mod check_row_tests;
 mod check_tests;
 #[cfg(test)]
 mod docs_tests;
+#[cfg(test)]
+mod finishing_tests;
 #[cfg(test)]
 mod run_tests;
 #[cfg(test)]

@@ -1,12 +1,15 @@
 //! What a command comes to where nothing fails.
 use crate::status::Status;
+use lu_folder::Change;
 use lu_types::Bytes;
 
-/// What a command makes of the folder. No command changes it yet.
+/// What a command makes of the folder.
 #[derive(Drop)]
 pub enum Effect {
     /// It leaves every file as it is.
     Nothing,
+    /// It makes a commit, and removes the names that this leaves without use.
+    Commit(Change),
 }
 
 /// What a command comes to where nothing fails: its answer, the text that is printed with it, and what it makes of the

@@ -40,6 +40,8 @@ pub enum Status {
     NoMemory,
     /// The folder has no commit.
     NoIndex,
+    /// The commit was made, and a failure of the folder was counted in the call: names without use may be left.
+    LeftBehind,
 }
 
 impl Status {
@@ -55,6 +57,7 @@ impl Status {
             Status::Device(_) => 4,
             Status::NoMemory => 5,
             Status::NoIndex => 6,
+            Status::LeftBehind => 7,
         }
     }
 }

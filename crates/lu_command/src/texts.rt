@@ -16,6 +16,9 @@ use stored_fields::{StoredDoc, StoredRef, StoredView, ValueRef};
 /// The line of words that have no meaning.
 pub const USAGE: &str = "usage: lucene3 COMMAND [DIR] [ARGUMENTS]\n";
 
+/// The line that follows the text where names without use may be left.
+pub const LEFT_BEHIND: &str = "left behind\n";
+
 /// The line of a folder without commits.
 pub const NO_INDEX: &str = "no index\n";
 

@@ -1,9 +1,9 @@
 //! Options and arguments among the words of a call.
-ghost use Rattle.std.specs.Prelude.{◌≡◌, ◌≢◌, List, ℕ, [], ◌∷◌, ◌++◌, MatchOption, string_bytes, slice_get};
+ghost use Rattle.std.specs.Prelude.{◌≡◌, ◌≢◌, List, ℕ, Bool, false, [], ◌∷◌, ◌++◌, filter, MatchOption, string_bytes, slice_get};
 ghost use Rattle.std.specs.Option.{option_copied};
 ghost use Rattle.std.specs.List.{before_first, after_first, list_any, position};
 ghost use Rattle.lu_dir.specs.Loading.{texts};
-ghost use Rattle.lu_command.specs.Words.{ends_options, is_option, options_in, arguments_in, HasDir, HasDirAndSegment};
+ghost use Rattle.lu_command.specs.Words.{ends_options, is_option, options_in, arguments_in, options_asking, is_asked_for, AreFew, HasDir, HasDirAndCompound, HasDirAndSegment};
 
 use lu_types::segment_number;
 
@@ -22,6 +22,109 @@ pub(crate) fn dir_alone(words: &[String]) -> Option<&str>
         Some(_) => None,
         None => Some(first),
     }
+}
+
+/// No words, or one, or more.
+#[derive(Clone, Copy, Debug, PartialEq, Eq)]
+enum Few<'a> {
+    Nothing,
+    One(&'a str),
+    More,
+}
+
+/// Whether the word is an option, or, where arguments are asked for, is none.
+fn is_asked_for(word: &str, options: bool) -> bool
+    ensures { result ≡ is_asked_for options word.now }
+{
+    if options { is_option(word) } else { !is_option(word) }
+}
+
+/// What was found of some words, and then of this one.
+fn with_word<'a>(found: Few<'a>, word: &'a str, options: bool) -> Few<'a>
+    ensures { (words : List (List ℕ)) → AreFew found.entry (filter (is_asked_for options) words)
+        → AreFew result (filter (is_asked_for options) (words ++ word.now ∷ [])) }
+{
+    if is_asked_for(word, options) {
+        return match found {
+            Few::Nothing => Few::One(word),
+            _ => Few::More,
+        };
+    }
+    found
+}
+
+/// How many of the words are options, or, where arguments are asked for, how many are none; and which one is, where it is one.
+fn found_among(words: &[String], options: bool) -> Few<'_>
+    ensures { AreFew result (filter (is_asked_for options) (texts words.now)) }
+{
+    let mut found = Few::Nothing;
+    for word in words {
+        found = with_word(found, word.as_str(), options);
+    }
+    found
+}
+
+/// Whether one file is asked for in place of the parts; `None` where other options are there, or this one twice.
+fn asks_for_compound(ahead: &[String]) -> Option<bool>
+    ensures { MatchOption result
+        ((compound : Bool) → filter is_option (texts ahead.now) ≢ options_asking compound)
+        (λ compound. filter is_option (texts ahead.now) ≡ options_asking compound) }
+{
+    match found_among(ahead, true) {
+        Few::Nothing => Some(false),
+        Few::One(word) => {
+            if word == "--compound" {
+                Some(true)
+            } else {
+                None
+            }
+        }
+        Few::More => None,
+    }
+}
+
+/// The one word, where there is one and no other.
+fn lone(words: &[String]) -> Option<&str>
+    ensures { MatchOption result
+        ((word : List ℕ) → texts words.now ≢ word ∷ [])
+        (λ word. texts words.now ≡ word.now ∷ []) }
+{
+    if words.len() == 1 {
+        Some(words[0].as_str())
+    } else {
+        None
+    }
+}
+
+/// The one argument among the words before the end of the options, and those after it; `None` where it is not one.
+fn lone_argument<'a>(ahead: &'a [String], behind: &'a [String]) -> Option<&'a str>
+    ensures { MatchOption result
+        ((dir : List ℕ) → filter (is_asked_for false) (texts ahead.now) ++ texts behind.now ≢ dir ∷ [])
+        (λ dir. filter (is_asked_for false) (texts ahead.now) ++ texts behind.now ≡ dir.now ∷ []) }
+{
+    match found_among(ahead, false) {
+        Few::Nothing => lone(behind),
+        Few::One(dir) => {
+            if behind.is_empty() {
+                Some(dir)
+            } else {
+                None
+            }
+        }
+        Few::More => None,
+    }
+}
+
+/// The argument of a command that takes a folder and the option that asks for one file, from the words after its name.
+pub(crate) fn dir_and_compound(words: &[String]) -> Option<(&str, bool)>
+    ensures { MatchOption result
+        ((dir : List ℕ) (compound : Bool) → ¬ HasDirAndCompound (texts words.now) dir compound)
+        (λ pair. HasDirAndCompound (texts words.now) pair.0.now pair.1) }
+{
+    let (ahead, behind) = around_end(words);
+    let compound = asks_for_compound(ahead)?;
+    let dir = lone_argument(ahead, behind)?;
+    Some((dir, compound))
 }
 
 /// The arguments of a command that takes a folder and a segment, and no options, from the words after its name.

@@ -1,9 +1,7 @@
 ghost use Rattle.std.specs.Prelude.{IfOk};
 ghost use Rattle.segment_infos.specs.Values.{IsLine};
 
-use crate::{
-    FolderFault, current, newest, next_del, next_generation, next_segment, read_segment,
-};
+use crate::{FolderFault, current, newest, next_del, next_generation, next_segment, read_segment};
 use lu_dir::{Dir, MemDir};
 use lu_prims::OutOfMemory;
 use lu_types::rules::{CHECKSUM, ENDS};

@@ -19,6 +19,7 @@ const LEAVINGS: [Left; 6] = [
 
 // The call that makes the commit, and the last one, which removes.
 const PATCH: u64 = 7;
+
 const LAST: u64 = 9;
 
 // A folder with a commit, a file that it needs, and one that nothing needs.

@@ -1,12 +1,11 @@
 //! The files of a segment that are read.
-ghost use Rattle.std.specs.Prelude.{◌≡◌, ◌++◌, ◌<◌, ◌^◌, ℕ, length, map, All, IfOk, OnOk, IsErrOf, Some, None};
+ghost use Rattle.std.specs.Prelude.{◌≡◌, ◌++◌, ℕ, length, map, All, IfOk, OnOk, IsErrOf, Some, None};
 ghost use Rattle.std.specs.Option.{ForSome};
 ghost use Rattle.lu_types.specs.declared.fault.Fault.{Fault};
 ghost use Rattle.lu_dir.specs.Faults.{IsCaused};
 ghost use Rattle.lu_dir.specs.Files.{contents};
 ghost use Rattle.lu_dir.specs.Loading.{texts, IsLoadable};
 ghost use Rattle.segment_infos.specs.LuceneNames.{IsName, name_spelling};
-ghost use Rattle.segment_infos.specs.Referring.{del_names, sep_names_from, norm_names};
 ghost use Rattle.segment_infos.specs.Values.{IsLine};
 ghost use Rattle.lu_folder.specs.Limits.{file_limit};
 ghost use Rattle.lu_folder.specs.Reading.{own_part as own_part_of, packed_store as packed_store_of, document_part as document_part_of, holder as holder_of, parts_read, read_names as names_read, kind_of_name as kind_named, first_too_large};
@@ -16,7 +15,7 @@ use crate::fault::FolderFault;
 use lu_dir::{Dir, LoadFault, Loaded, load};
 use lu_prims::OutOfMemory;
 use lu_types::{FRONT_KINDS, FileKind, SharedStore, VECTOR_KINDS};
-use segment_infos::{LuceneName, NormGens, SegInfo, name_text};
+use segment_infos::{LuceneName, SegInfo, name_text, push_del_names, push_norm_names};
 use std::alloc::Global;
 
 /// The number of a segment that has its own parts outside a compound file.
@@ -100,52 +99,6 @@ fn push_parts(
     Ok(())
 }
 
-/// Adds the files of the norms that stand in files of their own.
-fn push_norms(
-    names: &mut Vec<LuceneName>,
-    number: u32,
-    generations: &[i64],
-) -> Result<(), OutOfMemory>
-    requires { length generations.now < 2 ^ 31 }
-    ensures { OnOk result (names.new.items ≡ names.old.items ++ sep_names_from number 0 generations.now) }
-{
-    for (field, generation) in generations.iter().enumerate() {
-        if *generation > 0 {
-            names.push(LuceneName::Sep(number, *generation as u64, field as u32))?;
-        }
-    }
-    Ok(())
-}
-
-/// The same, where they are counted.
-fn push_counted_norms(
-    names: &mut Vec<LuceneName>,
-    number: u32,
-    generations: &Option<NormGens>,
-) -> Result<(), OutOfMemory>
-    requires { ForSome generations.now (λ counted. length counted < 2 ^ 31) }
-    ensures { OnOk result (names.new.items ≡ names.old.items ++ norm_names number generations.now) }
-{
-    match generations {
-        None => Ok(()),
-        Some(generations) => push_norms(names, number, generations.as_slice()),
-    }
-}
-
-/// Adds the file of deleted documents, where there is one.
-fn push_del(
-    names: &mut Vec<LuceneName>,
-    number: u32,
-    generation: Option<u64>,
-) -> Result<(), OutOfMemory>
-    ensures { OnOk result (names.new.items ≡ names.old.items ++ del_names number generation) }
-{
-    if let Some(generation) = generation {
-        names.push(LuceneName::Del(number, generation))?;
-    }
-    Ok(())
-}
-
 /// The names of the files that are read for a segment, in the order in which files are checked.
 fn read_names(alloc: Global, info: &SegInfo) -> Result<Vec<LuceneName>, OutOfMemory>
     requires { IsLine info.now }
@@ -153,8 +106,8 @@ fn read_names(alloc: Global, info: &SegInfo) -> Result<Vec<LuceneName>, OutOfMem
 {
     let mut names = Vec::new(alloc);
     push_parts(&mut names, info, &FRONT_KINDS)?;
-    push_counted_norms(&mut names, info.number, &info.norm_gens)?;
-    push_del(&mut names, info.number, info.del_gen)?;
+    push_norm_names(&mut names, info.number, &info.norm_gens)?;
+    push_del_names(&mut names, info.number, info.del_gen)?;
     push_parts(&mut names, info, &VECTOR_KINDS)?;
     Ok(names)
 }

@@ -179,8 +179,10 @@ fn level_of(
     let mut carried = 0;
     for index in 0..drawn.entries / stride {
         let entry = index.wrapping_add(1).wrapping_mul(stride).wrapping_sub(1);
-        let (Some(start), Some(place)) = (starts.entries.get(entry as usize), starts.places.get(entry as usize))
-        else {
+        let (Some(start), Some(place)) = (
+            starts.entries.get(entry as usize),
+            starts.places.get(entry as usize),
+        ) else {
             return Err(Fail::from("no entry"));
         };
         let doc = entry.wrapping_sub(1).wrapping_mul(2);

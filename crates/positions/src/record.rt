@@ -56,7 +56,11 @@ fn stated_length(cur: &mut Cur<'_>, payloads: bool, delta: u32) -> Result<Option
 }
 
 /// The parts of the occurrence that stands here, where this payload length is in force.
-pub fn occurrence_parts<'a>(cur: &mut Cur<'a>, payloads: bool, force: u32) -> Result<OccurrenceParts<'a>, Bad>
+pub fn occurrence_parts<'a>(
+    cur: &mut Cur<'a>,
+    payloads: bool,
+    force: u32,
+) -> Result<OccurrenceParts<'a>, Bad>
     ensures { Gives occurrence_record_of (read_shape (occurrence_shape payloads force) cur.old) cur.new result }
 {
     let delta = match cur.vint() {

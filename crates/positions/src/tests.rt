@@ -109,7 +109,8 @@ fn reads(prx: &[u8], frq: &[u8], info: &TermInfo, rules: &TermRules, sought: &So
     if check_entries(frq, info.freq as usize, info, rules).is_err() {
         return false;
     }
-    let Some((mut occurrences, passed)) = occurrences_from(prx, frq, info, rules, sought.target) else {
+    let Some((mut occurrences, passed)) = occurrences_from(prx, frq, info, rules, sought.target)
+    else {
         return false;
     };
     let mut steps: Steps<Read> = Steps::new();

@@ -22,7 +22,12 @@ fn restates(before: Option<u32>, length: u32) -> bool
 }
 
 /// An occurrence in its written form, so far above the position before, after one with this payload length in its document.
-fn written<'a>(payloads: bool, before: Option<u32>, gap: u32, payload: &'a [u8]) -> OccurrenceParts<'a>
+fn written<'a>(
+    payloads: bool,
+    before: Option<u32>,
+    gap: u32,
+    payload: &'a [u8],
+) -> OccurrenceParts<'a>
     requires gap { gap < 2 ^ 31 }
     requires few { length payload.now < 2 ^ 31 }
     ensures { occurrence_record_of result ≡ written_parts payloads before gap payload.entry.now }

@@ -26,7 +26,7 @@ pub use listing::generations;
 pub use lists::{MapPairs, NormGens, Segments};
 pub use naming::{LuceneName, name_text, name_value};
 pub use reading::read;
-pub use removing::{Kept, removable, removable_all};
+pub use removing::{Kept, push_del_names, push_norm_names, removable, removable_all};
 pub use writing::{write, write_pending};
 
 #[cfg(test)]

@@ -87,8 +87,9 @@ fn push_store_parts(
     }
 }
 
-/// Adds the file of deleted documents, where there is one.
-fn push_del(
+/// Adds the name of the file of deleted documents of a segment with a number, where it has one (format page, "Names of files").
+/// `OutOfMemory` says only that there was no memory.
+pub fn push_del_names(
     names: &mut Vec<LuceneName>,
     number: u32,
     generation: Option<u64>,
@@ -118,8 +119,9 @@ fn push_norms(
     Ok(())
 }
 
-/// The same, where they are counted.
-fn push_counted_norms(
+/// Adds the names of the files of norms that stand alone, of the segment with a number, field by field (format page, "Names of files").
+/// `OutOfMemory` says only that there was no memory.
+pub fn push_norm_names(
     names: &mut Vec<LuceneName>,
     number: u32,
     generations: &Option<NormGens>,
@@ -140,8 +142,8 @@ fn push_line(names: &mut Vec<LuceneName>, line: &SegInfo) -> Result<(), OutOfMem
 {
     push_own_parts(names, line)?;
     push_store_parts(names, &line.store)?;
-    push_del(names, line.number, line.del_gen)?;
-    push_counted_norms(names, line.number, &line.norm_gens)
+    push_del_names(names, line.number, line.del_gen)?;
+    push_norm_names(names, line.number, &line.norm_gens)
 }
 
 /// Adds the names that the lines refer to.

@@ -1,7 +1,7 @@
 //! Commits, read and written: bytes that come from the format, and not from this crate.
 ghost use Rattle.std.specs.Prelude.{◌<◌};
 
-use crate::{Commit, read, write, write_pending};
+use crate::{read, write, write_pending};
 use lu_prims::{OutOfMemory, crc32, put_i32, put_i64, put_text};
 use lu_types::rules::{
     CHECKSUM, COMPOUND_FLAG, DEL_GEN, DELETION_COUNT, ENDS, FORMAT, MAP_COUNT, NAME_COUNTER,

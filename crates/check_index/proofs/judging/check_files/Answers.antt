@@ -1,11 +1,13 @@
 use Rattle.std.proofs.Common.{refl}
+use Rattle.lu_types.specs.FilePlans.{StandFor}
 use Rattle.check_index.specs.Files.{folder_of}
 use Rattle.check_index.specs.Locating.{part_files_of}
-use Rattle.check_index.specs.Segments.{SegmentValue, segment_value}
+use Rattle.check_index.specs.Segments.{SegmentValue, segment_value, segment_files}
 use Rattle.check_index.specs.Opened.{contents_of, columns_of}
 use Rattle.check_index.proofs.LocatedLemmas.{located-short}
 use Rattle.check_index.proofs.ContentFiles.{located-fault, contents-fault, columns-fault, segment-stands}
 use Rattle.check_index.proofs.VectorFiles.{contents-within}
+use Rattle.check_index.proofs.ValidSegment.{index-valid}
 use Rattle.check_index.proofs.judging.check_files.Goals as goal
 
 pub open_contents-requires-clause-short : goal.open_contents-requires-clause-short
@@ -37,3 +39,24 @@ returns c =
 
 pub returns-in-Err : goal.returns-in-Err
 returns-in-Err c = located-fault (λ (s : SegmentValue). s) (folder_of c.args.parts.now) c.args.info.now part_files_of c.in-Err.fault c.in-Err.ensures
+
+pub invariant_of-result : goal.invariant_of-result
+invariant_of-result c =
+    let folder = folder_of c.args.parts.now in
+    let line = c.args.info.now in
+    let contents = contents_of line.size c.in-Ok-open_contents.contents in
+    let columns = columns_of line.size c.in-Ok-open_columns.columns in
+    let whole = segment_value line.size contents columns in
+    let stands : StandFor (segment_files folder line) whole =
+    segment-stands (λ (s : SegmentValue). s) folder line (part_files_of c.in-Ok.files) c.in-Ok.ensures contents c.in-Ok-open_contents.ensures.judged columns whole c.in-Ok-open_columns.ensures.judged refl in
+    record {
+      valid = index-valid folder line whole c.requires.short stands c.requires.line;
+      checked = c.in-Ok-open_contents.ensures.checked;
+      listed = c.in-Ok-open_contents.ensures.listed;
+      good = c.in-Ok-open_contents.ensures.good;
+      small = c.in-Ok-open_contents.ensures.small;
+      posted = c.in-Ok-open_contents.ensures.posted;
+      norms = c.in-Ok-open_columns.ensures.norms;
+      live = c.in-Ok-open_columns.ensures.live;
+      vectors = c.in-Ok-open_columns.ensures.vectors;
+    }

@@ -1,4 +1,4 @@
-use Rattle.std.proofs.Common.{◌≡◌, ℕ, ◌^◌, ◌<◌, ◌≤◌}
+use Rattle.std.proofs.Common.{◌≡◌, ◌^◌, ◌<◌, ◌≤◌}
 use Rattle.freq_skips.specs.Levels.{level_count}
 use Rattle.freq_skips.specs.Walks.{start_in, value_from}
 use Rattle.lu_prims.specs.Steps.{ticked}

@@ -1,15 +1,9 @@
-use Rattle.std.proofs.Common.{◌≡◌, ◌⊎◌, ℕ, suc, ◌+◌, ◌-◌, ◌*◌, ◌^◌, ◌<◌, ◌≤◌, inl, inr, List, below_more, refl, sym, ap, subst, ◌∙◌, arith}
+use Rattle.std.proofs.Common.{◌≡◌, ◌⊎◌, ℕ, suc, ◌+◌, ◌-◌, ◌<◌, ◌≤◌, inl, inr, refl, sym, ap, subst, ◌∙◌, arith}
 use Rattle.std.specs.Prelude.{slice_index_or, min}
 use Rattle.std.proofs.lemmas.Bool.{cases_lt}
-use Rattle.lu_grammar.specs.declared.bad.Bad.{Bad}
-use Rattle.lu_grammar.specs.Bytes.{Cursor}
-use Rattle.freq_skips.specs.declared.rules.RuledTerm.{RuledTerm}
-use Rattle.freq_skips.specs.declared.datum.Point.{Point}
-use Rattle.freq_skips.specs.declared.following.Following.{Following}
-use Rattle.freq_skips.specs.Levels.{no_point, data_count, AreSmallSums}
+use Rattle.freq_skips.specs.Levels.{no_point}
 use Rattle.freq_skips.specs.Walks.{points_in}
 use Rattle.lu_prims.specs.Steps.{ticked}
-use Rattle.freq_skips.specs.Finding.{HasPassedData, StandsOn, StopsAt}
 use Rattle.freq_skips.proofs.PassLemmas.{StandsOn-next, StandsOn-unread}
 use Rattle.lu_prims.proofs.StepLemmas.{ticked-next}
 use Rattle.freq_skips.proofs.descent.pass_below.Goals as goal

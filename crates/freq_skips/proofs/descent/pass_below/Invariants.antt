@@ -1,4 +1,4 @@
-use Rattle.std.proofs.Common.{◌≡◌, ◌⊎◌, ℕ, ◌+◌, ◌-◌, ◌<◌, ◌≤◌, List}
+use Rattle.std.proofs.Common.{◌≡◌, ◌⊎◌, ℕ, ◌-◌, ◌<◌, ◌≤◌, List}
 use Rattle.std.specs.Prelude.{slice_index_or}
 use Rattle.freq_skips.specs.Levels.{no_point, data_count, AreSmallSums}
 use Rattle.freq_skips.specs.Walks.{points_in}

@@ -1,10 +1,10 @@
-use Rattle.std.proofs.Common.{◌≡◌, ℕ, ◌+◌, ◌<◌, ◌≤◌, ◌^◌, false, List, [], ◌∷◌, ◌++◌, length, refl, sym, ap, subst, ◌∙◌, arith}
+use Rattle.std.proofs.Common.{◌≡◌, ℕ, ◌+◌, ◌<◌, ◌^◌, false, List, [], ◌∷◌, ◌++◌, length, refl, sym, ap, subst, ◌∙◌, arith}
 use Rattle.std.proofs.lemmas.List.{length-append}
 use Rattle.lu_grammar.specs.Bytes.{IsBytes}
 use Rattle.lu_grammar.proofs.SpelledBytes.{IsBytes-nil, IsBytes-cons, IsBytes-append}
 use Rattle.freq_skips.specs.Written.{Handed}
-use Rattle.freq_skips.specs.Writing.{FrqWriting, entries_begun, entry_added, bytes_so_far, finished}
-use Rattle.freq_skips.proofs.RunLemmas.{Runs, Runs-none, Runs-more, Runs-order, Runs-places, nothing_handed}
+use Rattle.freq_skips.specs.Writing.{FrqWriting, entries_begun, bytes_so_far, finished}
+use Rattle.freq_skips.proofs.RunLemmas.{Runs, Runs-none, Runs-more, Runs-order, Runs-places}
 use Rattle.freq_skips.proofs.tests.written.Goals as goal
 
 pub loop-doc-init : goal.loop-doc-init

@@ -1,7 +1,11 @@
-use Rattle.std.proofs.Common.{◌∙◌}
+use Rattle.std.proofs.Common.{◌≡◌, Option, refl, sym, subst, ◌∙◌}
+use Rattle.lu_dir.specs.Faults.{Rose}
+use Rattle.lu_dir.proofs.Causes.{Rose-earlier}
+use Rattle.lu_dir.specs.Files.{Files}
+use Rattle.lu_command.specs.Answers.{Answers, nothing}
 use Rattle.lu_command.specs.Meanings.{meaning_of}
 use Rattle.lu_command.specs.Due.{MeaningDue}
-use Rattle.lu_command.proofs.AnswerLemmas.{IsDone-idle, Answers-told}
+use Rattle.lu_command.proofs.AnswerLemmas.{Answers-wider, IsGivenUp-failed}
 use Rattle.lu_command.proofs.DueLemmas.{MeaningDue-idle}
 use Rattle.lu_command.proofs.call.conclude.Goals as goal
 
@@ -9,9 +13,12 @@ pub returns-in-Ok-clause-answers : goal.returns-in-Ok-clause-answers
 returns-in-Ok-clause-answers g c =
     let files = g.D.Dir.files c.args.dir.now in
     let outcome = c.in-Ok.outcome in
-    let idle = (MeaningDue-idle (meaning_of c.args.command) files outcome c.in-Ok.ensures.due).1 in
-    Answers-told (MeaningDue (meaning_of c.args.command) files) outcome (record { files = files; taken = g.K.Sink.taken c.args.out.now })
-    (record { files = g.D.Dir.files c.outcome_of.new.dir; taken = g.K.Sink.taken c.finish.new.out }) c.finish.result c.in-Ok.ensures.due (c.in-Ok.ensures.files ∙ IsDone-idle outcome files idle) c.finish.ensures.tells
+    Answers-wider (λ due. due ≡ outcome) (MeaningDue (meaning_of c.args.command) files) (λ due is. subst (MeaningDue (meaning_of c.args.command) files) (sym is) c.in-Ok.ensures.due)
+    (Rose (g.D.Dir.faults c.outcome_of.new.dir) (g.D.Dir.faults c.finish.new.dir)) (Rose (g.D.Dir.faults c.args.dir.now) (g.D.Dir.faults c.finish.new.dir))
+    (λ rose. Rose-earlier (g.D.Dir.faults c.args.dir.now) (g.D.Dir.faults c.outcome_of.new.dir) (g.D.Dir.faults c.finish.new.dir) c.in-Ok.ensures.cause.later rose)
+    (record { files = files; taken = g.K.Sink.taken c.args.out.now }) (record { files = g.D.Dir.files c.finish.new.dir; taken = g.K.Sink.taken c.finish.new.out }) c.finish.result
+    (subst (λ (told : Option Files). Answers (λ due. due ≡ outcome) (Rose (g.D.Dir.faults c.outcome_of.new.dir) (g.D.Dir.faults c.finish.new.dir))
+    (record { files = told; taken = g.K.Sink.taken c.args.out.now }) (record { files = g.D.Dir.files c.finish.new.dir; taken = g.K.Sink.taken c.finish.new.out }) c.finish.result) c.in-Ok.ensures.files c.finish.ensures.answers)
 
 pub finish-requires : goal.finish-requires
-finish-requires g c = (MeaningDue-idle (meaning_of c.args.command) (g.D.Dir.files c.args.dir.now) c.in-Ok.outcome c.in-Ok.ensures.due).0.answer
+finish-requires g c = (MeaningDue-idle (meaning_of c.args.command) (g.D.Dir.files c.args.dir.now) c.in-Ok.outcome c.in-Ok.ensures.due).answer

@@ -1,11 +1,12 @@
+use Rattle.lu_dir.specs.Faults.{Rose}
 use Rattle.lu_command.specs.Due.{Due}
 use Rattle.lu_command.proofs.AnswerLemmas.{Answers-files}
 use Rattle.lu_command.proofs.PrintsLemmas.{Prints-answers}
-use Rattle.lu_command.proofs.DueLemmas.{Due-idle}
+use Rattle.lu_command.proofs.DueLemmas.{Due-idle, Due-proper}
 use Rattle.lu_command.proofs.laws.what_answers_leave.Goals as goal
 
 pub returns-clause-printed : goal.returns-clause-printed
-returns-clause-printed c words files = Prints-answers (Due words files) (λ outcome due. (Due-idle words files outcome due).0)
+returns-clause-printed c words files first last = Prints-answers (Due words files) (Rose first last) files (Due-proper words files)
 
 pub returns-clause-files : goal.returns-clause-files
-returns-clause-files c words files = Answers-files (Due words files) (λ outcome due. (Due-idle words files outcome due).1)
+returns-clause-files c words files first last = Answers-files (Due words files) (Rose first last) (λ outcome due. (Due-idle words files outcome due).effect)

@@ -2,7 +2,7 @@ use Rattle.std.proofs.Common.{◌≡◌, ℕ, ◌+◌, ◌<◌, length, ap, sym,
 use Rattle.std.specs.Prelude.{slice_index_or}
 use Rattle.freq_skips.specs.declared.entry.Entry.{Entry}
 use Rattle.freq_skips.specs.declared.rules.RuledTerm.{RuledTerm}
-use Rattle.freq_skips.specs.Entries.{Posting, no_posting, entry_of}
+use Rattle.freq_skips.specs.Entries.{no_posting, entry_of}
 use Rattle.freq_skips.specs.Terms.{TermData}
 use Rattle.freq_skips.specs.Walks.{WalkState, start_in, value_from}
 use Rattle.freq_skips.proofs.EntryLemmas.{never_broken, postings_from-length}

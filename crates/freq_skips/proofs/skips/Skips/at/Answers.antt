@@ -1,8 +1,8 @@
-use Rattle.std.proofs.Common.{◌<◌, ◌^◌, ap, sym, subst, arith}
+use Rattle.std.proofs.Common.{ap, sym, subst, arith}
 use Rattle.freq_skips.specs.ProxPlaces.{HasProxPlaces}
 use Rattle.freq_skips.specs.Points.{KnownTerm}
 use Rattle.freq_skips.specs.Terms.{TermData, term_of}
-use Rattle.freq_skips.specs.Walks.{start_in, value_from}
+use Rattle.freq_skips.specs.Walks.{start_in}
 use Rattle.freq_skips.proofs.WalkLemmas.{value_from-is}
 use Rattle.freq_skips.proofs.skips.Skips.at.Goals as goal
 

@@ -1,13 +1,10 @@
-use Rattle.std.proofs.Common.{◌≡◌, ℕ, ◌+◌, ◌*◌, ◌^◌, ◌<◌, ◌≤◌, sym, ap, subst, ◌∙◌, arith}
-use Rattle.freq_skips.specs.Levels.{level_count, data_count, stride}
+use Rattle.std.proofs.Common.{◌≡◌, ℕ, ◌+◌, ◌<◌, ◌≤◌, sym, ap, subst, ◌∙◌, arith}
+use Rattle.freq_skips.specs.Levels.{level_count}
 use Rattle.freq_skips.specs.declared.skip_point.SkipPoint.{SkipPoint}
-use Rattle.freq_skips.specs.declared.rules.RuledTerm.{RuledTerm}
-use Rattle.freq_skips.specs.declared.datum.Point.{Point}
 use Rattle.freq_skips.specs.Walks.{start_in, value_from}
 use Rattle.freq_skips.specs.ProxPlaces.{HasProxPlaces}
 use Rattle.lu_prims.specs.Steps.{ticked}
 use Rattle.freq_skips.specs.Points.{KnownTerm, IsLastBelow, find_steps, most_steps}
-use Rattle.freq_skips.specs.Finding.{CanSearch, HasPassedData}
 use Rattle.freq_skips.proofs.FoundLemmas.{reached, reached-if, entries-small, found-last, found-prox}
 use Rattle.freq_skips.proofs.SearchedLemmas.{steps-few}
 use Rattle.lu_prims.proofs.StepLemmas.{ticked-le}

@@ -1,9 +1,7 @@
-use Rattle.std.proofs.Common.{◌≡◌, ℕ, ◌+◌, ◌-◌, ◌^◌, ◌<◌, ◌≤◌, ◌++◌, ◌∷◌, [], eqb, true, false, Bool, List, length, take, inl, inr, refl, ap, sym, subst, ◌∙◌, append_assoc, arith, ◌*◌}
-use Rattle.std.specs.Prelude.{if◌then◌else◌, ◌==◌}
+use Rattle.std.proofs.Common.{◌≡◌, ℕ, ◌-◌, ◌^◌, ◌<◌, ◌≤◌, ◌++◌, [], eqb, true, false, Bool, List, length, take, inl, inr, refl, ap, sym, subst, ◌∙◌, append_assoc, arith, ◌*◌}
 use Rattle.std.proofs.Math.Nat.{pow-suc, pow-zero}
 use Rattle.std.proofs.Math.Seq.{take-length}
 use Rattle.std.proofs.lemmas.Bool.{eq-eqb, ne_eqb}
-use Rattle.std.proofs.lemmas.List.{append-nil, length-append}
 use Rattle.freq_skips.specs.declared.writer.Mark.{Mark}
 use Rattle.freq_skips.specs.Levels.{greatest_power}
 use Rattle.freq_skips.specs.Written.{Handed, entries_bytes, skip_level, skip_bytes}

@@ -1,5 +1,5 @@
 -- The canonical files of an index stand for it, and for no other.
-use Rattle.std.proofs.Common.{◌≡◌, ◌≢◌, ℕ, ◌^◌, ◌<◌, ◌≤◌, Bool, true, false, cond, List, [], length, Option, Some, None, sym, ap, ◌∙◌, arith}
+use Rattle.std.proofs.Common.{◌≡◌, ◌≢◌, ℕ, ◌^◌, ◌<◌, Bool, true, false, cond, List, [], length, Some, None, sym, ap, ◌∙◌, arith}
 use Rattle.std.specs.Prelude.{All, AllPairs}
 use Rattle.lu_types.proofs.FileLaws.{one_meaning}
 use Rattle.lu_model.specs.Index.{Index}

@@ -1,5 +1,5 @@
 -- The parts of an index are found in the folder, as files of their own or packed into one.
-use Rattle.std.proofs.Common.{◌≡◌, ℕ, ◌^◌, ◌<◌, Bool, true, false, cond, List, [], ◌∷◌, ◌++◌, length, map, Option, Some, None, refl, sym, ap, subst, ◌∙◌, arith}
+use Rattle.std.proofs.Common.{◌≡◌, ℕ, ◌^◌, ◌<◌, Bool, true, false, cond, List, [], ◌∷◌, length, map, Option, Some, None, refl, sym, ap, subst, ◌∙◌, arith}
 use Rattle.std.specs.Prelude.{filter_map}
 use Rattle.std.specs.List.{cons_option}
 use Rattle.lu_grammar.specs.Bytes.{IsBytes}
@@ -20,6 +20,7 @@ use Rattle.check_index.specs.Locating.{packed_part, packed_documents, packed_ind
 use Rattle.check_index.specs.Stands.{AreOwn}
 use Rattle.segment_files.specs.Written.{file_if_there, checked_in_order, packed_file, packed_if}
 use Rattle.segment_files.specs.Lines.{bytes_among, folder_with}
+use Rattle.segment_files.proofs.Limits.{each-join}
 
 -- the bytes of all parts, of which those of positions, norms and vectors are there where they are wanted
 pub record PartBytes : Type 0 where
@@ -159,10 +160,6 @@ module _ (number : ℕ) (files : List NamedFile) where
 file-bytes : (kind : FileKind) (file : Option (List ℕ)) → IfThere file → Each HoldsBytes (file_if_there kind file)
 file-bytes kind None h = tt
 file-bytes kind (Some bytes) h = (h, tt)
-
-each-join : {X : Type 0} (P : X → Type 0) (xs ys : List X) → Each P xs → Each P ys → Each P (xs ++ ys)
-each-join P [] ys h k = k
-each-join P (x ∷ xs) ys h k = (h.0, each-join P xs ys h.1 k)
 
 files-bytes : (parts : PartFiles) → AreBytesThere parts → Each HoldsBytes (checked_in_order parts)
 files-bytes parts h =

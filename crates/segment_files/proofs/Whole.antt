@@ -1,11 +1,10 @@
 -- The canonical files of an index stand for it.
-use Rattle.std.proofs.Common.{◌≡◌, ◌≢◌, ℕ, ◌^◌, ◌<◌, Bool, true, false, cond, List, [], ◌∷◌, length, map, Some, None, refl, sym, ap, subst, ◌∙◌, arith}
-use Rattle.std.specs.Prelude.{◌&&◌, All, AllPairs, is_some}
+use Rattle.std.proofs.Common.{◌≡◌, ℕ, ◌^◌, ◌<◌, Bool, true, false, cond, List, [], ◌∷◌, length, map, Some, None, refl, sym, ap, subst, ◌∙◌, arith}
+use Rattle.std.specs.Prelude.{◌&&◌, All, is_some}
 use Rattle.lu_grammar.specs.Meaning.{Reads}
 use Rattle.lu_types.specs.Bits as bit
 use Rattle.lu_types.specs.Bits.{has_bit}
 use Rattle.lu_types.specs.FilePlans.{StandFor}
-use Rattle.lu_types.proofs.FileLaws.{one_meaning}
 use Rattle.lu_types.specs.Tables.{bits_at}
 use Rattle.lu_model.specs.Index.{IndexedTerm, Index}
 use Rattle.lu_model.specs.Contents.{field_at}
@@ -26,9 +25,7 @@ use Rattle.term_dict.specs.Writing.{TermsWritten, AreIntervals}
 use Rattle.freq_skips.specs.Terms.{frq_plan}
 use Rattle.positions.specs.Terms.{prx_plan}
 use Rattle.doc_marks.specs.Norms.{nrm_plan, nrm_spelling}
-use Rattle.term_vectors.specs.Places.{tvx_plan}
-use Rattle.term_vectors.specs.Fields.{tvd_plan}
-use Rattle.term_vectors.specs.Vectors.{StoredVector, tvf_plan}
+use Rattle.term_vectors.specs.Vectors.{StoredVector}
 use Rattle.term_vectors.specs.VectorBytes.{tvx_bytes, tvd_bytes, tvf_bytes}
 use Rattle.segment_infos.specs.declared.infos.MapPair.{MapPair}
 use Rattle.segment_infos.specs.declared.infos.SegInfo.{SegInfo}
@@ -47,7 +44,7 @@ use Rattle.segment_files.specs.Postings.{PostingIntervals, PostingParts, no_part
 use Rattle.segment_files.specs.Stores.{canonical_store}
 use Rattle.segment_files.specs.Parts.{keep_positions, have_norms, norm_columns, intervals_of, postings_of, canonical_parts_of}
 use Rattle.segment_files.specs.Written.{canonical_files, all_written, first_past, too_large_file}
-use Rattle.segment_files.specs.Lines.{new_line, folder_with, StandsForIndex}
+use Rattle.segment_files.specs.Lines.{new_line, folder_with}
 use Rattle.segment_files.proofs.Reading.{CanStand}
 use Rattle.segment_files.proofs.TermsReading.{PostingsRead, postings-read}
 use Rattle.segment_files.proofs.Dictionary.{AreWritableTerms, tis-read, tii-read}

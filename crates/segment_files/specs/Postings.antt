@@ -120,7 +120,12 @@ parts_of intervals terms = with_all_postings intervals no_parts terms
 
 -- what a writer of terms holds that was handed these lines
 abbrev pub lines_written : PostingIntervals → List DictionaryTerm → TermsWritten
-lines_written intervals lines = record { index_interval = intervals.index; skip_interval = intervals.skip; max_levels = intervals.levels; terms = lines }
+lines_written intervals lines = record {
+  index_interval = intervals.index;
+  skip_interval = intervals.skip;
+  max_levels = intervals.levels;
+  terms = lines;
+}
 
 -- `.tis` and `.tii` of what a writer holds
 abbrev pub tis_bytes : TermsWritten → List ℕ

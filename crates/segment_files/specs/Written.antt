@@ -1,5 +1,5 @@
--- The canonical files of an index under options, in the order in which they are checked and in that in which they are written, and the first that
--- is too large (format page, "Canonical files").
+-- The canonical files of an index under options, in the order in which they are checked and in that in which they are written, and the
+-- first that is too large (format page, "Canonical files").
 use Rattle.std.specs.Prelude.{ℕ, Bool, true, false, cond, nat_lt, List, [], ◌∷◌, ◌++◌, length, Option, Some, None}
 use Rattle.lu_types.specs.declared.kind.FileKind.{FileKind}
 use Rattle.lu_types.specs.declared.kind.FileKind.TheVariants.{Cfs, Fnm, Fdx, Fdt, Tis, Tii, Frq, Prx, Nrm, Tvx, Tvd, Tvf}
@@ -77,4 +77,5 @@ first_past limit (file ∷ files) = cond (nat_lt limit (length file.bytes)) (Som
 
 -- the first file of an index that passes the limit, in the order in which they are written
 abbrev pub too_large_file : WriteOptions → Index → Option FileKind
-too_large_file options index = first_past options.limits.file_bytes (all_written options.compound options.number (canonical_parts_of (intervals_of options) index))
+too_large_file options index =
+    first_past options.limits.file_bytes (all_written options.compound options.number (canonical_parts_of (intervals_of options) index))

@@ -80,7 +80,7 @@ grows parts omit payloads es e =
 pub lists-begun : (i : PostingIntervals) (p : PostingParts) (omit payloads : Bool) (s : ListState) → AreLists i p s → AreTermLists i p omit payloads [] (list_begun s omit payloads)
 lists-begun i p omit payloads s (inl h) =
     let none : bytes_so_far s.freq ≡ p.frq = ap (λ es. s.freq.bytes ++ entries_bytes s.freq.omit 0 es) h.none ∙ append-nil s.freq.bytes ∙ h.bytes in
-    let begun : ListState = record { limit = s.limit; terms = s.terms; freq = frq.begun s.freq omit payloads; place = length s.freq.bytes } in
+    let begun : ListState = record { limit = s.limit; terms = s.terms; freq = frq.entries_begun s.freq omit payloads; place = length s.freq.bytes } in
     by_within (AreTermLists i p omit payloads []) s begun
     (λ e. inl (record {
       lines = record { terms = h.lines.terms };
@@ -97,10 +97,10 @@ lists-added i p omit payloads es e s (inl h) =
     let x = handed (length (prx_bytes payloads es)) e in
     let more : handed_from payloads 0 es ++ x ∷ [] ≡ handed_from payloads 0 (es ++ e ∷ []) =
     (let zero_more : length (prx_bytes payloads es) ≡ 0 + length (prx_bytes payloads es) = omega arith in ap (λ n. handed_from payloads 0 es ++ handed n e ∷ []) zero_more) ∙ sym (handed_from-more payloads 0 es e) in
-    by_within (AreTermLists i p omit payloads (es ++ e ∷ [])) s (record { limit = s.limit; terms = s.terms; freq = frq.added s.freq x; place = s.place })
+    by_within (AreTermLists i p omit payloads (es ++ e ∷ [])) s (record { limit = s.limit; terms = s.terms; freq = frq.entry_added s.freq x; place = s.place })
     (λ w. inl (record {
       lines = record { terms = h.lines.terms };
-      freq = ap (λ f. frq.added f x) h.freq ∙ ap (writing i.skip i.levels p.frq omit payloads) more;
+      freq = ap (λ f. frq.entry_added f x) h.freq ∙ ap (writing i.skip i.levels p.frq omit payloads) more;
       place = h.place;
     }))
     (λ w. inr (longer (frq_so_far p omit payloads (es ++ e ∷ [])) (frq_so_far p omit payloads es) s (grows p omit payloads es e) (record { stopped = w; long = subst (λ f. s.limit < length (bytes_so_far f)) h.freq (passed s w) })))

@@ -45,11 +45,11 @@ no_lists limit intervals = record {
 -- a term is begun
 abbrev pub list_begun : ListState → Bool → Bool → ListState
 list_begun s omit payloads =
-    cond (is_within s) (record { limit = s.limit; terms = s.terms; freq = frq.begun s.freq omit payloads; place = length s.freq.bytes }) s
+    cond (is_within s) (record { limit = s.limit; terms = s.terms; freq = frq.entries_begun s.freq omit payloads; place = length s.freq.bytes }) s
 
 -- an entry is added
 abbrev pub list_added : ListState → Handed → ListState
-list_added s h = cond (is_within s) (record { limit = s.limit; terms = s.terms; freq = frq.added s.freq h; place = s.place }) s
+list_added s h = cond (is_within s) (record { limit = s.limit; terms = s.terms; freq = frq.entry_added s.freq h; place = s.place }) s
 
 -- the line of a term that is finished
 abbrev pub finished_line : ListState → ℕ → List ℕ → ℕ → DictionaryTerm
@@ -115,7 +115,7 @@ no_postings limit intervals = record {
 
 -- a term is begun
 abbrev pub term_begun : PostingState → Bool → Bool → PostingState
-term_begun s omit payloads = record { lists = list_begun s.lists omit payloads; prox = prx.begun s.prox payloads }
+term_begun s omit payloads = record { lists = list_begun s.lists omit payloads; prox = prx.occurrences_begun s.prox payloads }
 
 -- an entry is begun
 abbrev pub entry_begun : PostingState → PostingState
@@ -123,7 +123,7 @@ entry_begun s = record { lists = s.lists; prox = prx.document_begun s.prox }
 
 -- the entry that is begun has one more occurrence
 abbrev pub occurrence_added : PostingState → IndexedOccurrence → PostingState
-occurrence_added s o = record { lists = s.lists; prox = prx.added s.prox (prx_occurrence o) }
+occurrence_added s o = record { lists = s.lists; prox = prx.occurrence_added s.prox (prx_occurrence o) }
 
 -- an entry is handed to the writer of `.frq`
 abbrev pub entry_added : PostingState → Handed → PostingState

@@ -1,5 +1,5 @@
 -- A writer of all files of terms, one step more.
-use Rattle.std.proofs.Common.{◌≡◌, refl, ap, sym, ◌∙◌, subst, ℕ, suc, ◌+◌, ◌-◌, ◌<◌, ◌≤◌, ◌^◌, ◌⊎◌, ◌++◌, List, [], ◌∷◌, length, map, Bool, true, false, cond, Option, None, Some, inl, inr, arith}
+use Rattle.std.proofs.Common.{◌≡◌, refl, ap, sym, ◌∙◌, subst, ℕ, ◌-◌, ◌<◌, ◌≤◌, ◌⊎◌, ◌++◌, List, [], ◌∷◌, length, map, Bool, true, false, cond, None, Some, inl, inr, arith}
 use Rattle.std.specs.Prelude.{Ok, Err, Result, nat_lt, is_some}
 use Rattle.std.proofs.lemmas.List.{append_assoc, append-nil, length-append, map-append}
 use Rattle.std.proofs.lemmas.List.Sums.{fold_push}
@@ -9,20 +9,18 @@ use Rattle.term_dict.specs.Writing.{TermsWritten}
 use Rattle.posting_files.specs.declared.fault.PostingFault.{PostingFault}
 use Rattle.posting_files.specs.declared.fault.PostingFault.TheVariants.{TooLarge, OutOfMemory}
 use Rattle.posting_files.specs.declared.writer.PostingFiles.{PostingFiles}
-use Rattle.lu_types.specs.declared.named_file.NamedFile.{NamedFile}
-use Rattle.lu_model.specs.Index.{Occurrence as IndexedOccurrence, given, omitted, frequency, IndexedEntry}
+use Rattle.lu_model.specs.Index.{Occurrence as IndexedOccurrence, IndexedEntry}
 use Rattle.freq_skips.specs.Written.{last_doc}
 use Rattle.freq_skips.specs.Writing.{bytes_so_far}
 use Rattle.freq_skips.specs.Written.{entries_bytes}
-use Rattle.positions.specs.Occurrences.{Occurrence}
 use Rattle.std.specs.List.{flat_map}
 use Rattle.std.proofs.lemmas.Grind.{flat_map-append}
 use Rattle.positions.specs.Written.{document_bytes, occurrences_bytes}
-use Rattle.positions.specs.Writing.{WriterState, HoldsTerm, HoldsDocument}
+use Rattle.positions.specs.Writing.{HoldsTerm, HoldsDocument}
 use Rattle.positions.proofs.WritingLemmas.{holds-begun, holds-document, holds-so_far, holds-added}
 use Rattle.segment_files.specs.Written.{first_past}
 use Rattle.segment_files.specs.Postings.{PostingIntervals, PostingParts, KeptTerm, handed_from, prx_bytes, prx_entries, prx_occurrence, prx_occurrences, with_postings, parts_of, no_parts, lines_written, tis_bytes, tii_bytes}
-use Rattle.posting_files.specs.States.{ListState, PostingState, is_within, list_added, term_begun, entry_begun, occurrence_added, entry_added, term_finished, no_postings, HoldsLists, AreLists, AreTermLists, ArePostings, IsTermBegun, IsEntryBegun, IsProxPast, Finishes, held_files, canonical_postings, in_written_order, named}
+use Rattle.posting_files.specs.States.{ListState, PostingState, is_within, term_begun, entry_begun, occurrence_added, entry_added, term_finished, no_postings, HoldsLists, AreLists, ArePostings, IsTermBegun, IsEntryBegun, IsProxPast, Finishes, held_files, canonical_postings, in_written_order, named}
 use Rattle.posting_files.proofs.ListLemmas.{handed, handed_from-length, passed, lists-begun, lists-added, lists-finished}
 
 -- a step leaves the limit
@@ -81,7 +79,7 @@ postings-finished i limit ts t s h =
     record {
       bound = begun-bound s.lists _ limit refl h.bound;
       lists = subst (λ q. AreLists i q (term_finished s t.term.field t.term.text).lists) more
-        (subst (λ n. AreLists i (with_postings i p t) (term_finished (record { lists = s.lists; prox = record { bytes = s.prox.bytes; payloads = s.prox.payloads; start = n; before = s.prox.before; position = s.prox.position } }) t.term.field t.term.text).lists) (sym h.prx.start) (lists-finished i p t s.lists h.lists));
+          (subst (λ n. AreLists i (with_postings i p t) (term_finished (record { lists = s.lists; prox = record { bytes = s.prox.bytes; payloads = s.prox.payloads; start = n; before = s.prox.before; position = s.prox.position } }) t.term.field t.term.text).lists) (sym h.prx.start) (lists-finished i p t s.lists h.lists));
       prx = h.prx.bytes ∙ ap (λ (q : PostingParts). q.prx) more;
     }
 
@@ -89,25 +87,25 @@ postings-finished i limit ts t s h =
 
 pub begin-may : (i : PostingIntervals) (limit : ℕ) (ts : List KeptTerm) (s : PostingState) → ArePostings i limit ts s → is_within s.lists ≡ true → s.lists.freq.entries ≡ []
 begin-may i limit ts s h within = elim h.lists [
-    inl held ↦ held.none
+  | inl held ↦ held.none
   | inr past ↦ absurd (false≢true (sym past.stopped ∙ within))
-  ]
+]
 
 pub end-may : (i : PostingIntervals) (limit : ℕ) (ts : List KeptTerm) (omit payloads : Bool) (es : List IndexedEntry) (now : List IndexedOccurrence) (doc : ℕ) (s : PostingState) → IsEntryBegun i limit ts omit payloads es now s
     → (es ≡ []) ⊎ (last_doc 0 (handed_from payloads 0 es) < doc) → is_within s.lists ≡ true → (s.lists.freq.entries ≡ []) ⊎ (last_doc 0 s.lists.freq.entries < doc)
 end-may i limit ts omit payloads es now doc s h order within = elim h.lists [
-    inl held ↦ elim order [
-        inl none ↦ inl (ap (λ f. f.entries) held.freq ∙ ap (handed_from payloads 0) none)
-      | inr above ↦ inr (subst (λ f. last_doc 0 f.entries < doc) (sym held.freq) above)
-      ]
-  | inr past ↦ absurd (false≢true (sym past.stopped ∙ within))
+  | inl held ↦ elim order [
+    | inl none ↦ inl (ap (λ f. f.entries) held.freq ∙ ap (handed_from payloads 0) none)
+    | inr above ↦ inr (subst (λ f. last_doc 0 f.entries < doc) (sym held.freq) above)
   ]
+  | inr past ↦ absurd (false≢true (sym past.stopped ∙ within))
+]
 
 pub finish-may : (i : PostingIntervals) (limit : ℕ) (ts : List KeptTerm) (omit payloads : Bool) (es : List IndexedEntry) (s : PostingState) → IsTermBegun i limit ts omit payloads es s → is_within s.lists ≡ true → length s.lists.freq.entries ≡ length es
 finish-may i limit ts omit payloads es s h within = elim h.lists [
-    inl held ↦ ap (λ f. length f.entries) held.freq ∙ handed_from-length payloads 0 es
+  | inl held ↦ ap (λ f. length f.entries) held.freq ∙ handed_from-length payloads 0 es
   | inr past ↦ absurd (false≢true (sym past.stopped ∙ within))
-  ]
+]
 
 -- ---- positions that pass the limit
 
@@ -139,12 +137,12 @@ pub postings-first : (i : PostingIntervals) (limit : ℕ) (ts : List KeptTerm) (
 postings-first i limit ts s h =
     let p = parts_of i ts in
     elim h.lists [
-        inl held ↦ ap (first_past limit) (same-files i limit ts s h held)
+      | inl held ↦ ap (first_past limit) (same-files i limit ts s h held)
       | inr past ↦
           held-past limit s h.bound past.stopped
           ∙ ap (λ w. cond (nat_lt limit (length w)) (Some Prx) (Some Frq)) h.prx
           ∙ sym (frq-past limit p.prx p.frq (lines_written i p.lines) (subst (λ n. n < length p.frq) h.bound past.long))
-      ]
+    ]
 
 one-of-both : (b : Bool) → cond b (Some Prx) (Some Frq) ≡ None → ⊥
 one-of-both true e = false≢true (sym (ap is_some e))
@@ -153,9 +151,9 @@ one-of-both false e = false≢true (sym (ap is_some e))
 -- where none passes the limit, the writer holds the files of the terms
 pub postings-held : (i : PostingIntervals) (limit : ℕ) (ts : List KeptTerm) (s : PostingState) → ArePostings i limit ts s → first_past limit (held_files s) ≡ None → held_files s ≡ canonical_postings i ts
 postings-held i limit ts s h none = elim h.lists [
-    inl held ↦ same-files i limit ts s h held
+  | inl held ↦ same-files i limit ts s h held
   | inr past ↦ absurd (one-of-both (nat_lt limit (length s.prox.bytes)) (sym (held-past limit s h.bound past.stopped) ∙ none))
-  ]
+]
 
 pub postings-end : (i : PostingIntervals) (limit : ℕ) (ts : List KeptTerm) (s : PostingState) (r : Result PostingFiles PostingFault) → ArePostings i limit ts s → Finishes s.lists.limit (held_files s) r → Finishes limit (canonical_postings i ts) r
 postings-end i limit ts s (Ok f) h (none, is) =

@@ -27,7 +27,7 @@ pub struct ListWriter {
 impl Model for ListWriter {
     ghost use Rattle.std.specs.Prelude.{◌≡◌, ◌≤◌, ◌<◌, ◌^◌, length};
     ghost use Rattle.term_dict.specs.Terms.{last_term};
-ghost use Rattle.posting_files.specs.States.{ListState};
+    ghost use Rattle.posting_files.specs.States.{ListState};
 
     ghost Value = { ListState };
 

@@ -28,8 +28,14 @@ fn a_term_is_written(rt: HostRuntime) -> Result<(), Fail> {
     };
     assert_eq!(rt; files.frq.as_slice(), b"\x01".as_slice());
     assert_eq!(rt; files.prx.as_slice(), b"\x01\x03\xAA\xBB\xCC".as_slice());
-    assert_eq!(rt; files.tis.as_slice(), b"\xFF\xFF\xFF\xFC\0\0\0\0\0\0\0\x01\0\0\0\x80\0\0\0\x10\0\0\0\x0A\0\x01x\0\x01\0\0".as_slice());
-    assert_eq!(rt; files.tii.as_slice(), b"\xFF\xFF\xFF\xFC\0\0\0\0\0\0\0\x01\0\0\0\x80\0\0\0\x10\0\0\0\x0A\0\0\xFF\xFF\xFF\xFF\x0F\0\0\0\x18".as_slice());
+    assert_eq!(rt;
+        files.tis.as_slice(),
+        b"\xFF\xFF\xFF\xFC\0\0\0\0\0\0\0\x01\0\0\0\x80\0\0\0\x10\0\0\0\x0A\0\x01x\0\x01\0\0".as_slice()
+    );
+    assert_eq!(rt;
+        files.tii.as_slice(),
+        b"\xFF\xFF\xFF\xFC\0\0\0\0\0\0\0\x01\0\0\0\x80\0\0\0\x10\0\0\0\x0A\0\0\xFF\xFF\xFF\xFF\x0F\0\0\0\x18".as_slice()
+    );
     Ok(())
 }
 

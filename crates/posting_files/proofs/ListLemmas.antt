@@ -1,6 +1,6 @@
 -- A writer of terms and entries, one step more.
 use Rattle.std.proofs.Common.{◌≡◌, refl, ap, sym, ◌∙◌, subst, ℕ, suc, ◌+◌, ◌<◌, ◌≤◌, ◌++◌, List, [], ◌∷◌, length, Bool, true, false, cond, None, inl, inr, arith}
-use Rattle.std.proofs.lemmas.List.{append_assoc, append-nil, length-append}
+use Rattle.std.proofs.lemmas.List.{append-nil, length-append}
 use Rattle.std.proofs.lemmas.Bool.{leb-false}
 use Rattle.std.proofs.lemmas.List.Concat.{flat_map-cons}
 use Rattle.freq_skips.proofs.HandedLemmas.{entries_bytes-more}
@@ -12,9 +12,9 @@ use Rattle.freq_skips.specs.Writing.{FrqWriting, bytes_so_far, skip_delta, skips
 use Rattle.positions.specs.Written.{document_occurrence_bytes, occurrences_bytes}
 use Rattle.positions.proofs.WrittenTerms.{occurrences_bytes-none}
 use Rattle.term_dict.specs.Terms.{DictionaryTerm}
-use Rattle.term_dict.specs.Writing.{TermsWritten, with_written}
-use Rattle.segment_files.specs.Postings.{PostingIntervals, PostingParts, KeptTerm, frq_writing, handed_from, prx_bytes, prx_entries, prx_occurrences, dictionary_line, with_postings, term_writing, lines_written}
-use Rattle.posting_files.specs.States.{ListState, is_within, list_begun, list_added, list_finished, finished_line, HoldsLines, HoldsLists, HoldsTermLists, IsPast, AreLists, AreTermLists, frq_so_far}
+use Rattle.term_dict.specs.Writing.{with_written}
+use Rattle.segment_files.specs.Postings.{PostingIntervals, PostingParts, KeptTerm, handed_from, prx_bytes, prx_entries, prx_occurrences, dictionary_line, with_postings, term_writing, lines_written}
+use Rattle.posting_files.specs.States.{ListState, is_within, list_begun, list_added, list_finished, finished_line, HoldsTermLists, IsPast, AreLists, AreTermLists, frq_so_far}
 
 -- a step that is only made within the limit
 by_within : (P : ListState → Type 0) (s t : ListState) → (is_within s ≡ true → P t) → (is_within s ≡ false → P s) → P (cond (is_within s) t s)

@@ -1,5 +1,5 @@
 -- A writer of all files of terms, one step more.
-use Rattle.std.proofs.Common.{◌≡◌, refl, ap, sym, ◌∙◌, subst, ℕ, suc, ◌+◌, ◌-◌, ◌<◌, ◌≤◌, ◌^◌, ◌⊎◌, ◌++◌, List, [], ◌∷◌, length, map, Bool, true, false, cond, Option, None, Some, inl, inr, arith}
+use Rattle.std.proofs.Common.{◌≡◌, refl, ap, sym, ◌∙◌, subst, ℕ, ◌-◌, ◌<◌, ◌≤◌, ◌⊎◌, ◌++◌, List, [], ◌∷◌, length, map, Bool, true, false, cond, None, Some, inl, inr, arith}
 use Rattle.std.specs.Prelude.{Ok, Err, Result, nat_lt, is_some}
 use Rattle.std.proofs.lemmas.List.{append_assoc, append-nil, length-append, map-append}
 use Rattle.std.proofs.lemmas.List.Sums.{fold_push}
@@ -9,21 +9,19 @@ use Rattle.term_dict.specs.Writing.{TermsWritten}
 use Rattle.posting_files.specs.declared.fault.PostingFault.{PostingFault}
 use Rattle.posting_files.specs.declared.fault.PostingFault.TheVariants.{TooLarge, OutOfMemory}
 use Rattle.posting_files.specs.declared.writer.PostingFiles.{PostingFiles}
-use Rattle.lu_types.specs.declared.named_file.NamedFile.{NamedFile}
-use Rattle.lu_model.specs.Index.{given, omitted, frequency, IndexedEntry}
+use Rattle.lu_model.specs.Index.{IndexedEntry}
 use Rattle.lu_types.specs.Occurrences.{Occurrence as IndexedOccurrence}
 use Rattle.freq_skips.specs.Written.{last_doc}
 use Rattle.freq_skips.specs.Writing.{bytes_so_far}
 use Rattle.freq_skips.specs.Written.{entries_bytes}
-use Rattle.lu_types.specs.Occurrences.{Occurrence}
 use Rattle.std.specs.List.{flat_map}
 use Rattle.std.proofs.lemmas.Grind.{flat_map-append}
 use Rattle.positions.specs.Written.{document_occurrence_bytes, occurrences_bytes}
-use Rattle.positions.specs.Writing.{WriterState, HoldsTerm, HoldsDocument}
+use Rattle.positions.specs.Writing.{HoldsTerm, HoldsDocument}
 use Rattle.positions.proofs.WritingLemmas.{holds-begun, holds-document, holds-so_far, holds-added}
 use Rattle.segment_files.specs.Written.{first_past}
 use Rattle.segment_files.specs.Postings.{PostingIntervals, PostingParts, KeptTerm, handed_from, prx_bytes, prx_entries, prx_occurrence, prx_occurrences, with_postings, parts_of, no_parts, lines_written, tis_bytes, tii_bytes}
-use Rattle.posting_files.specs.States.{ListState, PostingState, is_within, list_added, term_begun, entry_begun, occurrence_added, entry_added, term_finished, no_postings, HoldsLists, AreLists, AreTermLists, ArePostings, IsTermBegun, IsEntryBegun, IsProxPast, Finishes, held_files, canonical_postings, in_written_order, named}
+use Rattle.posting_files.specs.States.{ListState, PostingState, is_within, term_begun, entry_begun, occurrence_added, entry_added, term_finished, no_postings, HoldsLists, AreLists, ArePostings, IsTermBegun, IsEntryBegun, IsProxPast, Finishes, held_files, canonical_postings, in_written_order, named}
 use Rattle.posting_files.proofs.ListLemmas.{handed, handed_from-length, passed, lists-begun, lists-added, lists-finished}
 
 -- a step leaves the limit

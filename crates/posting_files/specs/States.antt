@@ -1,12 +1,11 @@
 -- Writers of terms, and of which terms they hold the canonical files.
-use Rattle.std.specs.Prelude.{◌≡◌, ◌<◌, ◌≤◌, ◌⊎◌, ℕ, Bool, true, false, cond, List, [], ◌∷◌, ◌++◌, length, map, nat_le, nat_lt, Option, None, Some, Result, Ok, Err}
-use Rattle.lu_model.specs.Index.{given, omitted, frequency, IndexedEntry, IndexedTerm}
+use Rattle.std.specs.Prelude.{◌≡◌, ◌<◌, ◌⊎◌, ℕ, Bool, false, cond, List, [], ◌∷◌, ◌++◌, length, map, nat_le, None, Some, Result, Ok, Err}
+use Rattle.lu_model.specs.Index.{IndexedEntry}
 use Rattle.lu_types.specs.Occurrences.{Occurrence as IndexedOccurrence}
 use Rattle.freq_skips.specs.declared.writer.Handed.{Handed}
 use Rattle.freq_skips.specs.Written.{entries_bytes}
 use Rattle.freq_skips.specs.Writing as frq
 use Rattle.freq_skips.specs.Writing.{FrqWriting, bytes_so_far, skip_delta}
-use Rattle.lu_types.specs.Occurrences.{Occurrence}
 use Rattle.positions.specs.Writing as prx
 use Rattle.positions.specs.Writing.{WriterState, HoldsTerm, HoldsDocument}
 use Rattle.term_dict.specs.Terms.{DictionaryTerm}
@@ -18,7 +17,7 @@ use Rattle.posting_files.specs.declared.writer.PostingFiles.{PostingFiles}
 use Rattle.posting_files.specs.declared.fault.PostingFault.{PostingFault}
 use Rattle.posting_files.specs.declared.fault.PostingFault.TheVariants.{TooLarge, OutOfMemory}
 use Rattle.segment_files.specs.Written.{first_past}
-use Rattle.segment_files.specs.Postings.{PostingIntervals, PostingParts, KeptTerm, lines_written, tis_bytes, tii_bytes, parts_of, frq_writing, handed_from, prx_bytes, prx_entries, prx_occurrence, prx_occurrences}
+use Rattle.segment_files.specs.Postings.{PostingIntervals, PostingParts, KeptTerm, lines_written, tis_bytes, tii_bytes, parts_of, frq_writing, handed_from, prx_entries, prx_occurrence}
 
 -- ---- the files of terms and entries
 

@@ -14,17 +14,17 @@ use Rattle.positions.proofs.WrittenTerms.{occurrences_bytes-none}
 use Rattle.term_dict.specs.Terms.{DictionaryTerm}
 use Rattle.term_dict.specs.Writing.{with_written}
 use Rattle.segment_files.specs.Postings.{PostingIntervals, PostingParts, KeptTerm, handed_from, prx_bytes, prx_entries, prx_occurrences, dictionary_line, with_postings, term_writing, lines_written}
-use Rattle.posting_files.specs.States.{ListState, is_within, list_begun, list_added, list_finished, finished_line, HoldsTermLists, IsPast, AreLists, AreTermLists, frq_so_far}
+use Rattle.posting_files.specs.States.{ListState, is_within_limit, list_begun, list_added, list_finished, finished_line, HoldsTermLists, IsPast, AreLists, AreTermLists, frq_so_far}
 
 -- a step that is only made within the limit
-by_within : (P : ListState → Type 0) (s t : ListState) → (is_within s ≡ true → P t) → (is_within s ≡ false → P s) → P (cond (is_within s) t s)
-by_within P s t made stopped = elim (is_within s) as (λ b. is_within s ≡ b → P (cond b t s)) [ true ↦ made | false ↦ stopped ] refl
+by_within : (P : ListState → Type 0) (s t : ListState) → (is_within_limit s ≡ true → P t) → (is_within_limit s ≡ false → P s) → P (cond (is_within_limit s) t s)
+by_within P s t made stopped = elim (is_within_limit s) as (λ b. is_within_limit s ≡ b → P (cond b t s)) [ true ↦ made | false ↦ stopped ] refl
 
 -- a step that is not made
-unmade : (s t : ListState) → is_within s ≡ false → cond (is_within s) t s ≡ s
+unmade : (s t : ListState) → is_within_limit s ≡ false → cond (is_within_limit s) t s ≡ s
 unmade s t e = ap (λ b. cond b t s) e
 
-pub passed : (s : ListState) → is_within s ≡ false → s.limit < length (bytes_so_far s.freq)
+pub passed : (s : ListState) → is_within_limit s ≡ false → s.limit < length (bytes_so_far s.freq)
 passed s e = leb-false (length (bytes_so_far s.freq)) s.limit e
 
 -- more bytes pass the limit too

@@ -21,12 +21,12 @@ use Rattle.positions.specs.Writing.{HoldsTerm, HoldsDocument}
 use Rattle.positions.proofs.WritingLemmas.{holds-begun, holds-document, holds-so_far, holds-added}
 use Rattle.segment_files.specs.Written.{first_past}
 use Rattle.segment_files.specs.Postings.{PostingIntervals, PostingParts, KeptTerm, handed_from, prx_bytes, prx_entries, prx_occurrence, prx_occurrences, with_postings, parts_of, no_parts, lines_written, tis_bytes, tii_bytes}
-use Rattle.posting_files.specs.States.{ListState, PostingState, is_within, term_begun, entry_begun, occurrence_added, entry_added, term_finished, no_postings, HoldsLists, AreLists, ArePostings, IsTermBegun, IsEntryBegun, IsProxPast, Finishes, held_files, canonical_postings, in_written_order, named}
+use Rattle.posting_files.specs.States.{ListState, PostingState, is_within_limit, term_begun, entry_begun, occurrence_put, entry_put, term_finished, no_postings, HoldsLists, AreLists, ArePostings, IsTermBegun, IsEntryBegun, IsProxPast, Finishes, held_files, canonical_postings, in_written_order, named}
 use Rattle.posting_files.proofs.ListLemmas.{handed, handed_from-length, passed, lists-begun, lists-added, lists-finished}
 
 -- a step leaves the limit
-begun-bound : (s : ListState) (t : ListState) (limit : ℕ) → t.limit ≡ s.limit → s.limit ≡ limit → (cond (is_within s) t s).limit ≡ limit
-begun-bound s t limit same is = elim (is_within s) as (λ b. (cond b t s).limit ≡ limit) [ true ↦ same ∙ is | false ↦ is ]
+begun-bound : (s : ListState) (t : ListState) (limit : ℕ) → t.limit ≡ s.limit → s.limit ≡ limit → (cond (is_within_limit s) t s).limit ≡ limit
+begun-bound s t limit same is = elim (is_within_limit s) as (λ b. (cond b t s).limit ≡ limit) [ true ↦ same ∙ is | false ↦ is ]
 
 pub postings-none : (i : PostingIntervals) (limit : ℕ) → ArePostings i limit [] (no_postings limit i)
 postings-none i limit = record {
@@ -54,15 +54,15 @@ pub entry-before : (i : PostingIntervals) (limit : ℕ) (ts : List KeptTerm) (om
 entry-before i limit ts omit payloads es s h = holds-so_far s.prox payloads (parts_of i ts).prx (prx_entries es) h.prx
 
 pub occurrence-added : (i : PostingIntervals) (limit : ℕ) (ts : List KeptTerm) (omit payloads : Bool) (es : List IndexedEntry) (now : List IndexedOccurrence) (o : IndexedOccurrence) (s : PostingState)
-    → IsEntryBegun i limit ts omit payloads es now s → IsEntryBegun i limit ts omit payloads es (now ++ o ∷ []) (occurrence_added s o)
+    → IsEntryBegun i limit ts omit payloads es now s → IsEntryBegun i limit ts omit payloads es (now ++ o ∷ []) (occurrence_put s o)
 occurrence-added i limit ts omit payloads es now o s h = record {
   bound = h.bound;
   lists = h.lists;
-  prx = subst (λ w. HoldsDocument (occurrence_added s o).prox payloads (parts_of i ts).prx (prx_entries es) w) (sym (map-append prx_occurrence now (o ∷ []))) (holds-added s.prox payloads (parts_of i ts).prx (prx_entries es) (map prx_occurrence now) (prx_occurrence o) h.prx);
+  prx = subst (λ w. HoldsDocument (occurrence_put s o).prox payloads (parts_of i ts).prx (prx_entries es) w) (sym (map-append prx_occurrence now (o ∷ []))) (holds-added s.prox payloads (parts_of i ts).prx (prx_entries es) (map prx_occurrence now) (prx_occurrence o) h.prx);
 }
 
 pub entry-ended : (i : PostingIntervals) (limit : ℕ) (ts : List KeptTerm) (omit payloads : Bool) (es : List IndexedEntry) (now : List IndexedOccurrence) (e : IndexedEntry) (s : PostingState) → prx_occurrences e.occurrences ≡ map prx_occurrence now
-    → IsEntryBegun i limit ts omit payloads es now s → IsTermBegun i limit ts omit payloads (es ++ e ∷ []) (entry_added s (handed (length (prx_bytes payloads es)) e))
+    → IsEntryBegun i limit ts omit payloads es now s → IsTermBegun i limit ts omit payloads (es ++ e ∷ []) (entry_put s (handed (length (prx_bytes payloads es)) e))
 entry-ended i limit ts omit payloads es now e s same h = record {
   bound = begun-bound s.lists _ limit refl h.bound;
   lists = lists-added i (parts_of i ts) omit payloads es e s.lists h.lists;
@@ -86,14 +86,14 @@ postings-finished i limit ts t s h =
 
 -- ---- what may be done
 
-pub begin-may : (i : PostingIntervals) (limit : ℕ) (ts : List KeptTerm) (s : PostingState) → ArePostings i limit ts s → is_within s.lists ≡ true → s.lists.freq.entries ≡ []
+pub begin-may : (i : PostingIntervals) (limit : ℕ) (ts : List KeptTerm) (s : PostingState) → ArePostings i limit ts s → is_within_limit s.lists ≡ true → s.lists.freq.entries ≡ []
 begin-may i limit ts s h within = elim h.lists [
   | inl held ↦ held.none
   | inr past ↦ absurd (false≢true (sym past.stopped ∙ within))
 ]
 
 pub end-may : (i : PostingIntervals) (limit : ℕ) (ts : List KeptTerm) (omit payloads : Bool) (es : List IndexedEntry) (now : List IndexedOccurrence) (doc : ℕ) (s : PostingState) → IsEntryBegun i limit ts omit payloads es now s
-    → (es ≡ []) ⊎ (last_doc 0 (handed_from payloads 0 es) < doc) → is_within s.lists ≡ true → (s.lists.freq.entries ≡ []) ⊎ (last_doc 0 s.lists.freq.entries < doc)
+    → (es ≡ []) ⊎ (last_doc 0 (handed_from payloads 0 es) < doc) → is_within_limit s.lists ≡ true → (s.lists.freq.entries ≡ []) ⊎ (last_doc 0 s.lists.freq.entries < doc)
 end-may i limit ts omit payloads es now doc s h order within = elim h.lists [
   | inl held ↦ elim order [
     | inl none ↦ inl (ap (λ f. f.entries) held.freq ∙ ap (handed_from payloads 0) none)
@@ -102,7 +102,7 @@ end-may i limit ts omit payloads es now doc s h order within = elim h.lists [
   | inr past ↦ absurd (false≢true (sym past.stopped ∙ within))
 ]
 
-pub finish-may : (i : PostingIntervals) (limit : ℕ) (ts : List KeptTerm) (omit payloads : Bool) (es : List IndexedEntry) (s : PostingState) → IsTermBegun i limit ts omit payloads es s → is_within s.lists ≡ true → length s.lists.freq.entries ≡ length es
+pub finish-may : (i : PostingIntervals) (limit : ℕ) (ts : List KeptTerm) (omit payloads : Bool) (es : List IndexedEntry) (s : PostingState) → IsTermBegun i limit ts omit payloads es s → is_within_limit s.lists ≡ true → length s.lists.freq.entries ≡ length es
 finish-may i limit ts omit payloads es s h within = elim h.lists [
   | inl held ↦ ap (λ f. length f.entries) held.freq ∙ handed_from-length payloads 0 es
   | inr past ↦ absurd (false≢true (sym past.stopped ∙ within))
@@ -130,7 +130,7 @@ frq-past : (limit : ℕ) (prx frq : List ℕ) (terms : TermsWritten) → limit <
 frq-past limit prx frq terms long =
     ap (λ b. cond (nat_lt limit (length prx)) (Some Prx) (cond b (Some Frq) (first_past limit (named Tis (tis_bytes terms) ∷ named Tii (tii_bytes terms) ∷ [])))) (lt-ltb limit (length frq) long)
 
-held-past : (limit : ℕ) (s : PostingState) → s.lists.limit ≡ limit → is_within s.lists ≡ false → first_past limit (held_files s) ≡ cond (nat_lt limit (length s.prox.bytes)) (Some Prx) (Some Frq)
+held-past : (limit : ℕ) (s : PostingState) → s.lists.limit ≡ limit → is_within_limit s.lists ≡ false → first_past limit (held_files s) ≡ cond (nat_lt limit (length s.prox.bytes)) (Some Prx) (Some Frq)
 held-past limit s bound stopped = frq-past limit s.prox.bytes (bytes_so_far s.lists.freq) s.lists.terms (subst (λ n. n < length (bytes_so_far s.lists.freq)) bound (passed s.lists stopped))
 
 -- the first file that passes the limit is the same of what the writer holds and of the terms

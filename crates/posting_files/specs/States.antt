@@ -29,8 +29,8 @@ pub record ListState : Type 0 where
   pub place : ℕ
 
 -- `.frq` is within the limit so far; once it is not, nothing more is written of terms and entries
-abbrev pub is_within : ListState → Bool
-is_within s = nat_le (length (bytes_so_far s.freq)) s.limit
+abbrev pub is_within_limit : ListState → Bool
+is_within_limit s = nat_le (length (bytes_so_far s.freq)) s.limit
 
 -- of no terms
 abbrev pub no_lists : ℕ → PostingIntervals → ListState
@@ -44,11 +44,11 @@ no_lists limit intervals = record {
 -- a term is begun
 abbrev pub list_begun : ListState → Bool → Bool → ListState
 list_begun s omit payloads =
-    cond (is_within s) (record { limit = s.limit; terms = s.terms; freq = frq.entries_begun s.freq omit payloads; place = length s.freq.bytes }) s
+    cond (is_within_limit s) (record { limit = s.limit; terms = s.terms; freq = frq.entries_begun s.freq omit payloads; place = length s.freq.bytes }) s
 
 -- an entry is added
 abbrev pub list_added : ListState → Handed → ListState
-list_added s h = cond (is_within s) (record { limit = s.limit; terms = s.terms; freq = frq.entry_added s.freq h; place = s.place }) s
+list_added s h = cond (is_within_limit s) (record { limit = s.limit; terms = s.terms; freq = frq.entry_added s.freq h; place = s.place }) s
 
 -- the line of a term that is finished
 abbrev pub finished_line : ListState → ℕ → List ℕ → ℕ → DictionaryTerm
@@ -59,7 +59,7 @@ finished_line s field text prox = record {
 
 -- a term is finished under a text, its positions from this place on
 abbrev pub list_finished : ListState → ℕ → List ℕ → ℕ → ListState
-list_finished s field text prox = cond (is_within s)
+list_finished s field text prox = cond (is_within_limit s)
     (record { limit = s.limit; terms = with_written s.terms (finished_line s field text prox); freq = frq.finished s.freq; place = s.place }) s
 
 -- the settings and the lines of the dictionary are these
@@ -82,7 +82,7 @@ pub record HoldsTermLists (intervals : PostingIntervals) (parts : PostingParts) 
 
 -- `.frq` passed the limit, as these bytes do
 pub record IsPast (bytes : List ℕ) (s : ListState) : Type 0 where
-  pub stopped : is_within s ≡ false
+  pub stopped : is_within_limit s ≡ false
   pub long : s.limit < length bytes
 
 -- both files are those of these parts so far, as far as `.frq` is within the limit
@@ -121,12 +121,12 @@ abbrev pub entry_begun : PostingState → PostingState
 entry_begun s = record { lists = s.lists; prox = prx.document_begun s.prox }
 
 -- the entry that is begun has one more occurrence
-abbrev pub occurrence_added : PostingState → IndexedOccurrence → PostingState
-occurrence_added s o = record { lists = s.lists; prox = prx.occurrence_added s.prox (prx_occurrence o) }
+abbrev pub occurrence_put : PostingState → IndexedOccurrence → PostingState
+occurrence_put s o = record { lists = s.lists; prox = prx.occurrence_added s.prox (prx_occurrence o) }
 
 -- an entry is handed to the writer of `.frq`
-abbrev pub entry_added : PostingState → Handed → PostingState
-entry_added s h = record { lists = list_added s.lists h; prox = s.prox }
+abbrev pub entry_put : PostingState → Handed → PostingState
+entry_put s h = record { lists = list_added s.lists h; prox = s.prox }
 
 -- a term is finished
 abbrev pub term_finished : PostingState → ℕ → List ℕ → PostingState
@@ -137,10 +137,10 @@ abbrev pub IsProxPast : PostingState → Type 0
 IsProxPast s = s.lists.limit < length s.prox.bytes
 
 -- what a step answers: the writer is as wanted; or its positions pass the limit; or there was no memory
-abbrev pub Steps : PostingState → PostingState → PostingState → Result (Unit {0}) PostingFault → Type 0
-Steps wanted old new (Ok done) = new ≡ wanted
-Steps wanted old new (Err (TooLarge kind)) = (kind ≡ Prx) × IsProxPast old
-Steps wanted old new (Err OutOfMemory) = Unit {0}
+abbrev pub PostingSteps : PostingState → PostingState → PostingState → Result (Unit {0}) PostingFault → Type 0
+PostingSteps wanted old new (Ok done) = new ≡ wanted
+PostingSteps wanted old new (Err (TooLarge kind)) = (kind ≡ Prx) × IsProxPast old
+PostingSteps wanted old new (Err OutOfMemory) = Unit {0}
 
 -- the same, where a step answers a number
 abbrev pub StepsTo : (ℕ → Type 0) → PostingState → Result ℕ PostingFault → Type 0

@@ -4,7 +4,7 @@ ghost use Rattle.freq_skips.specs.Written.{last_doc};
 ghost use Rattle.term_dict.specs.Terms.{last_term};
 ghost use Rattle.term_dict.specs.Writing.{AreIntervals, no_terms_written};
 ghost use Rattle.segment_files.specs.Postings.{tis_bytes, tii_bytes};
-ghost use Rattle.posting_files.specs.States.{is_within, no_lists, list_begun, list_added, list_finished};
+ghost use Rattle.posting_files.specs.States.{is_within_limit, no_lists, list_begun, list_added, list_finished};
 
 use freq_skips::FreqWriter;
 use lu_prims::OutOfMemory;
@@ -66,14 +66,14 @@ impl ListWriter {
 
     /// Whether the file of entries is within the limit so far.
     pub fn is_within(&self) -> bool
-        ensures { result ≡ is_within self.now }
+        ensures { result ≡ is_within_limit self.now }
     {
         self.freq.len() <= self.limit as usize
     }
 
     /// Begins a term of a field that omits frequencies and positions, or has payloads.
     pub fn begin(&mut self, omit_tf: bool, payloads: bool)
-        requires none { is_within self.old ≡ true → self.old.freq.entries ≡ [] }
+        requires none { is_within_limit self.old ≡ true → self.old.freq.entries ≡ [] }
         ensures { self.new ≡ list_begun self.old omit_tf payloads }
     {
         if self.is_within() {
@@ -84,7 +84,7 @@ impl ListWriter {
     /// Adds an entry to the term that is begun: a document above the one before, how often the term stands in it, and the bytes
     /// of positions that the term has before it. After an `Err` the writer is as before.
     pub fn add(&mut self, doc: u32, freq: u32, prox: u32) -> Result<(), OutOfMemory>
-        requires order { is_within self.old ≡ true → self.old.freq.entries ≡ [] ⊎ last_doc 0 self.old.freq.entries < doc }
+        requires order { is_within_limit self.old ≡ true → self.old.freq.entries ≡ [] ⊎ last_doc 0 self.old.freq.entries < doc }
         requires doc_small { doc < 2 ^ 31 }
         requires some { 1 ≤ freq }
         requires freq_small { freq < 2 ^ 31 }
@@ -100,8 +100,8 @@ impl ListWriter {
     /// Finishes the term that is begun: under the number of its field and its text, its positions from this place on. After an
     /// `Err` the files are lost.
     pub fn finish_term(&mut self, field: u32, text: &str, prox: u32) -> Result<(), OutOfMemory>
-        requires some { is_within self.old ≡ true → 0 < length self.old.freq.entries }
-        requires few { is_within self.old ≡ true → length self.old.freq.entries < 2 ^ 31 }
+        requires some { is_within_limit self.old ≡ true → 0 < length self.old.freq.entries }
+        requires few { is_within_limit self.old ≡ true → length self.old.freq.entries < 2 ^ 31 }
         requires prox { (last_term self.old.terms.terms).info.prox ≤ prox }
         requires field { field < 2 ^ 31 }
         requires small { length text.now < 2 ^ 31 }

@@ -2,7 +2,7 @@
 ghost use Rattle.std.specs.Prelude.{◌≡◌, ◌⊎◌, ◌<◌, ◌≤◌, ◌^◌, ◌-◌, [], length, true, OnOk, OnErr, IfOk};
 ghost use Rattle.freq_skips.specs.Written.{last_doc};
 ghost use Rattle.term_dict.specs.Writing.{AreIntervals, no_terms_written};
-ghost use Rattle.posting_files.specs.States.{Finishes, Steps, StepsTo, held_files, is_within, no_postings, term_begun, entry_begun, occurrence_added, entry_added, term_finished};
+ghost use Rattle.posting_files.specs.States.{Finishes, PostingSteps, StepsTo, held_files, is_within_limit, no_postings, term_begun, entry_begun, occurrence_put, entry_put, term_finished};
 
 use crate::fault::PostingFault;
 use crate::lists::ListWriter;
@@ -69,8 +69,8 @@ impl PostingWriter {
 
     /// Begins a term of a field that omits frequencies and positions, or has payloads.
     pub fn begin_term(&mut self, omit_tf: bool, payloads: bool) -> Result<(), PostingFault>
-        requires none { is_within self.old.lists ≡ true → self.old.lists.freq.entries ≡ [] }
-        ensures { Steps (term_begun self.old omit_tf payloads) self.old self.new result }
+        requires none { is_within_limit self.old.lists ≡ true → self.old.lists.freq.entries ≡ [] }
+        ensures { PostingSteps (term_begun self.old omit_tf payloads) self.old self.new result }
     {
         if self.prox.len() > self.limit as usize {
             return Err(PostingFault::TooLarge(FileKind::Prx));
@@ -96,7 +96,7 @@ impl PostingWriter {
         requires small { position < 2 ^ 31 }
         requires rises { self.old.prox.position ≤ position }
         requires few { length payload.now < 2 ^ 31 }
-        ensures { OnOk result (self.new ≡ occurrence_added self.old (record { position = position; payload = payload.now })) }
+        ensures { OnOk result (self.new ≡ occurrence_put self.old (record { position = position; payload = payload.now })) }
     {
         self.prox.add(position, payload)
     }
@@ -104,11 +104,11 @@ impl PostingWriter {
     /// Ends the entry that is begun: its document, above the one before, how many occurrences it has, and the bytes of positions
     /// before it, as they were answered where it was begun; of a field that omits frequencies 1 and 0.
     pub fn end_entry(&mut self, doc: u32, freq: u32, before: u32) -> Result<(), OutOfMemory>
-        requires order { is_within self.old.lists ≡ true → self.old.lists.freq.entries ≡ [] ⊎ last_doc 0 self.old.lists.freq.entries < doc }
+        requires order { is_within_limit self.old.lists ≡ true → self.old.lists.freq.entries ≡ [] ⊎ last_doc 0 self.old.lists.freq.entries < doc }
         requires doc_small { doc < 2 ^ 31 }
         requires some { 1 ≤ freq }
         requires freq_small { freq < 2 ^ 31 }
-        ensures ok { OnOk result (self.new ≡ entry_added self.old (record { doc = doc; freq = freq; prox = before })) }
+        ensures ok { OnOk result (self.new ≡ entry_put self.old (record { doc = doc; freq = freq; prox = before })) }
         ensures err { OnErr result (self.new ≡ self.old) }
     {
         self.lists.add(doc, freq, before)
@@ -116,8 +116,8 @@ impl PostingWriter {
 
     /// Finishes the term that is begun, under the number of its field and its text. After an `Err` the files are lost.
     pub fn finish_term(&mut self, field: u32, text: &str) -> Result<(), OutOfMemory>
-        requires some { is_within self.old.lists ≡ true → 0 < length self.old.lists.freq.entries }
-        requires few { is_within self.old.lists ≡ true → length self.old.lists.freq.entries < 2 ^ 31 }
+        requires some { is_within_limit self.old.lists ≡ true → 0 < length self.old.lists.freq.entries }
+        requires few { is_within_limit self.old.lists ≡ true → length self.old.lists.freq.entries < 2 ^ 31 }
         requires field { field < 2 ^ 31 }
         requires small { length text.now < 2 ^ 31 }
         ensures { OnOk result (self.new ≡ term_finished self.old field text.now) }
@@ -127,7 +127,7 @@ impl PostingWriter {
 
     /// The files of the terms; or which of them passes the limit, the first of positions, entries, terms and index.
     pub fn finish(self) -> Result<PostingFiles, PostingFault>
-        requires { is_within self.lists ≡ true → self.lists.freq.entries ≡ [] }
+        requires { is_within_limit self.lists ≡ true → self.lists.freq.entries ≡ [] }
         ensures { Finishes self.lists.limit (held_files self) result }
     {
         let PostingWriter {

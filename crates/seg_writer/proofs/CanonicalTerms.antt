@@ -13,7 +13,7 @@ use Rattle.lu_model.proofs.Among.{contains-from_in}
 use Rattle.segment_files.specs.Postings.{KeptTerm, kept_term, kept_terms}
 use Rattle.seg_writer.specs.declared.columns.Appearance.{Appearance}
 use Rattle.seg_writer.specs.Appearing.{appeared, column_from, HasApartFields}
-use Rattle.seg_writer.specs.Terms.{kept_in, term_in, terms_in}
+use Rattle.seg_writer.specs.Terms.{kept_in, term_in, terms_in_columns}
 use Rattle.seg_writer.specs.Texts.{texts_of}
 use Rattle.seg_writer.specs.Orders.{NamedColumn, terms_of_column, terms_of_columns, written_terms, AreAllColumns}
 use Rattle.seg_writer.proofs.EntryLemmas.{term-model}
@@ -36,10 +36,10 @@ same-term : (table : List TableField) (docs : List Document) (name text : List �
 same-term table docs name text column apart is =
     term-model table name text docs column apart is ∙ ap (λ bits. kept_term bits (indexed_term table (map content_of docs) (term_with name text))) (sym (bits-at table (field_number name table)))
 
-same-terms : (table : List TableField) (docs : List Document) (name : List ℕ) (column : List Appearance) (texts : List (List ℕ)) → All HasApartFields docs → map appeared column ≡ column_from name 0 docs → terms_in (kept_in table name) column texts ≡ map (kept_of table docs) (map (term_with name) texts)
+same-terms : (table : List TableField) (docs : List Document) (name : List ℕ) (column : List Appearance) (texts : List (List ℕ)) → All HasApartFields docs → map appeared column ≡ column_from name 0 docs → terms_in_columns (kept_in table name) column texts ≡ map (kept_of table docs) (map (term_with name) texts)
 same-terms table docs name column [] apart is = refl
 same-terms table docs name column (t ∷ texts) apart is =
-    ap (λ x. x ∷ terms_in (kept_in table name) column texts) (same-term table docs name t column apart is)
+    ap (λ x. x ∷ terms_in_columns (kept_in table name) column texts) (same-term table docs name t column apart is)
     ∙ ap (λ w. kept_of table docs (term_with name t) ∷ w) (same-terms table docs name column texts apart is)
 
 same-columns : (table : List TableField) (docs : List Document) (columns : List NamedColumn) → All HasApartFields docs → ((c : NamedColumn) → IsIn c columns → map appeared c.column ≡ column_from c.name 0 docs) → written_terms table columns ≡ map (kept_of table docs) (terms_of_columns columns)

@@ -17,7 +17,7 @@ use Rattle.lu_types.specs.declared.document.Document.{Document}
 use Rattle.lu_types.specs.declared.document.IndexedField.{IndexedField}
 use Rattle.lu_model.specs.Contents.{name_of}
 use Rattle.seg_writer.specs.declared.columns.Appearance.{Appearance}
-use Rattle.seg_writer.specs.Appearing.{Appeared, appeared, appeared_in, is_named, found_in, names_of, AreColumns, AreEmpty, AreFirst, HaveMore, IsPushed, column_from}
+use Rattle.seg_writer.specs.Appearing.{Appeared, appeared, appeared_in, is_field_named, found_in, indexed_names, AreFieldColumns, AreEmpty, AreFirst, HaveMore, IsPushed, column_from}
 
 -- a test that does not hold
 pub not-true : (b : Bool) → (b ≡ true → ⊥) → b ≡ false
@@ -29,25 +29,25 @@ filter-more p fields i field lt is = ap (filter p) (take_more fields i field lt 
 
 -- what a column has of the first so many fields of a document
 abbrev pub so_far : List TableField → ℕ → List IndexedField → ℕ → ℕ → List Appeared
-so_far table doc fields i n = map (appeared_in doc) (filter (is_named (name_of table n)) (take i fields))
+so_far table doc fields i n = map (appeared_in doc) (filter (is_field_named (name_of table n)) (take i fields))
 
-one-more : (table : List TableField) (doc : ℕ) (fields : List IndexedField) (i : ℕ) (field : IndexedField) (n : ℕ) → i < length fields → field ≡ get_or fields i field → is_named (name_of table n) field ≡ true → so_far table doc fields (i + 1) n ≡ so_far table doc fields i n ++ appeared_in doc field ∷ []
+one-more : (table : List TableField) (doc : ℕ) (fields : List IndexedField) (i : ℕ) (field : IndexedField) (n : ℕ) → i < length fields → field ≡ get_or fields i field → is_field_named (name_of table n) field ≡ true → so_far table doc fields (i + 1) n ≡ so_far table doc fields i n ++ appeared_in doc field ∷ []
 one-more table doc fields i field n lt is named =
-    ap (map (appeared_in doc)) (filter-more (is_named (name_of table n)) fields i field lt is ∙ ap (λ b. filter (is_named (name_of table n)) (take i fields) ++ cond b (field ∷ []) []) named)
-    ∙ map-append (appeared_in doc) (filter (is_named (name_of table n)) (take i fields)) (field ∷ [])
+    ap (map (appeared_in doc)) (filter-more (is_field_named (name_of table n)) fields i field lt is ∙ ap (λ b. filter (is_field_named (name_of table n)) (take i fields) ++ cond b (field ∷ []) []) named)
+    ∙ map-append (appeared_in doc) (filter (is_field_named (name_of table n)) (take i fields)) (field ∷ [])
 
-none-more : (table : List TableField) (doc : ℕ) (fields : List IndexedField) (i : ℕ) (field : IndexedField) (n : ℕ) → i < length fields → field ≡ get_or fields i field → is_named (name_of table n) field ≡ false → so_far table doc fields (i + 1) n ≡ so_far table doc fields i n
+none-more : (table : List TableField) (doc : ℕ) (fields : List IndexedField) (i : ℕ) (field : IndexedField) (n : ℕ) → i < length fields → field ≡ get_or fields i field → is_field_named (name_of table n) field ≡ false → so_far table doc fields (i + 1) n ≡ so_far table doc fields i n
 none-more table doc fields i field n lt is unnamed =
-    ap (map (appeared_in doc)) (filter-more (is_named (name_of table n)) fields i field lt is ∙ ap (λ b. filter (is_named (name_of table n)) (take i fields) ++ cond b (field ∷ []) []) unnamed ∙ append-nil _)
+    ap (map (appeared_in doc)) (filter-more (is_field_named (name_of table n)) fields i field lt is ∙ ap (λ b. filter (is_field_named (name_of table n)) (take i fields) ++ cond b (field ∷ []) []) unnamed ∙ append-nil _)
 
 -- the field's number is the one of its name
-own-name : (table : List TableField) (field : IndexedField) (k : ℕ) → number_of field.field table ≡ Some k → is_named (name_of table k) field ≡ true
+own-name : (table : List TableField) (field : IndexedField) (k : ℕ) → number_of field.field table ≡ Some k → is_field_named (name_of table k) field ≡ true
 own-name table field k found =
     let at = position-Some (λ (f : TableField). bytes_eq field.field f.name) table k (record { name = []; bits = 0 }) found in
     (bytes_decides (name_of table k) field.field).1 (sym ((bytes_decides field.field (name_of table k)).0 at.1))
 
 -- a field of the table that has the name has the number
-same-number : (table : List TableField) (field : IndexedField) (n : ℕ) → AreFirst table → n < length table → is_named (name_of table n) field ≡ true → number_of field.field table ≡ Some n
+same-number : (table : List TableField) (field : IndexedField) (n : ℕ) → AreFirst table → n < length table → is_field_named (name_of table n) field ≡ true → number_of field.field table ≡ Some n
 same-number table field n first lt named = ap (λ name. number_of name table) (sym ((bytes_decides (name_of table n) field.field).0 named)) ∙ first n lt
 
 the-same : (m n : ℕ) → Some m ≡ Some n → m ≡ n
@@ -77,7 +77,7 @@ columns-pushed table doc fields i field k a old columns new was now first size l
 
     other-column : (n : ℕ) (d : Vec Appearance Global) → n < length old → n ≢ k → map appeared (get_or new n d).items ≡ map appeared (get_or old n d).items ++ so_far table doc fields (i + 1) n
     other-column n d within other =
-        let is_not = not-true (is_named (name_of table n) field) (λ named. other (the-same n k (sym (same-number table field n first (omega (arith, within, size)) named) ∙ found))) in
+        let is_not = not-true (is_field_named (name_of table n) field) (λ named. other (the-same n k (sym (same-number table field n first (omega (arith, within, size)) named) ∙ found))) in
         ap (λ cs. map appeared (get_or cs n d).items) puts
         ∙ ap (λ (c : Vec Appearance Global). map appeared c.items) (get_or-set_other columns k n now d other)
         ∙ each n d within
@@ -103,7 +103,7 @@ pub columns-kept : (table : List TableField) (doc : ℕ) (fields : List IndexedF
 columns-kept table doc fields i field old columns first size lt is none (same, each) = (
   same,
   λ n d within.
-      let is_not = not-true (is_named (name_of table n) field) (λ named. false≢true (ap is_some (sym none ∙ same-number table field n first (omega (arith, within, size)) named))) in
+      let is_not = not-true (is_field_named (name_of table n) field) (λ named. false≢true (ap is_some (sym none ∙ same-number table field n first (omega (arith, within, size)) named))) in
       each n d within ∙ ap (λ w. map appeared (get_or old n d).items ++ w) (sym (none-more table doc fields i field n lt is is_not)),
 )
 
@@ -112,16 +112,16 @@ columns-begun table doc fields old = (refl, λ n d within. sym (append-nil (map 
 
 -- ---- fields with names apart: a name is found at most once
 
-none-named : (name : List ℕ) (fields : List IndexedField) → AllByRecursion (λ other. name ≢ other) (names_of fields) → filter (is_named name) fields ≡ []
+none-named : (name : List ℕ) (fields : List IndexedField) → AllByRecursion (λ other. name ≢ other) (indexed_names fields) → filter (is_field_named name) fields ≡ []
 none-named name [] apart = refl
 none-named name (f ∷ fields) apart =
-    ap (λ b. cond b (f ∷ filter (is_named name) fields) (filter (is_named name) fields)) (not-true (is_named name f) (λ named. apart.0 ((bytes_decides name f.field).0 named)))
+    ap (λ b. cond b (f ∷ filter (is_field_named name) fields) (filter (is_field_named name) fields)) (not-true (is_field_named name f) (λ named. apart.0 ((bytes_decides name f.field).0 named)))
     ∙ none-named name fields apart.1
 
-once : (name : List ℕ) (fields : List IndexedField) → AreApart (names_of fields) → filter (is_named name) fields ≡ option_to_list (find (is_named name) fields)
+once : (name : List ℕ) (fields : List IndexedField) → AreApart (indexed_names fields) → filter (is_field_named name) fields ≡ option_to_list (find (is_field_named name) fields)
 once name [] apart = refl
-once name (f ∷ fields) apart = elim (is_named name f) as (λ b. is_named name f ≡ b → cond b (f ∷ filter (is_named name) fields) (filter (is_named name) fields) ≡ option_to_list (cond b (Some f) (find (is_named name) fields))) [
-  | true ↦ λ named. ap (λ w. f ∷ w) (none-named name fields (subst (λ n. AllByRecursion (λ other. n ≢ other) (names_of fields)) (sym ((bytes_decides name f.field).0 named)) apart.0))
+once name (f ∷ fields) apart = elim (is_field_named name f) as (λ b. is_field_named name f ≡ b → cond b (f ∷ filter (is_field_named name) fields) (filter (is_field_named name) fields) ≡ option_to_list (cond b (Some f) (find (is_field_named name) fields))) [
+  | true ↦ λ named. ap (λ w. f ∷ w) (none-named name fields (subst (λ n. AllByRecursion (λ other. n ≢ other) (indexed_names fields)) (sym ((bytes_decides name f.field).0 named)) apart.0))
   | false ↦ λ other. once name fields apart.1
 ] refl
 
@@ -129,14 +129,14 @@ map-option : {X Y : Type 0} (f : X → Y) (o : Option X) → map f (option_to_li
 map-option f None = refl
 map-option f (Some x) = refl
 
-pub columns-end : (table : List TableField) (doc : ℕ) (fields : List IndexedField) (i : ℕ) (old columns : List (Vec Appearance Global)) → AreApart (names_of fields) → length fields ≤ i → HaveMore (so_far table doc fields i) old columns
+pub columns-end : (table : List TableField) (doc : ℕ) (fields : List IndexedField) (i : ℕ) (old columns : List (Vec Appearance Global)) → AreApart (indexed_names fields) → length fields ≤ i → HaveMore (so_far table doc fields i) old columns
     → HaveMore (λ n. found_in (name_of table n) doc fields) old columns
 columns-end table doc fields i old columns apart le (same, each) = (
   same,
   λ n d within. each n d within ∙ ap (λ w. map appeared (get_or old n d).items ++ w)
-      (ap (λ fs. map (appeared_in doc) (filter (is_named (name_of table n)) fs)) (take_all i fields le)
+      (ap (λ fs. map (appeared_in doc) (filter (is_field_named (name_of table n)) fs)) (take_all i fields le)
       ∙ ap (map (appeared_in doc)) (once (name_of table n) fields apart)
-      ∙ map-option (appeared_in doc) (find (is_named (name_of table n)) fields)),
+      ∙ map-option (appeared_in doc) (find (is_field_named (name_of table n)) fields)),
 )
 
 -- ---- documents
@@ -157,7 +157,7 @@ column-more name docs i doc lt is =
     ap (column_from name 0) (take_more docs i doc lt ∙ ap (λ d. take i docs ++ d ∷ []) (sym is)) ∙ column-push name 0 (take i docs) doc ∙ ap (λ n. column_from name 0 (take i docs) ++ found_in name n doc.indexed) number
 
 pub columns-more : (table : List TableField) (docs : List Document) (i : ℕ) (doc : Document) (fields : List IndexedField) (columns new : List (Vec Appearance Global)) → i < length docs → doc ≡ get_or docs i doc → fields ≡ doc.indexed
-    → AreColumns table (take i docs) columns → HaveMore (λ n. found_in (name_of table n) i fields) columns new → AreColumns table (take (i + 1) docs) new
+    → AreFieldColumns table (take i docs) columns → HaveMore (λ n. found_in (name_of table n) i fields) columns new → AreFieldColumns table (take (i + 1) docs) new
 columns-more table docs i doc fields columns new lt is own (size, each) (same, more) = (
   same ∙ size,
   λ n d within.
@@ -165,7 +165,7 @@ columns-more table docs i doc fields columns new lt is own (size, each) (same, m
       ∙ ap (λ fs. column_from (name_of table n) 0 (take i docs) ++ found_in (name_of table n) i fs) own ∙ sym (column-more (name_of table n) docs i doc lt is),
 )
 
-pub columns-none : (table : List TableField) (docs : List Document) (count : ℕ) (columns : List (Vec Appearance Global)) → count ≡ length table → AreEmpty count columns → AreColumns table (take 0 docs) columns
+pub columns-none : (table : List TableField) (docs : List Document) (count : ℕ) (columns : List (Vec Appearance Global)) → count ≡ length table → AreEmpty count columns → AreFieldColumns table (take 0 docs) columns
 columns-none table docs count columns same (size, empty) = (size ∙ same, λ n d within. ap (map appeared) (empty n d (subst (λ m. n < m) (sym (size ∙ same)) within)))
 
 pub grown-at : (columns : List (Vec Appearance Global)) (k : ℕ) (was now : Vec Appearance Global) (a : Appearance) → k < length columns → was ≡ get_or columns k was → now.items ≡ was.items ++ a ∷ [] → now.items ≡ (get_or columns k now).items ++ a ∷ []

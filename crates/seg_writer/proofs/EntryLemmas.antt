@@ -18,8 +18,8 @@ use Rattle.segment_files.specs.Postings.{KeptTerm, kept_term}
 use Rattle.seg_writer.specs.Terms.{kept_in, term_in}
 use Rattle.lu_model.specs.Contents.{Content, bits_of, content_of, field_number, given_if_any, indexed_term, tokens_for, tokens_with}
 use Rattle.seg_writer.specs.declared.columns.Appearance.{Appearance}
-use Rattle.seg_writer.specs.Appearing.{Appeared, appeared, appeared_in, column_from, found_in, is_named, names_of, HasApartFields}
-use Rattle.seg_writer.specs.Entries.{entry_if_any, entries_of}
+use Rattle.seg_writer.specs.Appearing.{Appeared, appeared, appeared_in, column_from, found_in, is_field_named, indexed_names, HasApartFields}
+use Rattle.seg_writer.specs.Entries.{entry_if_any, entries_of_text}
 use Rattle.seg_writer.proofs.ColumnLemmas.{not-true}
 
 -- the entries of a text in a column as contracts see it
@@ -27,7 +27,7 @@ abbrev entries_seen : Bool → List ℕ → List Appeared → List IndexedEntry
 entries_seen omit text [] = []
 entries_seen omit text (a ∷ rest) = entry_if_any omit a.document (tokens_with text a.field.tokens) ++ entries_seen omit text rest
 
-seen-column : (omit : Bool) (text : List ℕ) (column : List Appearance) → entries_of omit text column ≡ entries_seen omit text (map appeared column)
+seen-column : (omit : Bool) (text : List ℕ) (column : List Appearance) → entries_of_text omit text column ≡ entries_seen omit text (map appeared column)
 seen-column omit text [] = refl
 seen-column omit text (a ∷ column) = ap (λ w. entry_if_any omit a.doc (tokens_with text a.field.now.tokens) ++ w) (seen-column omit text column)
 
@@ -42,18 +42,18 @@ abbrev found_tokens : Term → Option IndexedField → List Token
 found_tokens term None = []
 found_tokens term (Some field) = tokens_with term.text field.tokens
 
-no-tokens : (term : Term) (fields : List IndexedField) → AllByRecursion (λ other. term.field ≢ other) (names_of fields) → flat_map (tokens_for term) fields ≡ []
+no-tokens : (term : Term) (fields : List IndexedField) → AllByRecursion (λ other. term.field ≢ other) (indexed_names fields) → flat_map (tokens_for term) fields ≡ []
 no-tokens term [] apart = refl
 no-tokens term (f ∷ fields) apart =
     ap (λ b. cond b (tokens_with term.text f.tokens) [] ++ flat_map (tokens_for term) fields) (not-true (bytes_eq term.field f.field) (λ named. apart.0 ((bytes_decides term.field f.field).0 named)))
     ∙ no-tokens term fields apart.1
 
 -- the tokens of a term in a document are those of the one field with its name
-tokens-found : (term : Term) (fields : List IndexedField) → AreApart (names_of fields) → flat_map (tokens_for term) fields ≡ found_tokens term (find (is_named term.field) fields)
+tokens-found : (term : Term) (fields : List IndexedField) → AreApart (indexed_names fields) → flat_map (tokens_for term) fields ≡ found_tokens term (find (is_field_named term.field) fields)
 tokens-found term [] apart = refl
-tokens-found term (f ∷ fields) apart = elim (bytes_eq term.field f.field) as (λ b. bytes_eq term.field f.field ≡ b → cond b (tokens_with term.text f.tokens) [] ++ flat_map (tokens_for term) fields ≡ found_tokens term (cond b (Some f) (find (is_named term.field) fields))) [
+tokens-found term (f ∷ fields) apart = elim (bytes_eq term.field f.field) as (λ b. bytes_eq term.field f.field ≡ b → cond b (tokens_with term.text f.tokens) [] ++ flat_map (tokens_for term) fields ≡ found_tokens term (cond b (Some f) (find (is_field_named term.field) fields))) [
   | true ↦ λ named.
-      ap (λ w. tokens_with term.text f.tokens ++ w) (no-tokens term fields (subst (λ name. AllByRecursion (λ other. name ≢ other) (names_of fields)) (sym ((bytes_decides term.field f.field).0 named)) apart.0))
+      ap (λ w. tokens_with term.text f.tokens ++ w) (no-tokens term fields (subst (λ name. AllByRecursion (λ other. name ≢ other) (indexed_names fields)) (sym ((bytes_decides term.field f.field).0 named)) apart.0))
       ∙ append-nil (tokens_with term.text f.tokens)
   | false ↦ λ other. tokens-found term fields apart.1
 ] refl
@@ -84,11 +84,11 @@ seen-model omit term n (doc ∷ docs) apart =
     let own : HasApartFields doc = apart 0 doc (omega arith) in
     let rest = filter_map (model_entry omit term) (enumerate_from (n + 1) (map content_of docs)) in
     seen-append omit term.text (found_in term.field n doc.indexed) (column_from term.field (suc n) docs)
-    ∙ ap (λ w. w ++ entries_seen omit term.text (column_from term.field (suc n) docs)) (entry-found omit term n (find (is_named term.field) doc.indexed) ∙ ap (λ ts. option_to_list (entry_of_tokens omit n ts)) (sym (tokens-found term doc.indexed own)))
+    ∙ ap (λ w. w ++ entries_seen omit term.text (column_from term.field (suc n) docs)) (entry-found omit term n (find (is_field_named term.field) doc.indexed) ∙ ap (λ ts. option_to_list (entry_of_tokens omit n ts)) (sym (tokens-found term doc.indexed own)))
     ∙ ap (λ w. option_to_list (model_entry omit term (n, content_of doc)) ++ w) (seen-model omit term (suc n) docs (λ k d lt. apart (suc k) d (omega (arith, lt))) ∙ ap (λ k. filter_map (model_entry omit term) (enumerate_from k (map content_of docs))) (sym (add-one n)))
     ∙ cons-option (model_entry omit term (n, content_of doc)) rest
 
-pub entries-model : (omit : Bool) (term : Term) (docs : List Document) (column : List Appearance) → All HasApartFields docs → map appeared column ≡ column_from term.field 0 docs → entries_of omit term.text column ≡ filter_map (model_entry omit term) (enumerate_from 0 (map content_of docs))
+pub entries-model : (omit : Bool) (term : Term) (docs : List Document) (column : List Appearance) → All HasApartFields docs → map appeared column ≡ column_from term.field 0 docs → entries_of_text omit term.text column ≡ filter_map (model_entry omit term) (enumerate_from 0 (map content_of docs))
 entries-model omit term docs column apart is = seen-column omit term.text column ∙ ap (entries_seen omit term.text) is ∙ seen-model omit term 0 docs apart
 
 -- a term with what its field keeps, by its entries

@@ -29,7 +29,7 @@ use Rattle.seg_writer.specs.declared.inverted.Use.{Use}
 use Rattle.seg_writer.specs.declared.inverted.Inverted.{Inverted}
 use Rattle.seg_writer.specs.declared.columns.Appearance.{Appearance}
 use Rattle.seg_writer.specs.Columns.{uses_of}
-use Rattle.seg_writer.specs.Groups.{uses_at, AreUsed}
+use Rattle.seg_writer.specs.Groups.{uses_at, AreUsedTexts}
 use Rattle.seg_writer.specs.Texts.{AreInverted, group_of, texts_in}
 
 -- how the map compares its keys
@@ -122,7 +122,7 @@ same_keys : order_eq ≡ key_eq
 same_keys = λ i x y. is_eq-slice_cmp x.now y.now i
 
 pub are_terms : (column : List Appearance) (m : BTreeMap (Bor (List ℕ)) (Vec Use Global)) (ts us : List Inverted)
-    → ((q : List ℕ) → uses_at q m ≡ uses_of q column) → AreUsed m → map group_of ts ≡ m.entries → IsOrdered (λ x y. slice_cmp nat_cmp x.now y.now) m → All (λ (t : Inverted). IsUtf8 t.text.now) ts
+    → ((q : List ℕ) → uses_at q m ≡ uses_of q column) → AreUsedTexts m → map group_of ts ≡ m.entries → IsOrdered (λ x y. slice_cmp nat_cmp x.now y.now) m → All (λ (t : Inverted). IsUtf8 t.text.now) ts
     → IsPermutation ts us → IsSortedByKey (λ (t : Inverted). t.text.now) text_cmp us → AreInverted column us
 are_terms column m ts us uses used entries ordered utf8 moved sorted =
     let unique : IsDistinct key_eq (keys_of m.entries) = subst (λ e. IsDistinct e (keys_of m.entries)) same_keys (IsDistinct-from_sorted (λ x y. slice_cmp nat_cmp x.now y.now) (keys_of m.entries) ordered) in

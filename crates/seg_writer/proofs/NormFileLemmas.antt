@@ -19,8 +19,8 @@ use Rattle.segment_files.specs.Parts.{norm_columns}
 use Rattle.segment_files.specs.Written.{first_past}
 use Rattle.posting_files.specs.States.{named}
 use Rattle.seg_writer.specs.declared.columns.Appearance.{Appearance}
-use Rattle.seg_writer.specs.Appearing.{appeared, column_from, is_named}
-use Rattle.seg_writer.specs.NormColumns.{field_norms, found_norm, norm_bytes, norm_files, norms_of, given_norms, AreColumnsIn, AreSomeColumns, IsColumnIn, IsSomeColumn}
+use Rattle.seg_writer.specs.Appearing.{appeared, column_from, is_field_named}
+use Rattle.seg_writer.specs.NormColumns.{field_norms, found_norm, norm_bytes, norm_file_due, norms_of, given_norms, AreColumnsIn, AreSomeColumns, IsColumnIn, IsSomeColumn}
 use Rattle.seg_writer.proofs.FnmLemmas.{past-alone, within-alone}
 
 norm_bytes-append : (docs : List Document) (fs gs : List TableField) → norm_bytes docs (fs ++ gs) ≡ norm_bytes docs fs ++ norm_bytes docs gs
@@ -47,7 +47,7 @@ norm_bytes-length docs (f ∷ fields) =
     let rest = norm_bytes-length docs fields in
     let all = ap length (norm_bytes-append docs (f ∷ []) fields) ∙ length-append (norm_bytes docs (f ∷ [])) (norm_bytes docs fields) in
     elim (has_norms f.bits) as (λ b. has_norms f.bits ≡ b → count_with_norms (f ∷ fields) ≡ cond b 1 0 + count_with_norms fields → length (norm_bytes docs (f ∷ fields)) ≡ count_with_norms (f ∷ fields) * length docs) [
-      | true ↦ λ has count. (let own = ap length (one-with docs f has) ∙ length-map docs (λ (doc : Document). found_norm (find (is_named f.name) doc.indexed)) in let times = ap (λ n. n * length docs) count in omega (arith, rest, all, own, times))
+      | true ↦ λ has count. (let own = ap length (one-with docs f has) ∙ length-map docs (λ (doc : Document). found_norm (find (is_field_named f.name) doc.indexed)) in let times = ap (λ n. n * length docs) count in omega (arith, rest, all, own, times))
       | false ↦ λ none count. (let own = ap length (one-without docs f none) in let times = ap (λ n. n * length docs) count in omega (arith, rest, all, own, times))
     ] refl (sum_by-cons (λ (g : TableField). cond (has_norms g.bits) 1 0) f fields)
 
@@ -59,21 +59,21 @@ spelled docs fields = let size = length-append norm_header (norm_bytes docs fiel
 abbrev file_if : List ℕ → Bool → List NamedFile
 file_if nrm has = cond has (named Nrm nrm ∷ []) []
 
-there : (docs : List Document) (fields : List TableField) → 0 < count_with_norms fields → norm_files docs fields ≡ named Nrm (nrm_spelling (norm_columns (field_norms docs fields))) ∷ []
+there : (docs : List Document) (fields : List TableField) → 0 < count_with_norms fields → norm_file_due docs fields ≡ named Nrm (nrm_spelling (norm_columns (field_norms docs fields))) ∷ []
 there docs fields some = ap (file_if (nrm_spelling (norm_columns (field_norms docs fields)))) (lt-ltb 0 (count_with_norms fields) some)
 
-pub norms-none : (limit : ℕ) (docs : List Document) (fields : List TableField) → count_with_norms fields ≡ 0 → (first_past limit (norm_files docs fields) ≡ None) × (given_norms None ≡ norm_files docs fields)
+pub norms-none : (limit : ℕ) (docs : List Document) (fields : List TableField) → count_with_norms fields ≡ 0 → (first_past limit (norm_file_due docs fields) ≡ None) × (given_norms None ≡ norm_file_due docs fields)
 norms-none limit docs fields none =
-    let nothing : norm_files docs fields ≡ [] = ap (file_if (nrm_spelling (norm_columns (field_norms docs fields)))) (le-ltb 0 (count_with_norms fields) (omega (arith, none))) in
+    let nothing : norm_file_due docs fields ≡ [] = ap (file_if (nrm_spelling (norm_columns (field_norms docs fields)))) (le-ltb 0 (count_with_norms fields) (omega (arith, none))) in
     (ap (first_past limit) nothing, sym nothing)
 
-pub norms-past : (limit documents : ℕ) (docs : List Document) (fields : List TableField) → length docs ≡ documents → 0 < count_with_norms fields → limit < 4 + count_with_norms fields * documents → first_past limit (norm_files docs fields) ≡ Some Nrm
+pub norms-past : (limit documents : ℕ) (docs : List Document) (fields : List TableField) → length docs ≡ documents → 0 < count_with_norms fields → limit < 4 + count_with_norms fields * documents → first_past limit (norm_file_due docs fields) ≡ Some Nrm
 norms-past limit documents docs fields size some long =
     ap (first_past limit) (there docs fields some)
     ∙ past-alone limit Nrm (nrm_spelling (norm_columns (field_norms docs fields))) (subst (λ n. limit < n) (sym (spelled docs fields ∙ ap (λ n. 4 + count_with_norms fields * n) size)) long)
 
 pub norms-within : (limit documents : ℕ) (docs : List Document) (fields : List TableField) (norms nrm : List ℕ) → length docs ≡ documents → 0 < count_with_norms fields → 4 + count_with_norms fields * documents ≤ limit → norms ≡ norm_bytes docs fields → nrm ≡ nrm_bytes norms
-    → (first_past limit (norm_files docs fields) ≡ None) × (given_norms (Some nrm) ≡ norm_files docs fields)
+    → (first_past limit (norm_file_due docs fields) ≡ None) × (given_norms (Some nrm) ≡ norm_file_due docs fields)
 norms-within limit documents docs fields norms nrm size some short are is = (
   ap (first_past limit) (there docs fields some)
       ∙ within-alone limit Nrm (nrm_spelling (norm_columns (field_norms docs fields))) (subst (λ n. n ≤ limit) (sym (spelled docs fields ∙ ap (λ n. 4 + count_with_norms fields * n) size)) short),

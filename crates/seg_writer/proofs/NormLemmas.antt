@@ -9,7 +9,7 @@ use Rattle.lu_types.specs.declared.document.Document.{Document}
 use Rattle.lu_types.specs.declared.document.IndexedField.{IndexedField}
 use Rattle.lu_model.specs.Contents.{missing_norm}
 use Rattle.seg_writer.specs.declared.columns.Appearance.{Appearance}
-use Rattle.seg_writer.specs.Appearing.{Appeared, appeared, appeared_in, column_from, found_in, is_named}
+use Rattle.seg_writer.specs.Appearing.{Appeared, appeared, appeared_in, column_from, found_in, is_field_named}
 use Rattle.seg_writer.specs.NormColumns.{found_norm, norms_of, missing_norms, IsColumnIn, IsSomeColumn, AreAdded}
 
 missing-suc : (n : ℕ) → missing_norms n ++ missing_norm ∷ [] ≡ missing_norms (suc n)
@@ -35,7 +35,7 @@ abbrev tail_of : List Appeared → List Appeared
 tail_of [] = []
 tail_of (a ∷ rest) = rest
 
-next-doc : (name : List ℕ) (n : ℕ) (doc : Document) (docs : List Document) (first : Appeared) (rest : List Appeared) (found : Option IndexedField) → find (is_named name) doc.indexed ≡ found
+next-doc : (name : List ℕ) (n : ℕ) (doc : Document) (docs : List Document) (first : Appeared) (rest : List Appeared) (found : Option IndexedField) → find (is_field_named name) doc.indexed ≡ found
     → (first ∷ rest ≡ column_from name (suc n) docs → NextNorm name (suc n) docs first rest) → first ∷ rest ≡ column_from name n (doc ∷ docs) → NextNorm name n (doc ∷ docs) first rest
 next-doc name n doc docs first rest None found later is =
     let own : found_in name n doc.indexed ≡ [] = ap (λ o. option_to_list (option_map (appeared_in n) o)) found in
@@ -63,9 +63,9 @@ next-doc name n doc docs first rest (Some field) found later is =
 
 pub next-norm : (name : List ℕ) (n : ℕ) (docs : List Document) (first : Appeared) (rest : List Appeared) → first ∷ rest ≡ column_from name n docs → NextNorm name n docs first rest
 next-norm name n [] first rest is = absurd (let size = ap length is in omega (arith, size))
-next-norm name n (doc ∷ docs) first rest is = next-doc name n doc docs first rest (find (is_named name) doc.indexed) refl (next-norm name (suc n) docs first rest) is
+next-norm name n (doc ∷ docs) first rest is = next-doc name n doc docs first rest (find (is_field_named name) doc.indexed) refl (next-norm name (suc n) docs first rest) is
 
-none-left : (name : List ℕ) (n : ℕ) (doc : Document) (docs : List Document) (found : Option IndexedField) → find (is_named name) doc.indexed ≡ found → column_from name n (doc ∷ docs) ≡ [] → (found_norm found ≡ missing_norm) × (column_from name (suc n) docs ≡ [])
+none-left : (name : List ℕ) (n : ℕ) (doc : Document) (docs : List Document) (found : Option IndexedField) → find (is_field_named name) doc.indexed ≡ found → column_from name n (doc ∷ docs) ≡ [] → (found_norm found ≡ missing_norm) × (column_from name (suc n) docs ≡ [])
 none-left name n doc docs None found none = (refl, sym (ap (λ o. option_to_list (option_map (appeared_in n) o) ++ column_from name (suc n) docs) found) ∙ none)
 none-left name n doc docs (Some field) found none = absurd (let size = ap length (sym (ap (λ o. option_to_list (option_map (appeared_in n) o) ++ column_from name (suc n) docs) found) ∙ none) in omega (arith, size))
 
@@ -73,7 +73,7 @@ none-left name n doc docs (Some field) found none = absurd (let size = ap length
 pub norms-missing : (name : List ℕ) (n : ℕ) (docs : List Document) → column_from name n docs ≡ [] → norms_of name docs ≡ missing_norms (length docs)
 norms-missing name n [] none = refl
 norms-missing name n (doc ∷ docs) none =
-    let own = none-left name n doc docs (find (is_named name) doc.indexed) refl none in
+    let own = none-left name n doc docs (find (is_field_named name) doc.indexed) refl none in
     ap (λ k. k ∷ norms_of name docs) own.0 ∙ ap (λ w. missing_norm ∷ w) (norms-missing name (suc n) docs own.1)
 
 pub added-next : (name : List ℕ) (docs : List Document) (column : List Appearance) (k : ℕ) (here : Appearance) (next norm : ℕ) (old now filled new : List ℕ) → k < length column → here ≡ get_or column k here → AreAdded name docs (drop k column) next old now
@@ -93,7 +93,7 @@ added-next name docs column k here next norm old now filled new lt is h own fill
       added = adds ∙ ap (λ w. w ++ norm ∷ []) (fills ∙ ap (λ m. now ++ missing_norms m) gap) ∙ append_assoc now (missing_norms r.skip) (norm ∷ [])
           ∙ ap (λ m. now ++ (missing_norms r.skip ++ m ∷ [])) own ∙ ap (λ w. now ++ w) (sym r.norms) ∙ ap (λ w. w ++ norms_of name (take (suc r.skip) (drop next docs))) h.added
           ∙ append_assoc old (norms_of name (take next docs)) (norms_of name (take (suc r.skip) (drop next docs)))
-          ∙ ap (λ w. old ++ w) (sym (map-append (λ (doc : Document). found_norm (find (is_named name) doc.indexed)) (take next docs) (take (suc r.skip) (drop next docs))) ∙ ap (norms_of name) (sym (take-add next (suc r.skip) docs) ∙ ap (λ m. take m docs) (sym after)));
+          ∙ ap (λ w. old ++ w) (sym (map-append (λ (doc : Document). found_norm (find (is_field_named name) doc.indexed)) (take next docs) (take (suc r.skip) (drop next docs))) ∙ ap (norms_of name) (sym (take-add next (suc r.skip) docs) ∙ ap (λ m. take m docs) (sym after)));
     }
 
 pub added-begun : (name : List ℕ) (docs : List Document) (column : List Appearance) (old : List ℕ) → map appeared column ≡ column_from name 0 docs → AreAdded name docs (drop 0 column) 0 old old
@@ -107,7 +107,7 @@ added-end name docs column k next old now new le h fills =
     let whole : take next docs ++ drop next docs ≡ docs = take-append-drop next docs in
     fills ∙ ap (λ w. w ++ missing_norms (length docs - next)) h.added ∙ append_assoc old (norms_of name (take next docs)) (missing_norms (length docs - next))
     ∙ ap (λ w. old ++ (norms_of name (take next docs) ++ w)) (sym rest)
-    ∙ ap (λ w. old ++ w) (sym (map-append (λ (doc : Document). found_norm (find (is_named name) doc.indexed)) (take next docs) (drop next docs)) ∙ ap (norms_of name) whole)
+    ∙ ap (λ w. old ++ w) (sym (map-append (λ (doc : Document). found_norm (find (is_field_named name) doc.indexed)) (take next docs) (drop next docs)) ∙ ap (norms_of name) whole)
 
 -- the next field is in a document that was not passed
 pub next-fits : (column : List Appearance) (documents k : ℕ) (here : Appearance) (next : ℕ) (old now : List ℕ) → IsSomeColumn column documents → k < length column → here ≡ get_or column k here

@@ -26,8 +26,8 @@ use Rattle.lu_model.proofs.Each.{all_at}
 use Rattle.lu_model.proofs.Merges.{terms_are_texts}
 use Rattle.lu_model.proofs.Tables.{find_in}
 use Rattle.seg_writer.specs.declared.columns.Appearance.{Appearance}
-use Rattle.seg_writer.specs.Appearing.{Appeared, appeared, appeared_in, column_from, found_in, is_named, names_of, HasApartFields}
-use Rattle.seg_writer.specs.Columns.{tokens_in}
+use Rattle.seg_writer.specs.Appearing.{Appeared, appeared, appeared_in, column_from, found_in, is_field_named, indexed_names, HasApartFields}
+use Rattle.seg_writer.specs.Columns.{tokens_in_field}
 use Rattle.seg_writer.specs.Texts.{column_texts, texts_of}
 use Rattle.seg_writer.specs.Orders.{NamedColumn, terms_of_column, terms_of_columns, AreAllColumns}
 use Rattle.seg_writer.proofs.ColumnLemmas.{not-true}
@@ -91,10 +91,10 @@ pub record Origin (name : List ℕ) (docs : List Document) (field : IndexedField
   pub own : IsIn field doc.indexed
   pub named : name ≡ field.field
 
-found-origin : (name : List ℕ) (n : ℕ) (doc : Document) (s : Appeared) (found : Option IndexedField) → find (is_named name) doc.indexed ≡ found → IsIn s (option_to_list (option_map (appeared_in n) found)) → IsIn s.field doc.indexed × (name ≡ s.field.field)
+found-origin : (name : List ℕ) (n : ℕ) (doc : Document) (s : Appeared) (found : Option IndexedField) → find (is_field_named name) doc.indexed ≡ found → IsIn s (option_to_list (option_map (appeared_in n) found)) → IsIn s.field doc.indexed × (name ≡ s.field.field)
 found-origin name n doc s None is h = absurd h
 found-origin name n doc s (Some f) is (inl same) =
-    let r = find_in (is_named name) f doc.indexed is in
+    let r = find_in (is_field_named name) f doc.indexed is in
     let field : s.field ≡ f = ap (λ (a : Appeared). a.field) same in
     (subst (λ g. IsIn g doc.indexed) (sym field) r.0, (bytes_decides name f.field).0 r.1 ∙ ap (λ (g : IndexedField). g.field) (sym field))
 found-origin name n doc s (Some f) is (inr h) = absurd h
@@ -102,22 +102,22 @@ found-origin name n doc s (Some f) is (inr h) = absurd h
 origin : (name : List ℕ) (n : ℕ) (docs : List Document) (s : Appeared) → IsIn s (column_from name n docs) → Origin name docs s.field
 origin name n [] s h = absurd h
 origin name n (doc ∷ docs) s h = elim (in_either s (found_in name n doc.indexed) (column_from name (suc n) docs) h) [
-  | inl here ↦ (let r = found-origin name n doc s (find (is_named name) doc.indexed) refl here in record { doc = doc; inside = inl refl; own = r.0; named = r.1 })
+  | inl here ↦ (let r = found-origin name n doc s (find (is_field_named name) doc.indexed) refl here in record { doc = doc; inside = inl refl; own = r.0; named = r.1 })
   | inr there ↦ (let r = origin name (suc n) docs s there in record { doc = r.doc; inside = inr r.inside; own = r.own; named = r.named })
 ]
 
 -- a field is the one that is found by its name
-unnamed : (name : List ℕ) (fields : List IndexedField) (field : IndexedField) → AllByRecursion (λ other. name ≢ other) (names_of fields) → IsIn field fields → name ≡ field.field → ⊥
+unnamed : (name : List ℕ) (fields : List IndexedField) (field : IndexedField) → AllByRecursion (λ other. name ≢ other) (indexed_names fields) → IsIn field fields → name ≡ field.field → ⊥
 unnamed name [] field apart h is = h
 unnamed name (f ∷ fields) field apart (inl same) is = apart.0 (is ∙ ap (λ (g : IndexedField). g.field) same)
 unnamed name (f ∷ fields) field apart (inr h) is = unnamed name fields field apart.1 h is
 
-finds-field : (name : List ℕ) (fields : List IndexedField) (field : IndexedField) → AreApart (names_of fields) → IsIn field fields → name ≡ field.field → find (is_named name) fields ≡ Some field
+finds-field : (name : List ℕ) (fields : List IndexedField) (field : IndexedField) → AreApart (indexed_names fields) → IsIn field fields → name ≡ field.field → find (is_field_named name) fields ≡ Some field
 finds-field name [] field apart h is = absurd h
 finds-field name (f ∷ fields) field apart (inl same) is =
-    ap (λ b. cond b (Some f) (find (is_named name) fields)) ((bytes_decides name f.field).1 (is ∙ ap (λ (g : IndexedField). g.field) same)) ∙ ap Some (sym same)
+    ap (λ b. cond b (Some f) (find (is_field_named name) fields)) ((bytes_decides name f.field).1 (is ∙ ap (λ (g : IndexedField). g.field) same)) ∙ ap Some (sym same)
 finds-field name (f ∷ fields) field apart (inr h) is =
-    ap (λ b. cond b (Some f) (find (is_named name) fields)) (not-true (is_named name f) (λ named. unnamed f.field fields field apart.0 h (sym ((bytes_decides name f.field).0 named) ∙ is)))
+    ap (λ b. cond b (Some f) (find (is_field_named name) fields)) (not-true (is_field_named name f) (λ named. unnamed f.field fields field apart.0 h (sym ((bytes_decides name f.field).0 named) ∙ is)))
     ∙ finds-field name fields field apart.1 h is
 
 -- it appears in the column of its name
@@ -137,8 +137,8 @@ doc_terms docs = flat_map (λ (content : Content). content.terms) (map content_o
 
 from-column : (docs : List Document) (name : List ℕ) (column : List Appearance) (text : List ℕ) → map appeared column ≡ column_from name 0 docs → IsIn text (column_texts column) → IsIn (term_with name text) (doc_terms docs)
 from-column docs name column text is h =
-    let a = from_flat_map (λ (x : Appearance). map (λ (t : Token). t.text) (tokens_in x)) text column h in
-    let token = from_map (λ (t : Token). t.text) text (tokens_in a.0) a.2 in
+    let a = from_flat_map (λ (x : Appearance). map (λ (t : Token). t.text) (tokens_in_field x)) text column h in
+    let token = from_map (λ (t : Token). t.text) text (tokens_in_field a.0) a.2 in
     let o = origin name 0 docs (appeared a.0) (subst (IsIn (appeared a.0)) is (in_map appeared a.0 column a.1)) in
     in_flat_map (λ (content : Content). content.terms) (content_of o.doc) (term_with name text) (map content_of docs) (in_map content_of o.doc docs o.inside)
     (in_terms o.doc (term_with name text) (record { field = a.0.field.now; token = token.0; inside = o.own; in_tokens = token.1; name = o.named; text = token.2 }))
@@ -148,9 +148,9 @@ to-column docs c t doc s apart is inside named =
     let r = appears c.name 0 docs doc s.field apart inside s.inside named in
     let a = from_map appeared r.0 c.column (subst (IsIn r.0) (sym is) r.1) in
     let field : s.field ≡ a.0.field.now = sym r.2 ∙ ap (λ (x : Appeared). x.field) a.2 in
-    let token : IsIn s.token (tokens_in a.0) = subst (λ (f : IndexedField). IsIn s.token f.tokens) field s.in_tokens in
-    in_flat_map (λ (x : Appearance). map (λ (y : Token). y.text) (tokens_in x)) a.0 t.text c.column a.1
-    (subst (λ w. IsIn w (map (λ (y : Token). y.text) (tokens_in a.0))) (sym s.text) (in_map (λ (y : Token). y.text) s.token (tokens_in a.0) token))
+    let token : IsIn s.token (tokens_in_field a.0) = subst (λ (f : IndexedField). IsIn s.token f.tokens) field s.in_tokens in
+    in_flat_map (λ (x : Appearance). map (λ (y : Token). y.text) (tokens_in_field x)) a.0 t.text c.column a.1
+    (subst (λ w. IsIn w (map (λ (y : Token). y.text) (tokens_in_field a.0))) (sym s.text) (in_map (λ (y : Token). y.text) s.token (tokens_in_field a.0) token))
 
 -- the terms of the columns are those of the documents
 pub columns-in_order : (docs : List Document) (columns : List NamedColumn) → All HasApartFields docs → ((t : Term) → IsIn t (doc_terms docs) → IsTerm t) → AreAllColumns docs columns → terms_of_columns columns ≡ in_order term_cmp (doc_terms docs)

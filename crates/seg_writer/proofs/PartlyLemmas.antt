@@ -14,8 +14,8 @@ use Rattle.seg_writer.specs.declared.columns.Appearance.{Appearance}
 use Rattle.seg_writer.specs.declared.inverted.Use.{Use}
 use Rattle.seg_writer.specs.declared.fault.WriteFault.{WriteFault}
 use Rattle.seg_writer.specs.declared.fault.WriteFault.TheVariants.{Doc, TooLarge, OutOfMemory}
-use Rattle.seg_writer.specs.Columns.{tokens_in, uses_among, uses_from, uses_of}
-use Rattle.seg_writer.specs.Entries.{entry_with, entries_of, run_length, tokens_at, last_document, AddsEntries, IsColumn, IsRun, IsTermFresh, IsPartly, MayFollow}
+use Rattle.seg_writer.specs.Columns.{tokens_in_field, uses_among, uses_from, uses_of}
+use Rattle.seg_writer.specs.Entries.{entry_with, entries_of_text, run_length, tokens_at, last_document, AddsEntries, IsColumn, IsRun, IsTermFresh, IsPartly, MayFollow}
 use Rattle.seg_writer.proofs.TokenLemmas.{tokens-from, run-among, uses-few, uses-many, empty-none}
 use Rattle.seg_writer.proofs.RunLemmas.{next-run, run-is}
 
@@ -38,10 +38,10 @@ partly-begun column text omit uses s is = record {
 pub record IsNext (column : List Appearance) (text : List ℕ) (omit : Bool) (passed : ℕ) (rest : List Use) (first : Use) (d : Appearance) : Type 0 where
   pub low : passed ≤ first.entry
   pub inside : first.entry < length column
-  pub run : take (run_length first.entry rest) rest ≡ uses_among text first.entry 0 (tokens_in (get_or column first.entry d))
+  pub run : take (run_length first.entry rest) rest ≡ uses_among text first.entry 0 (tokens_in_field (get_or column first.entry d))
   pub behind : drop (run_length first.entry rest) rest ≡ uses_from text (suc first.entry) (drop (suc first.entry) column)
-  pub some : 0 < length (uses_among text first.entry 0 (tokens_in (get_or column first.entry d)))
-  pub entries : entries_of omit text (drop passed column) ≡ entry_with omit (get_or column first.entry d).doc (tokens_with text (tokens_in (get_or column first.entry d))) ∷ entries_of omit text (drop (suc first.entry) column)
+  pub some : 0 < length (uses_among text first.entry 0 (tokens_in_field (get_or column first.entry d)))
+  pub entries : entries_of_text omit text (drop passed column) ≡ entry_with omit (get_or column first.entry d).doc (tokens_with text (tokens_in_field (get_or column first.entry d))) ∷ entries_of_text omit text (drop (suc first.entry) column)
   pub fits : run_length first.entry rest ≤ length rest
 
 pub is-next : (column : List Appearance) (text : List ℕ) (omit : Bool) (passed : ℕ) (rest : List Use) (first : Use) (more : List Use) (d : Appearance) → rest ≡ uses_from text passed (drop passed column) → rest ≡ first ∷ more → IsNext column text omit passed rest first d
@@ -55,8 +55,8 @@ is-next column text omit passed rest first more d uses is =
     let here : get_or left r.skip d ≡ get_or column first.entry d = get_or-drop passed column r.skip d ∙ ap (λ k. get_or column k d) (sym at) in
     let next : suc first.entry ≡ passed + suc r.skip = omega (arith, at) in
     let behind : drop (suc r.skip) left ≡ drop (suc first.entry) column = drop-drop (suc r.skip) passed column ∙ ap (λ k. drop k column) (sym next) in
-    let own = uses_among text first.entry 0 (tokens_in (get_or column first.entry d)) in
-    let own_is : uses_among text first.entry 0 (tokens_in (get_or left r.skip d)) ≡ own = ap (λ a. uses_among text first.entry 0 (tokens_in a)) here in
+    let own = uses_among text first.entry 0 (tokens_in_field (get_or column first.entry d)) in
+    let own_is : uses_among text first.entry 0 (tokens_in_field (get_or left r.skip d)) ≡ own = ap (λ a. uses_among text first.entry 0 (tokens_in_field a)) here in
     let later = uses_from text (suc first.entry) (drop (suc first.entry) column) in
     let parts : rest ≡ own ++ later = uses ∙ r.uses ∙ ap (λ w. w ++ uses_from text (suc first.entry) (drop (suc r.skip) left)) own_is ∙ ap (λ c. own ++ uses_from text (suc first.entry) c) behind in
     let count : run_length first.entry rest ≡ length own = ap (run_length first.entry) uses ∙ run-is text omit passed left first d r ∙ ap length own_is in
@@ -68,29 +68,29 @@ is-next column text omit passed rest first more d uses is =
       behind = ap (λ k. drop k rest) count ∙ ap (drop (length own)) parts ∙ drop-append_seam own later;
       some = subst (λ w. 0 < length w) own_is r.some;
       entries = r.entries
-          ∙ ap (λ (a : Appearance). entry_with omit a.doc (tokens_with text (tokens_in a)) ∷ entries_of omit text (drop (suc r.skip) left)) here
-          ∙ ap (λ c. entry_with omit (get_or column first.entry d).doc (tokens_with text (tokens_in (get_or column first.entry d))) ∷ entries_of omit text c) behind;
+          ∙ ap (λ (a : Appearance). entry_with omit a.doc (tokens_with text (tokens_in_field a)) ∷ entries_of_text omit text (drop (suc r.skip) left)) here
+          ∙ ap (λ c. entry_with omit (get_or column first.entry d).doc (tokens_with text (tokens_in_field (get_or column first.entry d))) ∷ entries_of_text omit text c) behind;
       fits = omega (arith, count, long);
     }
 
 -- the entry of the document in which the next run is
 abbrev pub next_entry : List Appearance → Bool → List Use → Use → Appearance → IndexedEntry
-next_entry column omit rest first d = entry_with omit (get_or column first.entry d).doc (tokens_at (tokens_in (get_or column first.entry d)) (take (run_length first.entry rest) rest))
+next_entry column omit rest first d = entry_with omit (get_or column first.entry d).doc (tokens_at (tokens_in_field (get_or column first.entry d)) (take (run_length first.entry rest) rest))
 
 -- its tokens are those that have the text
 next-tokens : (column : List Appearance) (text : List ℕ) (omit : Bool) (passed : ℕ) (rest : List Use) (first : Use) (d : Appearance) → IsNext column text omit passed rest first d
-    → tokens_at (tokens_in (get_or column first.entry d)) (take (run_length first.entry rest) rest) ≡ tokens_with text (tokens_in (get_or column first.entry d))
+    → tokens_at (tokens_in_field (get_or column first.entry d)) (take (run_length first.entry rest) rest) ≡ tokens_with text (tokens_in_field (get_or column first.entry d))
 next-tokens column text omit passed rest first d x =
-    let ts = tokens_in (get_or column first.entry d) in
+    let ts = tokens_in_field (get_or column first.entry d) in
     ap (tokens_at ts) x.run ∙ tokens-from text first.entry 0 ts ts refl
 
 -- the entries so far, with one more, are those before the fields that are left
 next-all : (column : List Appearance) (text : List ℕ) (omit : Bool) (passed : ℕ) (entries : List IndexedEntry) (rest : List Use) (first : Use) (d : Appearance) → IsNext column text omit passed rest first d
-    → entries ++ entries_of omit text (drop passed column) ≡ entries_of omit text column → (entries ++ next_entry column omit rest first d ∷ []) ++ entries_of omit text (drop (suc first.entry) column) ≡ entries_of omit text column
+    → entries ++ entries_of_text omit text (drop passed column) ≡ entries_of_text omit text column → (entries ++ next_entry column omit rest first d ∷ []) ++ entries_of_text omit text (drop (suc first.entry) column) ≡ entries_of_text omit text column
 next-all column text omit passed entries rest first d x all =
     let a = get_or column first.entry d in
-    append_assoc entries (next_entry column omit rest first d ∷ []) (entries_of omit text (drop (suc first.entry) column))
-    ∙ ap (λ ts. entries ++ entry_with omit a.doc ts ∷ entries_of omit text (drop (suc first.entry) column)) (next-tokens column text omit passed rest first d x)
+    append_assoc entries (next_entry column omit rest first d ∷ []) (entries_of_text omit text (drop (suc first.entry) column))
+    ∙ ap (λ ts. entries ++ entry_with omit a.doc ts ∷ entries_of_text omit text (drop (suc first.entry) column)) (next-tokens column text omit passed rest first d x)
     ∙ ap (λ w. entries ++ w) (sym x.entries) ∙ all
 
 last_document-more : (before : ℕ) (es : List IndexedEntry) (e : IndexedEntry) → last_document before (es ++ e ∷ []) ≡ e.document
@@ -120,9 +120,9 @@ partly-next column text omit rest behind old s new first d p valid x left adds =
 
 -- what is asked of the next run
 pub run-next : (column : List Appearance) (text : List ℕ) (omit : Bool) (passed : ℕ) (rest : List Use) (first : Use) (d : Appearance) → IsColumn column → IsNext column text omit passed rest first d
-    → IsRun (tokens_in (get_or column first.entry d)) (take (run_length first.entry rest) rest) × (0 < length (take (run_length first.entry rest) rest)) × (length (take (run_length first.entry rest) rest) < 2 ^ 31)
+    → IsRun (tokens_in_field (get_or column first.entry d)) (take (run_length first.entry rest) rest) × (0 < length (take (run_length first.entry rest) rest)) × (length (take (run_length first.entry rest) rest) < 2 ^ 31)
 run-next column text omit passed rest first d valid x =
-    let ts = tokens_in (get_or column first.entry d) in
+    let ts = tokens_in_field (get_or column first.entry d) in
     let few = uses-few text first.entry ts in
     let small = valid.numberable.tokens first.entry d x.inside in
     let size = ap length x.run in (
@@ -141,40 +141,40 @@ follow-next column text omit rest old s first d p (i, limit, ts, om, payloads, f
     ] in
     end-may i limit ts om payloads p.entries [] (get_or column first.entry d).doc (entry_begun s) (entry-begun i limit ts om payloads p.entries s begun) order within
 
-no-entries : (text : List ℕ) (omit : Bool) (n : ℕ) (column : List Appearance) → uses_from text n column ≡ [] → entries_of omit text column ≡ []
+no-entries : (text : List ℕ) (omit : Bool) (n : ℕ) (column : List Appearance) → uses_from text n column ≡ [] → entries_of_text omit text column ≡ []
 no-entries text omit n [] none = refl
 no-entries text omit n (a ∷ column) none =
-    let own = uses_among text n 0 (tokens_in a) in
+    let own = uses_among text n 0 (tokens_in_field a) in
     let rest = uses_from text (suc n) column in
     let size = ap length none in
     let parts = length-append own rest in
-    let same = uses-many text n (tokens_in a) in
-    let nothing : length (tokens_with text (tokens_in a)) ≡ 0 = omega (arith, size, parts, same) in
+    let same = uses-many text n (tokens_in_field a) in
+    let nothing : length (tokens_with text (tokens_in_field a)) ≡ 0 = omega (arith, size, parts, same) in
     let later : rest ≡ [] = length-nil rest (omega (arith, size, parts)) in
-    ap (λ b. cond b [] (entry_with omit a.doc (tokens_with text (tokens_in a)) ∷ []) ++ entries_of omit text column) (empty-none (tokens_with text (tokens_in a)) nothing) ∙ no-entries text omit (suc n) column later
+    ap (λ b. cond b [] (entry_with omit a.doc (tokens_with text (tokens_in_field a)) ∷ []) ++ entries_of_text omit text column) (empty-none (tokens_with text (tokens_in_field a)) nothing) ∙ no-entries text omit (suc n) column later
 
 -- where nothing is left all entries were added
 pub partly-end : (column : List Appearance) (text : List ℕ) (omit : Bool) (rest : List Use) (old s : PostingState) → IsPartly column text omit rest old s → rest ≡ [] → (i : PostingIntervals) (limit : ℕ) (ts : List KeptTerm) (om payloads : Bool)
-    → IsTermBegun i limit ts om payloads [] old → IsTermBegun i limit ts om payloads (entries_of omit text column) s
+    → IsTermBegun i limit ts om payloads [] old → IsTermBegun i limit ts om payloads (entries_of_text omit text column) s
 partly-end column text omit rest old s p none i limit ts om payloads b =
-    let all : p.entries ≡ entries_of omit text column = sym (append-nil p.entries) ∙ ap (λ w. p.entries ++ w) (sym (no-entries text omit p.passed (drop p.passed column) (sym p.uses ∙ none))) ∙ p.all in
+    let all : p.entries ≡ entries_of_text omit text column = sym (append-nil p.entries) ∙ ap (λ w. p.entries ++ w) (sym (no-entries text omit p.passed (drop p.passed column) (sym p.uses ∙ none))) ∙ p.all in
     subst (λ es. IsTermBegun i limit ts om payloads es s) all (p.begun i limit ts om payloads b)
 
 -- positions of the entries so far that pass the limit
 pub partly-past : (column : List Appearance) (text : List ℕ) (omit : Bool) (rest : List Use) (old s new : PostingState) (first : Use) (d : Appearance) (fault : WriteFault) (p : IsPartly column text omit rest old s) → IsNext column text omit p.passed rest first d
     → ((i : PostingIntervals) (limit : ℕ) (ts : List KeptTerm) (om payloads : Bool) (es : List IndexedEntry) → IsTermBegun i limit ts om payloads es s → AddsEntries i limit ts om payloads (es ++ next_entry column omit rest first d ∷ []) new (Err fault))
-    → (i : PostingIntervals) (limit : ℕ) (ts : List KeptTerm) (om payloads : Bool) → IsTermBegun i limit ts om payloads [] old → AddsEntries i limit ts om payloads (entries_of omit text column) new (Err fault)
+    → (i : PostingIntervals) (limit : ℕ) (ts : List KeptTerm) (om payloads : Bool) → IsTermBegun i limit ts om payloads [] old → AddsEntries i limit ts om payloads (entries_of_text omit text column) new (Err fault)
 partly-past column text omit rest old s new first d fault p x says i limit ts om payloads b =
     more-entries fault (says i limit ts om payloads p.entries (p.begun i limit ts om payloads b))
   where
-    more-entries : (f : WriteFault) → AddsEntries i limit ts om payloads (p.entries ++ next_entry column omit rest first d ∷ []) new (Err f) → AddsEntries i limit ts om payloads (entries_of omit text column) new (Err f)
+    more-entries : (f : WriteFault) → AddsEntries i limit ts om payloads (p.entries ++ next_entry column omit rest first d ∷ []) new (Err f) → AddsEntries i limit ts om payloads (entries_of_text omit text column) new (Err f)
     more-entries (Doc number f) never = never
     more-entries (TooLarge kind) (is, long) =
         let front = p.entries ++ next_entry column omit rest first d ∷ [] in
-        let back = entries_of omit text (drop (suc first.entry) column) in
+        let back = entries_of_text omit text (drop (suc first.entry) column) in
         let all = ap (λ es. length (prx_bytes payloads es)) (sym (next-all column text omit p.passed p.entries rest first d x p.all)) ∙ ap length (prx_bytes-append payloads front back) ∙ length-append (prx_bytes payloads front) (prx_bytes payloads back) in
         let a = length-append (parts_of i ts).prx (prx_bytes payloads front) in
-        let b = length-append (parts_of i ts).prx (prx_bytes payloads (entries_of omit text column)) in
+        let b = length-append (parts_of i ts).prx (prx_bytes payloads (entries_of_text omit text column)) in
         (is, omega (arith, long, all, a, b))
     more-entries OutOfMemory none = tt
 
@@ -190,12 +190,12 @@ pub next-at : (column : List Appearance) (text : List ℕ) (omit : Bool) (rest :
 next-at column text omit rest old s d p some = is-next column text omit p.passed rest (get_or rest 0 no_use) (drop (0 + 1) rest) d p.uses (drop_more rest 0 no_use (omega (arith, some)))
 
 pub run-at : (column : List Appearance) (text : List ℕ) (omit : Bool) (passed : ℕ) (rest front : List Use) (first : Use) (a : Appearance) → IsColumn column → IsNext column text omit passed rest first a → a ≡ get_or column first.entry a
-    → front ≡ take (run_length first.entry rest) rest → IsRun (tokens_in a) front × (0 < length front) × (length front < 2 ^ 31)
+    → front ≡ take (run_length first.entry rest) rest → IsRun (tokens_in_field a) front × (0 < length front) × (length front < 2 ^ 31)
 run-at column text omit passed rest front first a valid x is taken =
-    subst (λ w. IsRun (tokens_in a) w × (0 < length w) × (length w < 2 ^ 31)) (sym taken)
-    (subst (λ (b : Appearance). IsRun (tokens_in b) (take (run_length first.entry rest) rest) × (0 < length (take (run_length first.entry rest) rest)) × (length (take (run_length first.entry rest) rest) < 2 ^ 31)) (sym is) (run-next column text omit passed rest first a valid x))
+    subst (λ w. IsRun (tokens_in_field a) w × (0 < length w) × (length w < 2 ^ 31)) (sym taken)
+    (subst (λ (b : Appearance). IsRun (tokens_in_field b) (take (run_length first.entry rest) rest) × (0 < length (take (run_length first.entry rest) rest)) × (length (take (run_length first.entry rest) rest) < 2 ^ 31)) (sym is) (run-next column text omit passed rest first a valid x))
 
 pub entry-at : (column : List Appearance) (omit : Bool) (rest front : List Use) (first : Use) (a : Appearance) → a ≡ get_or column first.entry a → front ≡ take (run_length first.entry rest) rest
-    → entry_with omit a.doc (tokens_at (tokens_in a) front) ≡ next_entry column omit rest first a
+    → entry_with omit a.doc (tokens_at (tokens_in_field a) front) ≡ next_entry column omit rest first a
 entry-at column omit rest front first a is taken =
-    ap (λ w. entry_with omit a.doc (tokens_at (tokens_in a) w)) taken ∙ ap (λ (b : Appearance). entry_with omit b.doc (tokens_at (tokens_in b) (take (run_length first.entry rest) rest))) is
+    ap (λ w. entry_with omit a.doc (tokens_at (tokens_in_field a) w)) taken ∙ ap (λ (b : Appearance). entry_with omit b.doc (tokens_at (tokens_in_field b) (take (run_length first.entry rest) rest))) is

@@ -9,7 +9,7 @@ use Rattle.lu_types.specs.declared.document.IndexedField.{IndexedField}
 use Rattle.lu_model.proofs.Words.{IsIn}
 use Rattle.lu_model.proofs.Tables.{find_in}
 use Rattle.seg_writer.specs.declared.columns.Appearance.{Appearance}
-use Rattle.seg_writer.specs.Appearing.{Appeared, appeared, appeared_in, column_from, is_named}
+use Rattle.seg_writer.specs.Appearing.{Appeared, appeared, appeared_in, column_from, is_field_named}
 use Rattle.seg_writer.specs.Entries.{IsColumn, IsWritableField, AreWritableDocuments}
 
 -- from a document on these rise, are below a bound, and their fields can be written
@@ -27,17 +27,17 @@ field-in [] field all h = absurd h
 field-in (f ∷ fields) field all (inl same) = subst IsWritableField (sym same) all.0
 field-in (f ∷ fields) field all (inr h) = field-in fields field all.1 h
 
-rises-doc : (name : List ℕ) (n bound : ℕ) (doc : Document) (rest : List Appeared) (found : Option IndexedField) → find (is_named name) doc.indexed ≡ found → n < bound → AllByRecursion IsWritableField doc.indexed → RisesFrom (suc n) bound rest
+rises-doc : (name : List ℕ) (n bound : ℕ) (doc : Document) (rest : List Appeared) (found : Option IndexedField) → find (is_field_named name) doc.indexed ≡ found → n < bound → AllByRecursion IsWritableField doc.indexed → RisesFrom (suc n) bound rest
     → RisesFrom n bound (option_to_list (option_map (appeared_in n) found) ++ rest)
 unfolding RisesFrom
 rises-doc name n bound doc rest None is lt all more = rises-lower (suc n) n bound rest (omega arith) more
-rises-doc name n bound doc rest (Some f) is lt all more = (omega arith, lt, field-in doc.indexed f all (find_in (is_named name) f doc.indexed is).0, more)
+rises-doc name n bound doc rest (Some f) is lt all more = (omega arith, lt, field-in doc.indexed f all (find_in (is_field_named name) f doc.indexed is).0, more)
 
 rises-column : (name : List ℕ) (n bound : ℕ) (docs : List Document) → n + length docs ≤ bound → AreWritableDocuments docs → RisesFrom n bound (column_from name n docs)
 unfolding RisesFrom
 rises-column name n bound [] le all = tt
 rises-column name n bound (doc ∷ docs) le all =
-    rises-doc name n bound doc (column_from name (suc n) docs) (find (is_named name) doc.indexed) refl (omega (arith, le)) (all 0 doc (omega arith))
+    rises-doc name n bound doc (column_from name (suc n) docs) (find (is_field_named name) doc.indexed) refl (omega (arith, le)) (all 0 doc (omega arith))
     (rises-column name (suc n) bound docs (omega (arith, le)) (λ k d lt. all (suc k) d (omega (arith, lt))))
 
 few-rise : (n bound : ℕ) (xs : List Appeared) → n ≤ bound → RisesFrom n bound xs → n + length xs ≤ bound

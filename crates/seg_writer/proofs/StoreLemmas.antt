@@ -23,7 +23,7 @@ use Rattle.posting_files.specs.States.{named}
 use Rattle.seg_writer.specs.declared.fault.WriteFault.{WriteFault}
 use Rattle.seg_writer.specs.declared.fault.WriteFault.TheVariants.{Doc, TooLarge, OutOfMemory}
 use Rattle.seg_writer.specs.Answers.{Wrote}
-use Rattle.seg_writer.specs.Stores.{WritesValues, given_store, store_files, stores_of}
+use Rattle.seg_writer.specs.Stores.{WritesValues, given_store, store_files_due, stores_of}
 use Rattle.seg_writer.proofs.FnmLemmas.{spread}
 
 -- an open document of so many values, of which it has these
@@ -101,7 +101,7 @@ long-value table values i value lt is long =
     omega (arith, long, some, same, all, parts)
 
 -- a document of too many bytes makes the file of documents too long
-pub long-document : (limit : ℕ) (table : List TableField) (docs : List Document) (i : ℕ) (doc : Document) → limit < 2 ^ 31 → i < length docs → doc ≡ get_or docs i doc → 2 ^ 31 ≤ length (document_bytes (stored_in table doc.stored)) → first_past limit (store_files (stores_of table docs)) ≡ Some Fdt
+pub long-document : (limit : ℕ) (table : List TableField) (docs : List Document) (i : ℕ) (doc : Document) → limit < 2 ^ 31 → i < length docs → doc ≡ get_or docs i doc → 2 ^ 31 ≤ length (document_bytes (stored_in table doc.stored)) → first_past limit (store_files_due (stores_of table docs)) ≡ Some Fdt
 long-document limit table docs i doc small lt is long =
     let stores = stores_of table docs in
     let size = length-map docs (λ (d : Document). stored_in table d.stored) in
@@ -118,7 +118,7 @@ stores-more table docs i doc lt is =
 
 -- what a document that was not written tells of all
 pub store-fault : (limit : ℕ) (table : List TableField) (docs : List Document) (i : ℕ) (doc : Document) (fault : WriteFault) (finished : List (List StoredField)) (held : HeldDocuments) → limit < 2 ^ 31 → i < length docs → doc ≡ get_or docs i doc
-    → WritesValues finished (stored_in table doc.stored) held (Err fault) → Wrote given_store limit (store_files (stores_of table docs)) (Err fault)
+    → WritesValues finished (stored_in table doc.stored) held (Err fault) → Wrote given_store limit (store_files_due (stores_of table docs)) (Err fault)
 store-fault limit table docs i doc (Doc number fault) finished held small lt is never = never
 store-fault limit table docs i doc (TooLarge kind) finished held small lt is long = long-document limit table docs i doc small lt is long.1 ∙ ap Some (sym long.0)
 store-fault limit table docs i doc OutOfMemory finished held small lt is none = tt

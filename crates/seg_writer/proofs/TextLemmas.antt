@@ -12,7 +12,7 @@ use Rattle.lu_model.proofs.Among.{in_left, in_right, in_either, in-from_contains
 use Rattle.lu_model.proofs.Ordered.{only_in_order}
 use Rattle.seg_writer.specs.declared.columns.Appearance.{Appearance}
 use Rattle.seg_writer.specs.declared.inverted.Inverted.{Inverted}
-use Rattle.seg_writer.specs.Columns.{use_of, tokens_in, uses_among, uses_from, uses_of}
+use Rattle.seg_writer.specs.Columns.{use_of, tokens_in_field, uses_among, uses_from, uses_of}
 use Rattle.seg_writer.specs.Texts.{AreInverted, column_texts, texts_in, texts_of}
 
 used-token : (text : List ℕ) (entry n : ℕ) (ts : List Token) → 0 < length (uses_among text entry n ts) → IsIn text (map (λ (t : Token). t.text) ts)
@@ -33,22 +33,22 @@ token-used text entry n (t ∷ ts) (inr h) =
     let size = length-append (if bytes_eq text t.text then use_of entry n ∷ [] else []) (uses_among text entry (suc n) ts) in
     omega (arith, rest, size)
 
-used-by : (text : List ℕ) (n : ℕ) (a : Appearance) (column : List Appearance) (k : ℕ) → length (uses_among text n 0 (tokens_in a)) ≡ k → (0 < length (uses_from text (suc n) column) → IsIn text (column_texts column)) → 0 < length (uses_from text n (a ∷ column)) → IsIn text (column_texts (a ∷ column))
+used-by : (text : List ℕ) (n : ℕ) (a : Appearance) (column : List Appearance) (k : ℕ) → length (uses_among text n 0 (tokens_in_field a)) ≡ k → (0 < length (uses_from text (suc n) column) → IsIn text (column_texts column)) → 0 < length (uses_from text n (a ∷ column)) → IsIn text (column_texts (a ∷ column))
 used-by text n a column zero none later some =
-    let size = length-append (uses_among text n 0 (tokens_in a)) (uses_from text (suc n) column) in
-    in_right text (map (λ (t : Token). t.text) (tokens_in a)) (column_texts column) (later (omega (arith, size, none, some)))
-used-by text n a column (suc k) many later some = in_left text (map (λ (t : Token). t.text) (tokens_in a)) (column_texts column) (used-token text n 0 (tokens_in a) (omega (arith, many)))
+    let size = length-append (uses_among text n 0 (tokens_in_field a)) (uses_from text (suc n) column) in
+    in_right text (map (λ (t : Token). t.text) (tokens_in_field a)) (column_texts column) (later (omega (arith, size, none, some)))
+used-by text n a column (suc k) many later some = in_left text (map (λ (t : Token). t.text) (tokens_in_field a)) (column_texts column) (used-token text n 0 (tokens_in_field a) (omega (arith, many)))
 
 pub used-in : (text : List ℕ) (n : ℕ) (column : List Appearance) → 0 < length (uses_from text n column) → IsIn text (column_texts column)
 used-in text n [] some = absurd (omega (arith, some))
-used-in text n (a ∷ column) some = used-by text n a column (length (uses_among text n 0 (tokens_in a))) refl (used-in text (suc n) column) some
+used-in text n (a ∷ column) some = used-by text n a column (length (uses_among text n 0 (tokens_in_field a))) refl (used-in text (suc n) column) some
 
 pub in-used : (text : List ℕ) (n : ℕ) (column : List Appearance) → IsIn text (column_texts column) → 0 < length (uses_from text n column)
 in-used text n [] h = absurd h
 in-used text n (a ∷ column) h =
-    let size = length-append (uses_among text n 0 (tokens_in a)) (uses_from text (suc n) column) in
-    elim (in_either text (map (λ (t : Token). t.text) (tokens_in a)) (column_texts column) h) [
-      | inl here ↦ (let own = token-used text n 0 (tokens_in a) here in omega (arith, own, size))
+    let size = length-append (uses_among text n 0 (tokens_in_field a)) (uses_from text (suc n) column) in
+    elim (in_either text (map (λ (t : Token). t.text) (tokens_in_field a)) (column_texts column) h) [
+      | inl here ↦ (let own = token-used text n 0 (tokens_in_field a) here in omega (arith, own, size))
       | inr there ↦ (let rest = in-used text (suc n) column there in omega (arith, rest, size))
     ]
 
@@ -82,14 +82,14 @@ token-short text before [] sound h = absurd h
 token-short text before (t ∷ ts) (first, own, rest) (inl is) = subst (λ w. length w ≤ most_bytes) (sym is) own.text
 token-short text before (t ∷ ts) (first, own, rest) (inr h) = token-short text t.position ts rest h
 
-column-short : (text : List ℕ) (column : List Appearance) → All (λ a. AreSoundTokens 0 (tokens_in a)) column → IsIn text (column_texts column) → length text ≤ most_bytes
+column-short : (text : List ℕ) (column : List Appearance) → All (λ a. AreSoundTokens 0 (tokens_in_field a)) column → IsIn text (column_texts column) → length text ≤ most_bytes
 column-short text [] sound h = absurd h
-column-short text (a ∷ column) sound h = elim (in_either text (map (λ (t : Token). t.text) (tokens_in a)) (column_texts column) h) [
-  | inl here ↦ token-short text 0 (tokens_in a) (sound 0 a (omega arith)) here
+column-short text (a ∷ column) sound h = elim (in_either text (map (λ (t : Token). t.text) (tokens_in_field a)) (column_texts column) h) [
+  | inl here ↦ token-short text 0 (tokens_in_field a) (sound 0 a (omega arith)) here
   | inr there ↦ column-short text column (λ k d lt. sound (suc k) d (omega (arith, lt))) there
 ]
 
-pub texts-short : (column : List Appearance) (terms : List Inverted) → AreInverted column terms → All (λ a. AreSoundTokens 0 (tokens_in a)) column → All (λ (t : Inverted). length t.text.now < 2 ^ 31) terms
+pub texts-short : (column : List Appearance) (terms : List Inverted) → AreInverted column terms → All (λ a. AreSoundTokens 0 (tokens_in_field a)) column → All (λ (t : Inverted). length t.text.now < 2 ^ 31) terms
 texts-short column terms h sound k d lt =
     let own = h.uses k d lt in
     let text = (get_or terms k d).text.now in

@@ -42,8 +42,8 @@ written_segment docs options = let index = index_of_documents docs in
     segment_due (first_faulty options.limits 0 docs) (files_due (too_large_file options index) (canonical_files options index))
 
 -- a call answers what it is to answer, or that there was no memory
-abbrev pub Answers : Result SegmentFiles WriteFault → Result SegmentFiles WriteFault → Type 0
-Answers due answer = (answer ≡ due) ⊎ (answer ≡ Err OutOfMemory)
+abbrev pub AnswersSegment : Result SegmentFiles WriteFault → Result SegmentFiles WriteFault → Type 0
+AnswersSegment due answer = (answer ≡ due) ⊎ (answer ≡ Err OutOfMemory)
 
 -- ---- steps
 

@@ -25,12 +25,12 @@ abbrev pub appeared_in : ℕ → IndexedField → Appeared
 appeared_in document field = record { document = document; field = field }
 
 -- whether the field has the name
-abbrev pub is_named : List ℕ → IndexedField → Bool
-is_named name field = bytes_eq name field.field
+abbrev pub is_field_named : List ℕ → IndexedField → Bool
+is_field_named name field = bytes_eq name field.field
 
 -- where a name appears among the fields of the document with a number
 abbrev pub found_in : List ℕ → ℕ → List IndexedField → List Appeared
-found_in name document fields = option_to_list (option_map (appeared_in document) (find (is_named name) fields))
+found_in name document fields = option_to_list (option_map (appeared_in document) (find (is_field_named name) fields))
 
 -- where it appears in documents that are numbered from here on
 abbrev pub column_from : List ℕ → ℕ → List Document → List Appeared
@@ -38,12 +38,12 @@ column_from name number [] = []
 column_from name number (doc ∷ docs) = found_in name number doc.indexed ++ column_from name (suc number) docs
 
 -- the names of fields
-abbrev pub names_of : List IndexedField → List (List ℕ)
-names_of fields = map (λ field. field.field) fields
+abbrev pub indexed_names : List IndexedField → List (List ℕ)
+indexed_names fields = map (λ field. field.field) fields
 
 -- no two of the indexed fields of a document have one name
 abbrev pub HasApartFields : Document → Type 0
-HasApartFields doc = AreApart (names_of doc.indexed)
+HasApartFields doc = AreApart (indexed_names doc.indexed)
 
 -- each field of the table is the first with its name
 abbrev pub AreFirst : List TableField → Type 0
@@ -55,8 +55,8 @@ HaveMore more old new = (length new ≡ length old)
     × ((n : ℕ) (d : Vec Appearance Global) → n < length old → map appeared (slice_index_or new n d).items ≡ map appeared (slice_index_or old n d).items ++ more n)
 
 -- these are the columns of the fields of a table in documents
-abbrev pub AreColumns : List TableField → List Document → List (Vec Appearance Global) → Type 0
-AreColumns table docs columns = (length columns ≡ length table)
+abbrev pub AreFieldColumns : List TableField → List Document → List (Vec Appearance Global) → Type 0
+AreFieldColumns table docs columns = (length columns ≡ length table)
     × ((n : ℕ) (d : Vec Appearance Global) → n < length table → map appeared (slice_index_or columns n d).items ≡ column_from (name_of table n) 0 docs)
 
 -- so many columns in which nothing appears

@@ -19,13 +19,13 @@ uses_among text entry n [] = []
 uses_among text entry n (t ∷ ts) = uses_here text entry n t ++ uses_among text entry (suc n) ts
 
 -- the tokens of a field of a column
-abbrev pub tokens_in : Appearance → List Token
-tokens_in here = here.field.now.tokens
+abbrev pub tokens_in_field : Appearance → List Token
+tokens_in_field here = here.field.now.tokens
 
 -- the uses of a text in fields that are numbered from here on
 abbrev pub uses_from : List ℕ → ℕ → List Appearance → List Use
 uses_from text entry [] = []
-uses_from text entry (a ∷ column) = uses_among text entry 0 (tokens_in a) ++ uses_from text (suc entry) column
+uses_from text entry (a ∷ column) = uses_among text entry 0 (tokens_in_field a) ++ uses_from text (suc entry) column
 
 -- the uses of a text in a column
 abbrev pub uses_of : List ℕ → List Appearance → List Use
@@ -34,4 +34,4 @@ uses_of text column = uses_from text 0 column
 -- a column whose fields and tokens can be numbered
 pub record IsNumberable (column : List Appearance) : Type 0 where
   pub fields : length column < 2 ^ 31
-  pub tokens : All (λ a. length (tokens_in a) < 2 ^ 31) column
+  pub tokens : All (λ a. length (tokens_in_field a) < 2 ^ 31) column

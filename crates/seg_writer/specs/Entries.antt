@@ -12,8 +12,8 @@ use Rattle.lu_model.specs.Index.{KeptOccurrences, given, omitted, IndexedEntry}
 use Rattle.lu_types.specs.Occurrences.{Occurrence}
 use Rattle.freq_skips.specs.Written.{last_doc}
 use Rattle.segment_files.specs.Postings.{PostingIntervals, KeptTerm, parts_of, prx_bytes}
-use Rattle.posting_files.specs.States.{PostingState, ArePostings, IsTermBegun, is_within}
-use Rattle.seg_writer.specs.Columns.{IsNumberable, tokens_in, uses_from}
+use Rattle.posting_files.specs.States.{PostingState, ArePostings, IsTermBegun, is_within_limit}
+use Rattle.seg_writer.specs.Columns.{IsNumberable, tokens_in_field, uses_from}
 use Rattle.seg_writer.specs.declared.columns.Appearance.{Appearance}
 use Rattle.seg_writer.specs.declared.inverted.Use.{Use}
 use Rattle.seg_writer.specs.declared.fault.WriteFault.{WriteFault}
@@ -22,16 +22,16 @@ use Rattle.seg_writer.specs.declared.fault.WriteFault.TheVariants.{Doc, TooLarge
 -- ---- occurrences
 
 -- the occurrence that a token is
-abbrev pub occurrence_of : Token → Occurrence
-occurrence_of token = record { position = token.position; payload = token.payload }
+abbrev pub occurrence_of_token : Token → Occurrence
+occurrence_of_token token = record { position = token.position; payload = token.payload }
 
 -- what a field that omits positions, or not, keeps of the occurrences of some tokens in a list
 abbrev pub listed_occurrences : Bool → List Token → List Occurrence
-listed_occurrences omit tokens = cond omit [] (map occurrence_of tokens)
+listed_occurrences omit tokens = cond omit [] (map occurrence_of_token tokens)
 
 -- what it keeps of them in an entry
 abbrev pub entry_occurrences : Bool → List Token → KeptOccurrences
-entry_occurrences omit tokens = cond omit omitted (given (map occurrence_of tokens))
+entry_occurrences omit tokens = cond omit omitted (given (map occurrence_of_token tokens))
 
 -- the entry of a document in which these tokens have the text
 abbrev pub entry_with : Bool → ℕ → List Token → IndexedEntry
@@ -42,9 +42,9 @@ abbrev pub entry_if_any : Bool → ℕ → List Token → List IndexedEntry
 entry_if_any omit document tokens = cond (is_empty tokens) [] (entry_with omit document tokens ∷ [])
 
 -- the entries of a text in a column
-abbrev pub entries_of : Bool → List ℕ → List Appearance → List IndexedEntry
-entries_of omit text [] = []
-entries_of omit text (a ∷ column) = entry_if_any omit a.doc (tokens_with text (tokens_in a)) ++ entries_of omit text column
+abbrev pub entries_of_text : Bool → List ℕ → List Appearance → List IndexedEntry
+entries_of_text omit text [] = []
+entries_of_text omit text (a ∷ column) = entry_if_any omit a.doc (tokens_with text (tokens_in_field a)) ++ entries_of_text omit text column
 
 -- ---- uses
 
@@ -71,7 +71,7 @@ pub record IsColumn (column : List Appearance) : Type 0 where
   pub numberable : IsNumberable column
   pub rise : (j k : ℕ) (d : Appearance) → j < k → k < length column → (slice_index_or column j d).doc < (slice_index_or column k d).doc
   pub small : All (λ a. a.doc < 2 ^ 31) column
-  pub sound : All (λ a. AreSoundTokens 0 (tokens_in a)) column
+  pub sound : All (λ a. AreSoundTokens 0 (tokens_in_field a)) column
 
 -- ---- what a step answers
 
@@ -93,7 +93,7 @@ AddsTerms intervals limit terms new (Err OutOfMemory) = Unit {0}
 
 -- the writer of `.frq`, while it is within the limit, may be handed this document
 abbrev pub MayFollow : ℕ → PostingState → Type 0
-MayFollow document s = is_within s.lists ≡ true → (s.lists.freq.entries ≡ []) ⊎ (last_doc 0 s.lists.freq.entries < document)
+MayFollow document s = is_within_limit s.lists ≡ true → (s.lists.freq.entries ≡ []) ⊎ (last_doc 0 s.lists.freq.entries < document)
 
 -- a term is begun in a writer of terms, without entries
 abbrev pub IsTermFresh : PostingState → Type 0
@@ -114,7 +114,7 @@ pub record IsPartly (column : List Appearance) (text : List ℕ) (omit : Bool) (
   pub entries : List IndexedEntry
   pub within : passed ≤ length column
   pub uses : rest ≡ uses_from text passed (drop passed column)
-  pub all : entries ++ entries_of omit text (drop passed column) ≡ entries_of omit text column
+  pub all : entries ++ entries_of_text omit text (drop passed column) ≡ entries_of_text omit text column
   pub below : (k : ℕ) (d : Appearance) → passed ≤ k → k < length column → (entries ≡ []) ⊎ (last_document 0 entries < (slice_index_or column k d).doc)
   pub begun : (intervals : PostingIntervals) (limit : ℕ) (terms : List KeptTerm) (omit_tf payloads : Bool) → IsTermBegun intervals limit terms omit_tf payloads [] old
       → IsTermBegun intervals limit terms omit_tf payloads entries new

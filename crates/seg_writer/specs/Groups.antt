@@ -13,5 +13,5 @@ abbrev pub uses_at : {Y : Type 0} → List ℕ → BTreeMap (Bor (List ℕ)) (Ve
 uses_at text groups = option_map_or (λ uses. uses.items) (get_by (λ key. slice_cmp nat_cmp text key.now) groups) []
 
 -- no text is there without a use
-abbrev pub AreUsed : {Y : Type 0} → BTreeMap (Bor (List ℕ)) (Vec Use Y) → Type 0
-AreUsed {Y} groups = (text : List ℕ) (uses : Vec Use Y) → get_by (λ key. slice_cmp nat_cmp text key.now) groups ≡ Some uses → 0 < length uses.items
+abbrev pub AreUsedTexts : {Y : Type 0} → BTreeMap (Bor (List ℕ)) (Vec Use Y) → Type 0
+AreUsedTexts {Y} groups = (text : List ℕ) (uses : Vec Use Y) → get_by (λ key. slice_cmp nat_cmp text key.now) groups ≡ Some uses → 0 < length uses.items

@@ -13,7 +13,7 @@ use Rattle.lu_types.specs.declared.document.Document.{Document}
 use Rattle.lu_types.specs.declared.document.IndexedField.{IndexedField}
 use Rattle.lu_model.specs.Contents.{has_norms, missing_norm}
 use Rattle.seg_writer.specs.declared.columns.Appearance.{Appearance}
-use Rattle.seg_writer.specs.Appearing.{AreColumns, appeared, column_from, is_named}
+use Rattle.seg_writer.specs.Appearing.{AreFieldColumns, appeared, column_from, is_field_named}
 
 -- the norm of a document in which this field was found, or none was
 abbrev pub found_norm : Option IndexedField → ℕ
@@ -21,7 +21,7 @@ found_norm found = unwrap_or (option_and_then (λ field. field.norm) found) miss
 
 -- the norms of the documents for the field with a name
 abbrev pub norms_of : List ℕ → List Document → List ℕ
-norms_of name docs = map (λ doc. found_norm (find (is_named name) doc.indexed)) docs
+norms_of name docs = map (λ doc. found_norm (find (is_field_named name) doc.indexed)) docs
 
 -- so many norms that are missing
 abbrev pub missing_norms : ℕ → List ℕ
@@ -51,8 +51,8 @@ abbrev pub norm_bytes : List Document → List TableField → List ℕ
 norm_bytes docs fields = flat_map (λ column. column) (norm_columns (field_norms docs fields))
 
 -- the file of norms of documents, where some field has norms
-abbrev pub norm_files : List Document → List TableField → List NamedFile
-norm_files docs fields = cond (have_norms fields) (named Nrm (nrm_spelling (norm_columns (field_norms docs fields))) ∷ []) []
+abbrev pub norm_file_due : List Document → List TableField → List NamedFile
+norm_file_due docs fields = cond (have_norms fields) (named Nrm (nrm_spelling (norm_columns (field_norms docs fields))) ∷ []) []
 
 -- the one that a call gave
 abbrev pub given_norms : Option (List ℕ) → List NamedFile
@@ -61,7 +61,7 @@ given_norms (Some nrm) = named Nrm nrm ∷ []
 
 -- the columns of the fields of a table in so many documents
 abbrev pub AreColumnsIn : List TableField → List (Vec Appearance Global) → ℕ → List Document → Type 0
-AreColumnsIn fields columns documents docs = AreColumns fields docs columns × (length docs ≡ documents)
+AreColumnsIn fields columns documents docs = AreFieldColumns fields docs columns × (length docs ≡ documents)
 
 -- the same, in some documents
 abbrev pub AreSomeColumns : List TableField → List (Vec Appearance Global) → ℕ → Type 0

@@ -9,7 +9,7 @@ use Rattle.seg_writer.specs.declared.columns.Appearance.{Appearance}
 use Rattle.seg_writer.specs.Appearing.{appeared, column_from}
 use Rattle.lu_types.specs.Tables.{TableField}
 use Rattle.segment_files.specs.Postings.{KeptTerm}
-use Rattle.seg_writer.specs.Terms.{kept_in, terms_in}
+use Rattle.seg_writer.specs.Terms.{kept_in, terms_in_columns}
 use Rattle.seg_writer.specs.Texts.{texts_of}
 
 -- the column of a field: the field's name, and where it appears
@@ -33,4 +33,4 @@ pub record AreAllColumns (docs : List Document) (columns : List NamedColumn) : T
 
 -- what is written of columns in turn, under a table
 abbrev pub written_terms : List TableField → List NamedColumn → List KeptTerm
-written_terms table columns = flat_map (λ c. terms_in (kept_in table c.name) c.column (texts_of c.column)) columns
+written_terms table columns = flat_map (λ c. terms_in_columns (kept_in table c.name) c.column (texts_of c.column)) columns

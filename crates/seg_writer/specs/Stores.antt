@@ -29,8 +29,8 @@ WritesValues finished values held (Err (TooLarge kind)) = (kind ≡ Fdt) × (2 ^
 WritesValues finished values held (Err OutOfMemory) = Unit {0}
 
 -- the files of documents, in the order in which they are written
-abbrev pub store_files : List (List StoredField) → List NamedFile
-store_files documents = named Fdt (fdt_bytes documents) ∷ named Fdx (fdx_bytes documents) ∷ []
+abbrev pub store_files_due : List (List StoredField) → List NamedFile
+store_files_due documents = named Fdt (fdt_bytes documents) ∷ named Fdx (fdx_bytes documents) ∷ []
 
 -- those that a call gave
 abbrev pub given_store : StoredFiles → List NamedFile

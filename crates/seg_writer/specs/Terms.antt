@@ -5,7 +5,7 @@ use Rattle.lu_types.specs.Bits.{has_bit}
 use Rattle.lu_types.specs.Tables.{TableField}
 use Rattle.lu_model.specs.Contents.{bits_of, field_number}
 use Rattle.segment_files.specs.Postings.{KeptTerm}
-use Rattle.seg_writer.specs.Entries.{entries_of}
+use Rattle.seg_writer.specs.Entries.{entries_of_text}
 use Rattle.seg_writer.specs.declared.columns.Appearance.{Appearance}
 use Rattle.seg_writer.specs.Texts.{texts_of}
 use Rattle.seg_writer.specs.declared.terms.Kept.{Kept}
@@ -16,7 +16,7 @@ abbrev pub term_in : Kept → List Appearance → List ℕ → KeptTerm
 term_in kept column text = record {
   omit = kept.omit_tf;
   payloads = kept.payloads;
-  term = record { field = kept.field; text = text; entries = entries_of kept.omit_tf text column };
+  term = record { field = kept.field; text = text; entries = entries_of_text kept.omit_tf text column };
 }
 
 -- what is kept of the terms of the field with a name
@@ -24,9 +24,9 @@ abbrev pub kept_in : List TableField → List ℕ → Kept
 kept_in table name = record { field = field_number name table; omit_tf = has_bit bit.omit_tf (bits_of name table); payloads = has_bit bit.payloads (bits_of name table) }
 
 -- those of texts
-abbrev pub terms_in : Kept → List Appearance → List (List ℕ) → List KeptTerm
-terms_in kept column texts = map (term_in kept column) texts
+abbrev pub terms_in_columns : Kept → List Appearance → List (List ℕ) → List KeptTerm
+terms_in_columns kept column texts = map (term_in kept column) texts
 
 -- those of a column with what is kept of them
 abbrev pub kept_column_terms : KeptColumn → List KeptTerm
-kept_column_terms c = terms_in c.kept c.column.now (texts_of c.column.now)
+kept_column_terms c = terms_in_columns c.kept c.column.now (texts_of c.column.now)

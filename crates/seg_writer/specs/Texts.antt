@@ -10,7 +10,7 @@ use Rattle.lu_model.specs.Index.{in_order}
 use Rattle.seg_writer.specs.declared.columns.Appearance.{Appearance}
 use Rattle.seg_writer.specs.declared.inverted.Use.{Use}
 use Rattle.seg_writer.specs.declared.inverted.Inverted.{Inverted}
-use Rattle.seg_writer.specs.Columns.{tokens_in, uses_of}
+use Rattle.seg_writer.specs.Columns.{tokens_in_field, uses_of}
 
 -- a text with its uses as an entry of a map
 abbrev pub group_of : Inverted → Bor (List ℕ) × Vec Use Global
@@ -29,7 +29,7 @@ pub record AreInverted (column : List Appearance) (terms : List Inverted) : Type
 
 -- the texts of the tokens of a column
 abbrev pub column_texts : List Appearance → List (List ℕ)
-column_texts column = flat_map (λ a. map (λ token. token.text) (tokens_in a)) column
+column_texts column = flat_map (λ a. map (λ token. token.text) (tokens_in_field a)) column
 
 -- each once, in their order
 abbrev pub texts_of : List Appearance → List (List ℕ)

@@ -2,7 +2,7 @@
 ghost use Rattle.std.specs.Prelude.{◌≡◌, ◌<◌, ◌^◌, [], length, All, IfOk, OnOk};
 ghost use Rattle.lu_types.specs.DocFaults.{AreApart};
 ghost use Rattle.lu_model.specs.Contents.{name_of};
-ghost use Rattle.seg_writer.specs.Appearing.{AreColumns, AreEmpty, AreFirst, HasApartFields, HaveMore, IsPushed, appeared_in, found_in, names_of};
+ghost use Rattle.seg_writer.specs.Appearing.{AreFieldColumns, AreEmpty, AreFirst, HasApartFields, HaveMore, IsPushed, appeared_in, found_in, indexed_names};
 
 use lu_prims::OutOfMemory;
 use lu_types::{Document, IndexedField, JoinedTable};
@@ -24,7 +24,7 @@ pub(crate) fn columns_of<'a>(
     requires few { length docs.now < 2 ^ 31 }
     requires first { AreFirst table.now }
     requires apart { All HasApartFields docs.now }
-    ensures { IfOk result (λ columns. AreColumns table.now docs.entry.now columns.items) }
+    ensures { IfOk result (λ columns. AreFieldColumns table.now docs.entry.now columns.items) }
 {
     let mut columns = empty_columns(alloc, table.count())?;
     for (number, doc) in docs.iter().enumerate() {
@@ -56,7 +56,7 @@ fn add_fields<'a>(
 ) -> Result<(), OutOfMemory>
     requires count { length columns.old.items ≡ length table.now }
     requires first { AreFirst table.now }
-    requires apart { AreApart (names_of fields.now) }
+    requires apart { AreApart (indexed_names fields.now) }
     ensures { OnOk result (HaveMore (λ n. found_in (name_of table.now n) doc fields.entry.now) columns.old.items columns.new.items) }
 {
     for field in fields {

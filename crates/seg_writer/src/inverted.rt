@@ -4,7 +4,7 @@ ghost use Rattle.std.specs.BTreeMap.{IsOrdered};
 ghost use Rattle.std.specs.Ordering.{nat_cmp};
 ghost use Rattle.std.specs.Cmp.Lexicographic.{slice_cmp};
 ghost use Rattle.lu_prims.specs.Order.{text_cmp};
-ghost use Rattle.seg_writer.specs.Groups.{uses_at, AreUsed};
+ghost use Rattle.seg_writer.specs.Groups.{uses_at, AreUsedTexts};
 ghost use Rattle.seg_writer.specs.Texts.{AreInverted, group_of};
 ghost use Rattle.seg_writer.specs.Columns.{IsNumberable, uses_among, uses_of};
 
@@ -51,7 +51,7 @@ fn add_tokens<'a>(
 ) -> Result<(), OutOfMemory>
     requires { length tokens.now < 2 ^ 32 }
     ensures uses { OnOk result ((q : List ℕ) → uses_at q groups.new ≡ uses_at q groups.old ++ uses_among q entry 0 tokens.now) }
-    ensures used { OnOk result (AreUsed groups.old → AreUsed groups.new) }
+    ensures used { OnOk result (AreUsedTexts groups.old → AreUsedTexts groups.new) }
 {
     for (number, token) in tokens.iter().enumerate() {
         groups.entry(token.text.as_str())?.or_default().push(Use {
@@ -69,7 +69,7 @@ fn grouped<'a>(
 ) -> Result<BTreeMap<&'a str, Vec<Use>>, OutOfMemory>
     requires { IsNumberable column.now }
     ensures uses { IfOk result (λ groups. (q : List ℕ) → uses_at q groups ≡ uses_of q column.now) }
-    ensures used { IfOk result (λ groups. AreUsed groups) }
+    ensures used { IfOk result (λ groups. AreUsedTexts groups) }
 {
     let mut groups: BTreeMap<&'a str, Vec<Use>> = BTreeMap::new(alloc);
     for (entry, here) in column.iter().enumerate() {

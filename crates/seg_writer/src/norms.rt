@@ -4,7 +4,7 @@ ghost use Rattle.check_index.specs.Norms.{count_with_norms};
 ghost use Rattle.lu_model.specs.Contents.{has_norms, missing_norm};
 ghost use Rattle.lu_types.specs.declared.document.Document.{Document};
 ghost use Rattle.seg_writer.specs.Answers.{Wrote};
-ghost use Rattle.seg_writer.specs.NormColumns.{AreColumnsIn, AreSomeColumns, IsColumnIn, IsSomeColumn, given_norms, missing_norms, norm_bytes, norm_files, norms_of};
+ghost use Rattle.seg_writer.specs.NormColumns.{AreColumnsIn, AreSomeColumns, IsColumnIn, IsSomeColumn, given_norms, missing_norms, norm_bytes, norm_file_due, norms_of};
 
 use crate::columns::Appearance;
 use crate::fault::WriteFault;
@@ -135,7 +135,7 @@ pub(crate) fn write_norms(
     requires few_fields { length fields.now < 2 ^ 31 }
     requires few { documents < 2 ^ 31 }
     requires columns { AreSomeColumns fields.now columns.now documents }
-    ensures { (docs : List Document) → AreColumnsIn fields.now columns.now documents docs → Wrote given_norms limit (norm_files docs fields.now) result }
+    ensures { (docs : List Document) → AreColumnsIn fields.now columns.now documents docs → Wrote given_norms limit (norm_file_due docs fields.now) result }
 {
     let count = norm_count(fields);
     if count == 0 {

@@ -5,7 +5,7 @@ ghost use Rattle.lu_types.specs.Tables.{number_of};
 ghost use Rattle.lu_model.specs.Contents.{field_number, stored_in};
 ghost use Rattle.stored_fields.specs.Writing.{with_stored};
 ghost use Rattle.seg_writer.specs.Answers.{Wrote};
-ghost use Rattle.seg_writer.specs.Stores.{AreInTable, WritesValues, given_store, store_files, stores_of};
+ghost use Rattle.seg_writer.specs.Stores.{AreInTable, WritesValues, given_store, store_files_due, stores_of};
 
 use crate::fault::WriteFault;
 use lu_prims::OutOfMemory;
@@ -89,7 +89,7 @@ pub(crate) fn write_stored(
     requires limit { limit < 2 ^ 31 }
     requires few { length table.now < 2 ^ 31 }
     requires there { All (λ doc. AreInTable table.now doc.stored) docs.now }
-    ensures { Wrote given_store limit (store_files (stores_of table.now docs.now)) result }
+    ensures { Wrote given_store limit (store_files_due (stores_of table.now docs.now)) result }
 {
     let mut writer = StoredWriter::new(alloc)?;
     for doc in docs {

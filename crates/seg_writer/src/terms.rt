@@ -5,7 +5,7 @@ ghost use Rattle.posting_files.specs.States.{ArePostings};
 ghost use Rattle.seg_writer.specs.Columns.{uses_of};
 ghost use Rattle.seg_writer.specs.Entries.{AddsTerms, IsBetweenTerms, IsColumn};
 ghost use Rattle.seg_writer.specs.Texts.{AreInverted, texts_in, texts_of};
-ghost use Rattle.seg_writer.specs.Terms.{kept_column_terms, term_in, terms_in};
+ghost use Rattle.seg_writer.specs.Terms.{kept_column_terms, term_in, terms_in_columns};
 
 use crate::columns::Appearance;
 use crate::fault::{WriteFault, fault_of};
@@ -66,7 +66,7 @@ fn write_inverted(
     requires texts { All (λ t. length t.text.now < 2 ^ 31) terms.now }
     requires between { IsBetweenTerms writer.old }
     ensures terms { (i : PostingIntervals) (limit : ℕ) (ts : List KeptTerm) → ArePostings i limit ts writer.old
-        → AddsTerms i limit (ts ++ terms_in kept column.now (texts_in terms.now)) writer.new result }
+        → AddsTerms i limit (ts ++ terms_in_columns kept column.now (texts_in terms.now)) writer.new result }
     ensures between { OnOk result (IsBetweenTerms writer.new) }
 {
     for term in terms {
@@ -89,7 +89,7 @@ pub(crate) fn write_column(
     requires field { kept.field < 2 ^ 31 }
     requires between { IsBetweenTerms writer.old }
     ensures terms { (i : PostingIntervals) (limit : ℕ) (ts : List KeptTerm) → ArePostings i limit ts writer.old
-        → AddsTerms i limit (ts ++ terms_in kept column.now (texts_of column.now)) writer.new result }
+        → AddsTerms i limit (ts ++ terms_in_columns kept column.now (texts_of column.now)) writer.new result }
     ensures between { OnOk result (IsBetweenTerms writer.new) }
 {
     let terms = match invert(alloc, column) {

@@ -4,7 +4,7 @@ ghost use Rattle.lu_model.specs.Index.{IndexedEntry, frequency};
 ghost use Rattle.segment_files.specs.Postings.{PostingIntervals, KeptTerm};
 ghost use Rattle.posting_files.specs.States.{IsTermBegun, IsEntryBegun};
 ghost use Rattle.seg_writer.specs.Columns.{uses_of};
-ghost use Rattle.seg_writer.specs.Entries.{AddsEntries, IsColumn, IsRun, IsTermFresh, MayFollow, entries_of, entry_occurrences, entry_with, listed_occurrences, run_length, tokens_at};
+ghost use Rattle.seg_writer.specs.Entries.{AddsEntries, IsColumn, IsRun, IsTermFresh, MayFollow, entries_of_text, entry_occurrences, entry_with, listed_occurrences, run_length, tokens_at};
 
 use crate::columns::Appearance;
 use crate::fault::{WriteFault, fault_of};
@@ -114,7 +114,7 @@ pub(crate) fn add_entries(
     requires uses { term.now.uses.items ≡ uses_of term.now.text.now column.now }
     requires begun { IsTermFresh writer.old }
     ensures { (i : PostingIntervals) (limit : ℕ) (ts : List KeptTerm) (omit payloads : Bool) → IsTermBegun i limit ts omit payloads [] writer.old
-        → AddsEntries i limit ts omit payloads (entries_of omit_tf term.now.text.now column.now) writer.new result }
+        → AddsEntries i limit ts omit payloads (entries_of_text omit_tf term.now.text.now column.now) writer.new result }
 {
     let mut rest = term.uses.as_slice();
     while let [first, ..] = rest {

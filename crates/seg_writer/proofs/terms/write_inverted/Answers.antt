@@ -1,7 +1,7 @@
 use Rattle.std.proofs.Common.{sym, subst, ◌++◌}
 use Rattle.std.proofs.lemmas.List.{append-nil, take_all}
 use Rattle.posting_files.specs.States.{ArePostings}
-use Rattle.seg_writer.specs.Terms.{terms_in}
+use Rattle.seg_writer.specs.Terms.{terms_in_columns}
 use Rattle.seg_writer.specs.Texts.{texts_in}
 use Rattle.seg_writer.proofs.PostedLemmas.{terms-next, terms-not-added}
 use Rattle.seg_writer.proofs.terms.write_inverted.Goals as goal
@@ -24,4 +24,4 @@ returns-in-Err-clause-terms c =
 
 pub returns-clause-terms : goal.returns-clause-terms
 returns-clause-terms c i limit ts h =
-    subst (λ xs. ArePostings i limit (ts ++ terms_in c.args.kept c.args.column.now (texts_in xs)) c.loop-term.writer) (take_all c.loop-term.term-index c.args.terms.now c.loop-term-test.false) (c.loop-term.invariant.written i limit ts h)
+    subst (λ xs. ArePostings i limit (ts ++ terms_in_columns c.args.kept c.args.column.now (texts_in xs)) c.loop-term.writer) (take_all c.loop-term.term-index c.args.terms.now c.loop-term-test.false) (c.loop-term.invariant.written i limit ts h)

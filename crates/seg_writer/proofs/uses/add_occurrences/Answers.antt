@@ -1,8 +1,8 @@
 use Rattle.std.proofs.Common.{◌≡◌, ap, sym, ◌∙◌, subst, ◌+◌, false, drop, get_or}
 use Rattle.std.proofs.lemmas.List.{get_or_default, take_all}
 use Rattle.lu_types.specs.DocFaults.{AreSoundTokens}
-use Rattle.posting_files.specs.States.{PostingState, IsEntryBegun, occurrence_added}
-use Rattle.seg_writer.specs.Entries.{no_token, occurrence_of, listed_occurrences, tokens_at}
+use Rattle.posting_files.specs.States.{PostingState, IsEntryBegun, occurrence_put}
+use Rattle.seg_writer.specs.Entries.{no_token, occurrence_of_token, listed_occurrences, tokens_at}
 use Rattle.seg_writer.proofs.OccurrenceLemmas.{tokens-left, occurrences-next}
 use Rattle.seg_writer.proofs.PartlyLemmas.{no_use}
 use Rattle.seg_writer.proofs.uses.add_occurrences.Goals as goal
@@ -16,7 +16,7 @@ loop-here-preserved c =
     let token = c.index-tokens-here.result in
     let at : here ≡ get_or run k here = get_or_default run k no_use here c.loop-here-test.true in
     let is : token ≡ get_or tokens here.token no_token = c.index-tokens-here.is ∙ get_or_default tokens here.token token no_token (c.requires.run.within k no_use c.loop-here-test.true) in
-    let adds : c.add_occurrence.new.self ≡ occurrence_added c.loop-here.writer (occurrence_of token) = c.in-Ok.ensures ∙ ap (λ w. occurrence_added c.loop-here.writer (record { position = token.position; payload = w })) c.as_slice.ensures in
+    let adds : c.add_occurrence.new.self ≡ occurrence_put c.loop-here.writer (occurrence_of_token token) = c.in-Ok.ensures ∙ ap (λ w. occurrence_put c.loop-here.writer (record { position = token.position; payload = w })) c.as_slice.ensures in
     let left = tokens-left tokens run k here token c.loop-here.writer.prox.position c.loop-here-test.true at is c.loop-here.invariant.sound in
     record {
       sound = subst (λ (s : PostingState). AreSoundTokens s.prox.position (tokens_at tokens (drop (k + 1) run))) (sym adds) left.2;

@@ -14,10 +14,10 @@ ghost use Rattle.lu_command.specs.Safety.{IsSafe};
 
 use crate::checking::check_outcome;
 use crate::command::Command;
+use crate::finishing::{finish, given_up};
 use crate::outcome::Outcome;
 use crate::reading::{docs_outcome, fields_outcome};
 use crate::status::{Status, Which};
-use crate::finishing::{finish, given_up};
 use crate::telling::tell;
 use crate::texts::USAGE;
 use lu_dir::{Dir, DirFail, Sink, Source};

@@ -71,7 +71,11 @@ fn faults_of_vectors_are_told(rt: HostRuntime) -> Result<(), Fail> {
             "fault _0.tvx 0 95 TvxFormat\n",
         ),
         ("_0.tvx", b"\x00\x00\x00\x04", "fault _0.tvx 4 1 Ends\n"),
-        ("_0.tvd", b"\x00\x00\x00\x04\x01\x00", "fault _0.tvd 5 100 VectorField\n"),
+        (
+            "_0.tvd",
+            b"\x00\x00\x00\x04\x01\x00",
+            "fault _0.tvd 5 100 VectorField\n",
+        ),
     ];
     for (name, bytes, text) in rows {
         let mut dir = folder(rt.alloc(), ONE)?;

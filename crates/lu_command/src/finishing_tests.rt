@@ -1,7 +1,7 @@
 use crate::check_tests::NONE;
 use crate::finishing::finish;
-use crate::words::dir_and_compound;
 use crate::tests::words_of;
+use crate::words::dir_and_compound;
 use crate::{Effect, Outcome, Status, Which};
 use lu_dir::{Fail as Failure, FaultDir, FaultSink, Left, MemDir, MemSink};
 use lu_folder::Change;

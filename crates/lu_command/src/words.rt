@@ -36,7 +36,11 @@ enum Few<'a> {
 fn is_asked_for(word: &str, options: bool) -> bool
     ensures { result ≡ is_asked_for options word.now }
 {
-    if options { is_option(word) } else { !is_option(word) }
+    if options {
+        is_option(word)
+    } else {
+        !is_option(word)
+    }
 }
 
 /// What was found of some words, and then of this one.
@@ -104,13 +108,7 @@ fn lone_argument<'a>(ahead: &'a [String], behind: &'a [String]) -> Option<&'a st
 {
     match found_among(ahead, false) {
         Few::Nothing => lone(behind),
-        Few::One(dir) => {
-            if behind.is_empty() {
-                Some(dir)
-            } else {
-                None
-            }
-        }
+        Few::One(dir) => { if behind.is_empty() { Some(dir) } else { None } }
         Few::More => None,
     }
 }

@@ -1,5 +1,5 @@
 -- Answers of calls that finish an outcome.
-use Rattle.std.proofs.Common.{◌≡◌, ◌≢◌, ◌⊎◌, ℕ, List, Option, Some, None, Result, Ok, OnOk, refl, sym, subst, ◌∙◌, ap, inl, inr}
+use Rattle.std.proofs.Common.{◌≡◌, ◌≢◌, ℕ, List, Option, Some, None, Result, Ok, OnOk, refl, sym, subst, ◌∙◌, ap, inl, inr}
 use Rattle.std.specs.Option.{option_map}
 use Rattle.lu_dir.specs.Files.{Files}
 use Rattle.lu_dir.specs.declared.fail.DirFail.{DirFail}

@@ -21,7 +21,6 @@ use Rattle.lu_command.proofs.AnswerLemmas.{IsAnswered-answers}
 use Rattle.lu_command.proofs.MeaningLemmas.{only_meaning}
 use Rattle.lu_command.proofs.FilesSayLemmas.{FieldsSay-one, DocsSay-one}
 use Rattle.lu_command.proofs.CheckLemmas.{CheckDue-one, CheckDue-idle}
-use Rattle.lu_command.specs.Checking.{CheckDue}
 use Rattle.lu_command.proofs.IdleLemmas.{IsIdle, idle-proper, idle-without_effect, FilesSay-idle}
 
 -- a file that may be loaded is not too long

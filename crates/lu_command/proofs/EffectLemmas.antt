@@ -1,12 +1,9 @@
 -- How a folder reads after an effect, and where it was stopped.
-use Rattle.std.proofs.Common.{◌≡◌, ◌⊎◌, refl, sym, subst, inl, inr}
+use Rattle.std.proofs.Common.{refl, sym, subst, inl, inr}
 use Rattle.lu_dir.specs.Files.{Files}
-use Rattle.segment_infos.specs.LuceneNames.{IsGenerationNumber}
-use Rattle.segment_infos.specs.Values.{IsCommit}
 use Rattle.segment_infos.proofs.WrittenCommits.{commit-reads}
 use Rattle.lu_folder.specs.ChangeValues.{ChangeValue}
 use Rattle.lu_folder.specs.Changes.{sealed, committed, IsMade, IsStopped}
-use Rattle.lu_folder.specs.Keeping.{IsFreshChange, AreKept, AddsOnly, IsOld, IsNew}
 use Rattle.lu_folder.proofs.SweepingLemmas.{RemovesOnly-none, RemovesOnly-all}
 use Rattle.lu_folder.proofs.UnmadeLemmas.{unmade-kept, unmade-adds, unmade-old}
 use Rattle.lu_folder.proofs.MadeLemmas.{sealed-kept, sealed-adds}

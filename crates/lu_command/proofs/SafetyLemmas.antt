@@ -1,5 +1,5 @@
 -- Whatever a call answers, the folder is safe.
-use Rattle.std.proofs.Common.{◌≡◌, ◌≢◌, ◌⊎◌, ℕ, List, Option, Some, refl, sym, subst, ap, ◌∙◌, inl, inr}
+use Rattle.std.proofs.Common.{◌≡◌, ◌≢◌, ℕ, List, Option, Some, refl, sym, subst, ap, ◌∙◌, inl, inr}
 use Rattle.lu_dir.specs.Files.{Files, Leaves}
 use Rattle.lu_command.specs.declared.status.Status.{Status}
 use Rattle.lu_command.specs.declared.status.Status.TheVariants as statuses

@@ -1,5 +1,5 @@
 -- A text that is printed in two pieces.
-use Rattle.std.proofs.Common.{◌≡◌, ◌≢◌, ℕ, inl, inr, refl, ◌+◌, ◌<◌, List, ◌++◌, length, take, Option, sym, ap, ◌∙◌, arith, length-append}
+use Rattle.std.proofs.Common.{◌≡◌, ℕ, inl, inr, refl, ◌+◌, ◌<◌, List, ◌++◌, length, take, Option, sym, ap, ◌∙◌, arith, length-append}
 use Rattle.std.proofs.Math.Seq.{take-append-add}
 use Rattle.std.proofs.lemmas.List.{take-append-le}
 use Rattle.lu_dir.specs.Streams.{with_taken}

@@ -1,11 +1,11 @@
-use Rattle.std.proofs.Common.{◌≡◌, Option, refl, sym, subst, ◌∙◌}
+use Rattle.std.proofs.Common.{◌≡◌, Option, sym, subst}
 use Rattle.lu_dir.specs.Faults.{Rose}
 use Rattle.lu_dir.proofs.Causes.{Rose-earlier}
 use Rattle.lu_dir.specs.Files.{Files}
-use Rattle.lu_command.specs.Answers.{Answers, nothing}
+use Rattle.lu_command.specs.Answers.{Answers}
 use Rattle.lu_command.specs.Meanings.{meaning_of}
 use Rattle.lu_command.specs.Due.{MeaningDue}
-use Rattle.lu_command.proofs.AnswerLemmas.{Answers-wider, IsGivenUp-failed}
+use Rattle.lu_command.proofs.AnswerLemmas.{Answers-wider}
 use Rattle.lu_command.proofs.DueLemmas.{MeaningDue-idle}
 use Rattle.lu_command.proofs.call.conclude.Goals as goal
 

@@ -1,4 +1,4 @@
-use Rattle.std.proofs.Common.{◌≡◌, ℕ, List, refl, sym, inl, subst}
+use Rattle.std.proofs.Common.{◌≡◌, ℕ, List, refl, inl, subst}
 use Rattle.std.proofs.Common.{inr}
 use Rattle.lu_dir.specs.Faults.{Rose}
 use Rattle.lu_dir.specs.Loading.{texts}

@@ -1,6 +1,5 @@
 -- The walk along the level above.
 use Rattle.std.proofs.Common.{◌≡◌, ◌≢◌, ℕ, suc, add-one, ◌+◌, ◌-◌, ◌/◌, ◌%◌, ◌^◌, ◌<◌, ◌≤◌, eqb, true, false, List, [], ◌∷◌, Option, Some, None, refl, sym, ap, subst, ◌∙◌, arith}
-use Rattle.std.specs.Option.{option_map}
 use Rattle.std.specs.Prelude.{slice_index_or}
 use Rattle.std.proofs.lemmas.Bool.{eq-eqb, ne_eqb}
 use Rattle.std.proofs.Math.Nat.{pow-suc, div-div-eq-div-mul, zero-div}
@@ -10,7 +9,7 @@ use Rattle.freq_skips.specs.declared.datum.Point.{Point}
 use Rattle.freq_skips.specs.declared.following.Following.{Following}
 use Rattle.freq_skips.specs.Entries.{Posting}
 use Rattle.freq_skips.specs.Levels.{no_point, level_of, child_above, data_count, Follows, AreData, IsNextDatum}
-use Rattle.freq_skips.specs.Walking.{FollowsPoints, FollowsAbove, AreSmallSumsAbove, StandAbove}
+use Rattle.freq_skips.specs.Walking.{FollowsPoints, FollowsAbove, IsStart, StartsAbove, StandPoints, StandAbove}
 use Rattle.freq_skips.proofs.LevelLemmas.{Follows-none}
 use Rattle.freq_skips.proofs.Powers.{quotient-next, quotient-same, quotient-below}
 
@@ -72,25 +71,27 @@ above-passes t postings level n points passed o f g is at two e lt takes h = go 
 
 -- before the first datum
 pub above-starts : (t : RuledTerm) (postings : List Posting) (level : ℕ) (points : List (List Point)) (frq : List ℕ) (o : Option ℕ) (r : Option Following)
-    → r ≡ option_map (λ place. record { cur = place_in frq place; count = 0; last = no_point }) o → StandAbove t postings level points frq o → FollowsAbove t postings level points 0 r
-above-starts t postings level points frq o r is h = subst (λ (x : Option Following). FollowsAbove t postings level points 0 x) (sym is) (go points o h)
+    → StartsAbove frq o r → StandAbove t postings level points frq o → FollowsAbove t postings level points 0 r
+above-starts t postings level points frq o r starts h = go points o r starts h
   where
-    go : (points : List (List Point)) (o : Option ℕ) → StandAbove t postings level points frq o → FollowsAbove t postings level points 0 (option_map (λ place. record { cur = place_in frq place; count = 0; last = no_point }) o)
-    go [] None h = tt
-    go [] (Some place) h = absurd h
-    go (ps ∷ rest) None h = absurd h
-    go (ps ∷ rest) (Some place) h = record {
-      stated = h.stated;
-      begin = place_in frq place;
-      end = h.end;
-      all = h.all;
-      follows = Follows-none t postings (level_of level h.stated rest) (place_in frq place);
-      number = sym (zero-div t.rules.skip_interval);
-    }
+    start : (level : ℕ) (ps : List Point) (rest : List (List Point)) (place : ℕ) (f : Following) → IsStart frq place f → StandPoints t postings level ps rest frq place → FollowsPoints t postings level ps rest 0 f
+    start level ps rest place f is h =
+        let l = level_of level h.stated rest in
+        record {
+          stated = h.stated;
+          begin = place_in frq place;
+          end = h.end;
+          all = h.all;
+          follows = subst (λ (d : Cursor). Follows t postings l (place_in frq place) f.count f.last d) (sym is.cur)
+              (subst (λ (p : Point). Follows t postings l (place_in frq place) f.count p (place_in frq place)) (sym is.last)
+              (subst (λ (n : ℕ). Follows t postings l (place_in frq place) n no_point (place_in frq place)) (sym is.count) (Follows-none t postings l (place_in frq place))));
+          number = is.count ∙ sym (zero-div t.rules.skip_interval);
+        }
 
-pub above-small : (o : Option ℕ) (frq : List ℕ) (r : Option Following) → r ≡ option_map (λ place. record { cur = place_in frq place; count = 0; last = no_point }) o → AreSmallSumsAbove 0 r
-above-small o frq r is = subst (λ (x : Option Following). AreSmallSumsAbove 0 x) (sym is) (go o)
-  where
-    go : (o : Option ℕ) → AreSmallSumsAbove 0 (option_map (λ place. record { cur = place_in frq place; count = 0; last = no_point }) o)
-    go None = tt
-    go (Some place) = (record { doc = omega arith; freq = omega arith; prox = omega arith }, omega arith)
+    go : (points : List (List Point)) (o : Option ℕ) (r : Option Following) → StartsAbove frq o r → StandAbove t postings level points frq o → FollowsAbove t postings level points 0 r
+    go [] None None starts h = tt
+    go [] None (Some f) starts h = absurd starts
+    go [] (Some place) r starts h = absurd h
+    go (ps ∷ rest) None r starts h = absurd h
+    go (ps ∷ rest) (Some place) None starts h = absurd starts
+    go (ps ∷ rest) (Some place) (Some f) starts h = start level ps rest place f starts h

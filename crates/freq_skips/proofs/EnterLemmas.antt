@@ -179,7 +179,7 @@ is-led t frq level begin k p s search passed = go passed.level_within s.above_is
 
 pub entered-led : (t : RuledTerm) (frq : List ℕ) (level begin k n : ℕ) (p : Point) (d : Cursor) (s : LevelStands t frq level begin) → CanSearch t frq → HasPassedData t frq (suc level) (suc k) p → (h : IsLed t frq level begin k s)
     → n ≡ (slice_index_or (points_in t frq level) (suc k * t.rules.skip_interval - 1) no_point).child → d ≡ h.led.next
-    → StandsOn t frq level (record { cur = d; count = suc k * t.rules.skip_interval; last = record { doc = p.doc; freq = p.freq; prox = p.prox; payload = p.payload; child = n; place = p.place } })
+    → StandsOn t frq level (suc k * t.rules.skip_interval) (record { doc = p.doc; freq = p.freq; prox = p.prox; payload = p.payload; child = n; place = p.place }) d
 entered-led t frq level begin k n p d s search passed h child at =
     let m = suc k * t.rules.skip_interval - 1 in
     let points = points_in t frq level in
@@ -201,7 +201,7 @@ entered-led t frq level begin k n p d s search passed h child at =
     }
 
 -- before the first datum
-pub entered-none : (t : RuledTerm) (frq : List ℕ) (level begin : ℕ) (s : LevelStands t frq level begin) → level < level_count t → StandsOn t frq level (record { cur = place_in frq begin; count = 0; last = no_point })
+pub entered-none : (t : RuledTerm) (frq : List ℕ) (level begin : ℕ) (s : LevelStands t frq level begin) → level < level_count t → StandsOn t frq level 0 no_point (place_in frq begin)
 entered-none t frq level begin s lt = record {
   begin = begin;
   level_within = lt;

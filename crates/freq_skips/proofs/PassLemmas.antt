@@ -6,7 +6,6 @@ use Rattle.lu_grammar.specs.Bytes.{Cursor, place_in}
 use Rattle.lu_grammar.specs.Records.{read_shape}
 use Rattle.freq_skips.specs.declared.rules.RuledTerm.{RuledTerm}
 use Rattle.freq_skips.specs.declared.datum.Point.{Point}
-use Rattle.freq_skips.specs.declared.following.Following.{Following}
 use Rattle.freq_skips.specs.Records.{Record, datum_shape, skip_of}
 use Rattle.freq_skips.specs.Entries.{postings_from}
 use Rattle.freq_skips.specs.Levels.{no_point, level_of, level_count, stride, data_count, skipped, point_of, AreSmallSums}
@@ -28,16 +27,17 @@ like-more t q p place r like = record {
 like-trans : (o p q : Point) → IsLike o p → p ≡ q → IsLike o q
 like-trans o p q like e = subst (λ (x : Point). IsLike o x) e like
 
-pub StandsOn-next : (t : RuledTerm) (frq : List ℕ) (level : ℕ) (f : Following) (r : Record) (p : Point) (next : Cursor) → StandsOn t frq level f → f.count < data_count t level → read_shape (datum_shape t level) f.cur ≡ Ok (r, next)
-    → point_of t f.last f.cur.place r ≡ p → StandsOn t frq level (record { cur = next; count = f.count + 1; last = p }) × (p.doc ≡ (slice_index_or (points_in t frq level) f.count no_point).doc)
-StandsOn-next t frq level f r p next h lt read is =
+pub StandsOn-next : (t : RuledTerm) (frq : List ℕ) (level count : ℕ) (last : Point) (here : Cursor) (r : Record) (p : Point) (next : Cursor) → StandsOn t frq level count last here → count < data_count t level
+    → read_shape (datum_shape t level) here ≡ Ok (r, next) → point_of t last here.place r ≡ p
+    → StandsOn t frq level (count + 1) p next × (p.doc ≡ (slice_index_or (points_in t frq level) count no_point).doc)
+StandsOn-next t frq level count last here r p next h lt read is =
     let ps = postings_from t (start_in t frq) in
     let l = level_of level h.stands.stated h.stands.above in
     let points = points_in t frq level in
-    let q = point_of t h.last f.cur.place r in
-    let passes = IsNextDatum-read t ps l (place_in frq h.begin) points h.stands.end f.count h.last f.cur r q next read refl refl h.stands.all h.follows lt in
-    let like : IsLike p q = subst (λ (x : Point). IsLike x q) is (like-more t f.last h.last f.cur.place r h.like) in
-    let point : IsLike p (slice_index_or points f.count no_point) = like-trans p q _ like (sym passes.point) in (
+    let q = point_of t h.last here.place r in
+    let passes = IsNextDatum-read t ps l (place_in frq h.begin) points h.stands.end count h.last here r q next read refl refl h.stands.all h.follows lt in
+    let like : IsLike p q = subst (λ (x : Point). IsLike x q) is (like-more t last h.last here.place r h.like) in
+    let point : IsLike p (slice_index_or points count no_point) = like-trans p q _ like (sym passes.point) in (
       record {
         begin = h.begin;
         level_within = h.level_within;
@@ -45,14 +45,14 @@ StandsOn-next t frq level f r p next h lt read is =
         last = q;
         follows = passes.follows;
         like = like;
-        passed = record { within = omega arith; level_within = inr h.level_within; like = subst (λ (n : ℕ). IsLike p (last_of points n)) (sym (add-one f.count)) point };
+        passed = record { within = omega arith; level_within = inr h.level_within; like = subst (λ (n : ℕ). IsLike p (last_of points n)) (sym (add-one count)) point };
       },
       point.doc,
     )
 
-pub StandsOn-unread : (t : RuledTerm) (frq : List ℕ) (level : ℕ) (f : Following) (bad : Bad) → StandsOn t frq level f → f.count < data_count t level → read_shape (datum_shape t level) f.cur ≡ Err bad → ⊥
-StandsOn-unread t frq level f bad h lt read =
-    never_unread t (postings_from t (start_in t frq)) (level_of level h.stands.stated h.stands.above) (place_in frq h.begin) (points_in t frq level) h.stands.end f.count h.last f.cur bad read h.stands.all h.follows lt
+pub StandsOn-unread : (t : RuledTerm) (frq : List ℕ) (level count : ℕ) (last : Point) (here : Cursor) (bad : Bad) → StandsOn t frq level count last here → count < data_count t level → read_shape (datum_shape t level) here ≡ Err bad → ⊥
+StandsOn-unread t frq level count last here bad h lt read =
+    never_unread t (postings_from t (start_in t frq)) (level_of level h.stands.stated h.stands.above) (place_in frq h.begin) (points_in t frq level) h.stands.end count h.last here bad read h.stands.all h.follows lt
 
 -- the sums of the data that are passed are small: they are those of an entry
 pub record SmallSums (t : RuledTerm) (frq : List ℕ) (last : Point) : Type 0 where

@@ -3,7 +3,6 @@ use Rattle.std.specs.Prelude.{◌≡◌, ◌⊎◌, ◌<◌, ◌≤◌, ◌+◌,
 use Rattle.lu_grammar.specs.Bytes.{IsBytes, Cursor, place_in}
 use Rattle.freq_skips.specs.declared.rules.RuledTerm.{RuledTerm}
 use Rattle.freq_skips.specs.declared.datum.Point.{Point}
-use Rattle.freq_skips.specs.declared.following.Following.{Following}
 use Rattle.freq_skips.specs.Entries.{postings_from}
 use Rattle.lu_grammar.specs.Plans.{read_plan}
 use Rattle.freq_skips.specs.Levels.{level_of, level_count, levels, data_count, no_point, Follows, AreData}
@@ -58,14 +57,14 @@ pub record HasPassedData (t : RuledTerm) (frq : List ℕ) (level count : ℕ) (l
   pub like : IsLike last (last_of (points_in t frq level) count)
 
 -- a walk along a level of the term stands behind the data that it has passed
-pub record StandsOn (t : RuledTerm) (frq : List ℕ) (level : ℕ) (f : Following) : Type 0 where
+pub record StandsOn (t : RuledTerm) (frq : List ℕ) (level count : ℕ) (leads : Point) (here : Cursor) : Type 0 where
   pub begin : ℕ
   pub level_within : level < level_count t
   pub stands : LevelStands t frq level begin
   pub last : Point
-  pub follows : Follows t (postings_from t (start_in t frq)) (level_of level stands.stated stands.above) (place_in frq begin) f.count last f.cur
-  pub like : IsLike f.last last
-  pub passed : HasPassedData t frq level f.count f.last
+  pub follows : Follows t (postings_from t (start_in t frq)) (level_of level stands.stated stands.above) (place_in frq begin) count last here
+  pub like : IsLike leads last
+  pub passed : HasPassedData t frq level count leads
 
 -- the data from these on, up to those, lead to documents below the target; and those are all that are searched, or the next does not
 pub record StopsAt (points : List Point) (target old new most : ℕ) : Type 0 where

@@ -6,7 +6,7 @@ use Rattle.freq_skips.specs.declared.rules.RuledTerm.{RuledTerm}
 use Rattle.freq_skips.specs.declared.datum.Point.{Point}
 use Rattle.freq_skips.specs.declared.following.Following.{Following}
 use Rattle.freq_skips.specs.Entries.{Posting}
-use Rattle.freq_skips.specs.Levels.{Along, level_of, level_plan, level_count, levels, Follows, AreData, AreSmallSums}
+use Rattle.freq_skips.specs.Levels.{Along, level_of, level_plan, level_count, levels, no_point, Follows, AreData}
 
 -- a walk along a level whose data are good has passed one for every so many data of the level below
 pub record FollowsPoints (t : RuledTerm) (postings : List Posting) (level : ℕ) (points : List Point) (rest : List (List Point)) (passed : ℕ) (f : Following) : Type 0 where
@@ -24,10 +24,18 @@ FollowsAbove t postings level [] passed (Some f) = ⊥
 FollowsAbove t postings level (points ∷ rest) passed None = ⊥
 FollowsAbove t postings level (points ∷ rest) passed (Some f) = FollowsPoints t postings level points rest passed f
 
--- its sums are small
-abbrev pub AreSmallSumsAbove : ℕ → Option Following → Type 0
-AreSmallSumsAbove passed None = Unit {0}
-AreSmallSumsAbove passed (Some f) = AreSmallSums f.count f.last × (f.count ≤ passed)
+-- a walk is before the first datum of a level, which is to stand here
+pub record IsStart (frq : List ℕ) (place : ℕ) (f : Following) : Type 0 where
+  pub cur : f.cur ≡ place_in frq place
+  pub count : f.count ≡ 0
+  pub last : f.last ≡ no_point
+
+-- the walk along the level above, where there is one, is before its first datum
+abbrev pub StartsAbove : List ℕ → Option ℕ → Option Following → Type 0
+StartsAbove frq None None = Unit {0}
+StartsAbove frq None (Some f) = ⊥
+StartsAbove frq (Some place) None = ⊥
+StartsAbove frq (Some place) (Some f) = IsStart frq place f
 
 -- the data of the level above start here and are good, where there is one
 pub record StandPoints (t : RuledTerm) (postings : List Posting) (level : ℕ) (points : List Point) (rest : List (List Point)) (frq : List ℕ) (place : ℕ) : Type 0 where

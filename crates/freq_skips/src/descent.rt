@@ -3,7 +3,7 @@ ghost use Rattle.std.specs.Prelude.{◌≡◌, ◌+◌, ◌-◌, ◌*◌, ◌/�
 ghost use Rattle.lu_grammar.specs.Bytes.{Cursor};
 ghost use Rattle.lu_grammar.specs.Parts.{vlong};
 ghost use Rattle.lu_grammar.specs.Reading.{read_part};
-ghost use Rattle.freq_skips.specs.Levels.{level_count, data_count, AreSmallSums};
+ghost use Rattle.freq_skips.specs.Levels.{level_count, data_count};
 ghost use Rattle.freq_skips.specs.Walks.{start_in, value_from, points_in};
 ghost use Rattle.lu_prims.specs.Steps.{ticked};
 ghost use Rattle.freq_skips.specs.Points.{is_highest, data_below, find_steps};
@@ -67,38 +67,36 @@ fn child_here(cur: &mut Cur<'_>, level: u32) -> u64
     }
 }
 
-/// A walk along a level whose data start at a place, behind the datum that the walk along the level above leads to.
-pub fn entered<'a>(
+/// Goes from a walk along the level above to one along a level whose data start at a place, behind the datum that it leads to.
+pub fn enter<'a>(
+    walk: &mut Following<'a>,
     frq: &'a [u8],
     term: &RuledTerm,
     level: u32,
     start: usize,
-    above: &Following<'_>,
-) -> Following<'a>
+)
     requires search { CanSearch term.now frq.now }
     requires level { level < level_count term.now }
     requires stands { LevelStands term.now frq.now level start }
-    requires above { HasPassedData term.now frq.now (suc level) above.now.count above.now.last }
-    ensures stands { StandsOn term.now frq.entry.now level result }
-    ensures count { result.count ≡ above.now.count * term.now.rules.skip_interval }
+    requires above { HasPassedData term.now frq.now (suc level) walk.old.count walk.old.last }
+    ensures stands { StandsOn term.now frq.entry.now level walk.new.count walk.new.last walk.new.cur }
+    ensures count { walk.new.count ≡ walk.old.count * term.now.rules.skip_interval }
 {
-    if above.count == 0 {
-        return Following {
+    if walk.count == 0 {
+        *walk = Following {
             cur: Cur::at(frq, start),
             count: 0,
             last: NO_POINT,
         };
+        return;
     }
-    let mut cur = Cur::at(frq, start.saturating_add(above.last.child as usize));
+    let mut cur = Cur::at(frq, start.saturating_add(walk.last.child as usize));
     let child = child_here(&mut cur, level);
-    Following {
+    *walk = Following {
         cur,
-        count: above.count * term.rules.skip_interval,
-        last: Point {
-            child,
-            ..above.last
-        },
-    }
+        count: walk.count * term.rules.skip_interval,
+        last: Point { child, ..walk.last },
+    };
 }
 
 /// What is sought along a level: the last of its first so many data that leads to a document below the target.
@@ -117,8 +115,8 @@ pub fn pass_below<L>(
     steps: &mut Steps<L>,
 )
     requires few { sought.now.most < 2 ^ 31 }
-    requires small { AreSmallSums walk.old.count walk.old.last }
-    ensures passes { (frq : List ℕ) → StandsOn term.now frq sought.now.level walk.old → walk.old.count ≤ sought.now.most → sought.now.most ≤ data_count term.now sought.now.level
+    ensures passes { (frq : List ℕ) → StandsOn term.now frq sought.now.level walk.old.count walk.old.last walk.old.cur
+        → walk.old.count ≤ sought.now.most → sought.now.most ≤ data_count term.now sought.now.level
         → HasPassedData term.now frq sought.now.level walk.new.count walk.new.last × StopsAt (points_in term.now frq sought.now.level) sought.now.target walk.old.count walk.new.count sought.now.most }
     ensures steps { steps.new ≡ ticked (min (suc walk.new.count) sought.now.most - walk.old.count) steps.old }
 {
@@ -188,7 +186,7 @@ pub fn descended<'a, L>(
         number -= 1;
         let highest = number + 1 == levels.count;
         let level = level_bounds(frq, place, term, number, highest);
-        walk = entered(frq, term, number, level.data, &walk);
+        enter(&mut walk, frq, term, number, level.data);
         let sought = Sought {
             level: number,
             most: most_data(term, stride, highest, walk.count),

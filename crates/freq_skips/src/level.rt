@@ -6,12 +6,12 @@ ghost use Rattle.lu_types.specs.declared.kind.FileKind.TheVariants.{Frq};
 ghost use Rattle.lu_types.specs.Judging.{IsBroken};
 ghost use Rattle.freq_skips.specs.declared.datum.Point.{Point};
 ghost use Rattle.freq_skips.specs.Entries.{Posting, postings_from, AreEntries, AreGoodFrom, IsBehindEntries};
-ghost use Rattle.std.specs.Option.{option_map};
-ghost use Rattle.freq_skips.specs.Levels.{no_point, greatest_power as greatest_power_of, level_count as count_of_levels, level_of, wanted as is_wanted, data_count, stride as stride_of, level_data, child_above as child_of, AreGoodData};
-ghost use Rattle.freq_skips.specs.Walking.{FollowsAbove, AreSmallSumsAbove, StandAbove};
+ghost use Rattle.freq_skips.specs.Levels.{greatest_power as greatest_power_of, level_count as count_of_levels, level_of, wanted as is_wanted, data_count, stride as stride_of, level_data, child_above as child_of, AreGoodData};
+ghost use Rattle.freq_skips.specs.Walking.{FollowsAbove, StartsAbove, StandAbove};
 
 use crate::datum::{LevelStart, Wanted};
 use crate::following::{Following, NO_POINT};
+use crate::level_check::LevelCheck;
 use crate::passing::{CheckedEntries, Passing};
 use crate::rules::RuledTerm;
 use lu_prims::Cur;
@@ -59,8 +59,6 @@ fn child_above(
 ) -> Option<u64>
     requires interval { 2 ≤ term.now.rules.skip_interval }
     requires few { passed < 2 ^ 31 }
-    requires small { AreSmallSumsAbove passed above.old }
-    ensures small { AreSmallSumsAbove (passed + 1) above.new }
     ensures goes_on { (postings : List Posting) (n : ℕ) (points : List (List Point)) → level ≡ suc n → FollowsAbove term.now postings level points passed above.old → passed < data_count term.now n
         → (result ≡ child_of term.now points (suc passed)) × FollowsAbove term.now postings level points (suc passed) above.new }
 {
@@ -134,8 +132,6 @@ fn wanted_next(
     requires within { passed < data_count term.now level.now.number }
     requires number { level.now.number + 1 < 2 ^ 32 }
     requires few { passed < 2 ^ 31 }
-    requires small { AreSmallSumsAbove passed above.old }
-    ensures small { AreSmallSumsAbove (passed + 1) above.new }
     ensures stands { (start end : Cursor) → AreEntries term.now start end → IsBehindEntries term.now start entries.old.index entries.old.doc entries.old.cur → entries.old.index ≤ passed * level.now.stride
         → IsBehindEntries term.now start entries.new.index entries.new.doc entries.new.cur × (entries.new.index ≤ suc passed * level.now.stride) }
     ensures goes_on { (start end : Cursor) (points : List (List Point))
@@ -166,7 +162,7 @@ pub fn quotient(entries: u32, stride: u64) -> u32
 /// Before the first datum of the level above, where there is one.
 fn following_above(frq: &[u8], above: Option<usize>) -> Option<Following<'_>>
     requires { IfSome above (λ place. place ≤ length frq.now) }
-    ensures { result ≡ option_map (λ place. record { cur = place_in frq.now place; count = 0; last = no_point }) above }
+    ensures { StartsAbove frq.now above result }
 {
     match above {
         None => None,
@@ -199,29 +195,32 @@ pub fn check_data(
         (λ end. AreGoodData entries.now.term (postings_from entries.now.term (place_in entries.now.frq.now entries.now.start)) (level_of level.now.number level.now.stated points) (place_in entries.now.frq.now at) (place_in entries.now.frq.now end) × (end ≤ length entries.now.frq.now))
         (λ spot. IsBroken Frq (read_plan (level_data entries.now.term (postings_from entries.now.term (place_in entries.now.frq.now entries.now.start)) (level_of level.now.number level.now.stated points)) (place_in entries.now.frq.now at)) spot) }
 {
-    let count = quotient(entries.term.info.doc_freq, level.stride);
     let mut passing = Passing {
         cur: Cur::at(entries.frq, entries.start),
         index: 0,
         doc: 0,
     };
     let mut above = following_above(entries.frq, above);
-    let mut data = Following {
-        cur: Cur::at(entries.frq, at),
-        count: 0,
-        last: NO_POINT,
+    let mut data = LevelCheck {
+        walk: Following {
+            cur: Cur::at(entries.frq, at),
+            count: 0,
+            last: NO_POINT,
+        },
+        start: LevelStart {
+            number: level.number,
+            place: at,
+        },
+        all: quotient(entries.term.info.doc_freq, level.stride),
     };
-    let start = LevelStart {
-        number: level.number,
-        place: at,
-    };
-    while data.count < count {
-        let wanted = wanted_next(&mut passing, &mut above, &entries.term, level, data.count);
-        let place = data.cur.place();
-        match data.check_next(&entries.term, &start, &wanted) {
+    while data.walk.count < data.all {
+        let passed = data.walk.count;
+        let wanted = wanted_next(&mut passing, &mut above, &entries.term, level, passed);
+        let place = data.walk.cur.place();
+        match data.check_next(&entries.term, &wanted) {
             Err(rule) => return Err(Spot::at(FileKind::Frq, place, rule)),
-            Ok(()) => {}
+            Ok(next) => data = next,
         }
     }
-    Ok(data.cur.place())
+    Ok(data.walk.cur.place())
 }

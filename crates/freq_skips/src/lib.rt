@@ -9,6 +9,7 @@ mod entry;
 mod following;
 mod laws;
 mod level;
+mod level_check;
 mod levels;
 mod passing;
 mod rules;

@@ -67,8 +67,8 @@ fn data_start(frq: &[u8], place: usize, term: &RuledTerm, number: u32, highest: 
 
 /// Where the data end of a level that start at a place, and are so many.
 fn data_end(frq: &[u8], start: usize, term: &RuledTerm, number: u32, count: u32) -> usize
+    requires interval { 2 ≤ term.now.rules.skip_interval }
     requires within { start ≤ length frq.now }
-    requires few { count < 2 ^ 31 }
     ensures { (postings : List Posting) (stated : Option ℕ) (above : List (List Point)) (points : List Point) (end : Cursor) → count ≡ data_count term.now number
         → AreData term.now postings (level_of number stated above) (place_in frq.now start) points end → (end ≡ place_in frq.now result) × (result ≤ length frq.now) }
 {

@@ -8,7 +8,6 @@ use Rattle.freq_skips.specs.Points.{is_highest, data_below, find_steps}
 use Rattle.freq_skips.specs.Finding.{LevelsLeft, HasPassedData}
 use Rattle.freq_skips.proofs.Powers.{stride-two}
 use Rattle.freq_skips.proofs.LevelsLemmas.{power-less}
-use Rattle.freq_skips.proofs.PassLemmas.{SmallSums-AreSmallSums}
 use Rattle.freq_skips.proofs.EnterLemmas.{led-within}
 use Rattle.freq_skips.proofs.FindLemmas.{below-none, LevelsLeft-first, most-within}
 use Rattle.freq_skips.proofs.SearchedLemmas.{level-searched, steps-left}
@@ -36,11 +35,6 @@ most_data-requires-clause-stride g c =
     let is : c.loop-number.number ≡ suc n = omega (arith, c.loop-number-test.true) in
     subst (λ (k : ℕ). 2 ≤ k) (sym (c.loop-number.invariant.stride ∙ ap (λ (k : ℕ). t.rules.skip_interval ^ k) is)) (stride-two t.rules.skip_interval n c.requires.search.good.interval)
 
-pub pass_below-requires-clause-small : goal.pass_below-requires-clause-small
-pass_below-requires-clause-small g c =
-    let w = c.entered-walk.result in
-    SmallSums-AreSmallSums c.args.term.now c.args.frq.now (c.loop-number.number - 1) w.count w.last c.requires.search c.entered-walk.ensures.stands.passed
-
 -- up to which datum the level is searched
 most-is : (t : RuledTerm) (n stride_now count old most : ℕ) → stride_now ≡ stride t n → count ≡ level_count t
     → most ≡ (if n + 1 == count then t.info.doc_freq / stride_now else min (t.info.doc_freq / stride_now) (old + (t.rules.skip_interval - 1)))
@@ -59,16 +53,16 @@ loop-number-preserved g c =
     let i = l.invariant in
     let n = l.number - 1 in
     let is : l.number ≡ suc n = omega (arith, c.loop-number-test.true) in
-    let w = c.entered-walk.result in
+    let w = c.enter.new.walk in
     let new = c.pass_below.new.walk in
     let above = subst (λ (k : ℕ). HasPassedData t frq k l.walk.count l.walk.last) is i.passed in
     let power : l.stride ≡ stride t n = i.stride ∙ ap (λ (k : ℕ). t.rules.skip_interval ^ k) is in
     let s = t.rules.skip_interval in
     let most = most-is t n l.stride c.args.levels.now.count w.count c.most_data.result power c.requires.count c.most_data.ensures.most in
-    let old : w.count ≡ l.walk.count * s = c.entered-walk.ensures.count in
+    let old : w.count ≡ l.walk.count * s = c.enter.ensures.count in
     let within : w.count ≤ data_count t n = subst (λ (k : ℕ). k ≤ data_count t n) (sym old) (led-within t n l.walk.count can.good.interval above.within) in
     let ends = most-within t n w.count c.most_data.result within most in
-    let passes = c.pass_below.ensures.passes frq c.entered-walk.ensures.stands ends.0 ends.1 in
+    let passes = c.pass_below.ensures.passes frq c.enter.ensures.stands ends.0 ends.1 in
     let below = i.below ∙ ap (λ (k : ℕ). data_below (value_from t (start_in t frq)) c.args.target k) is in
     let count = c.requires.count in
     let le = i.within in

@@ -10,7 +10,6 @@ use Rattle.freq_skips.proofs.descent.pass_below.Goals as goal
 
 pub loop-walk-init : goal.loop-walk-init
 loop-walk-init g c = record {
-  small = c.requires.small;
   grows = omega arith;
   within = inl refl;
   steps = ap (λ (n : ℕ). ticked n c.args.steps.now) (let e : 0 ≡ c.args.walk.now.count - c.args.walk.now.count = omega arith in e);
@@ -33,13 +32,12 @@ loop-walk-preserved g c =
     let told = c.in-Some.ensures in
     let lt = c.loop-walk-test.true in
     record {
-      small = let s = i.small in record { doc = omega (arith, told.point.1, s.doc); freq = omega (arith, told.point.2, s.freq); prox = omega (arith, told.point.3, s.prox) };
       grows = let le = i.grows in omega arith;
       within = inr (omega arith);
       steps = step-more c.tick.new.self l.steps c.args.steps.now l.walk.count c.args.walk.now.count i.grows c.tick.ensures i.steps;
       passes = λ frq stands le most.
           let h = i.passes frq stands le most in
-          let next = StandsOn-next c.args.term.now frq c.args.sought.now.level l.walk told.read.0 c.in-Some.point c.good_datum.new.cur h.0 (omega arith) told.read.1 told.read.2 in
+          let next = StandsOn-next c.args.term.now frq c.args.sought.now.level l.walk.count l.walk.last l.walk.cur told.read.0 c.in-Some.point c.good_datum.new.cur h.0 (omega arith) told.read.1 told.read.2 in
           let low : c.in-Some.point.doc < c.args.sought.now.target = omega (arith, c.if-point-from.false, c.from.ensures) in (
             next.0,
             omega arith,
@@ -56,7 +54,7 @@ returns-in-None-clause-passes g c = λ frq stands le most.
     let l = c.loop-walk in
     let h = l.invariant.passes frq stands le most in
     let lt = c.loop-walk-test.true in
-    absurd (StandsOn-unread c.args.term.now frq c.args.sought.now.level l.walk c.in-None.ensures.read.0 h.0 (omega arith) c.in-None.ensures.read.1)
+    absurd (StandsOn-unread c.args.term.now frq c.args.sought.now.level l.walk.count l.walk.last l.walk.cur c.in-None.ensures.read.0 h.0 (omega arith) c.in-None.ensures.read.1)
 
 pub returns-in-None-clause-steps : goal.returns-in-None-clause-steps
 returns-in-None-clause-steps g c =
@@ -68,7 +66,7 @@ returns-then-point-from-clause-passes g c = λ frq stands le most.
     let h = l.invariant.passes frq stands le most in
     let told = c.in-Some.ensures in
     let lt = c.loop-walk-test.true in
-    let next = StandsOn-next c.args.term.now frq c.args.sought.now.level l.walk told.read.0 c.in-Some.point c.good_datum.new.cur h.0 (omega arith) told.read.1 told.read.2 in (
+    let next = StandsOn-next c.args.term.now frq c.args.sought.now.level l.walk.count l.walk.last l.walk.cur told.read.0 c.in-Some.point c.good_datum.new.cur h.0 (omega arith) told.read.1 told.read.2 in (
       h.0.passed,
       record { grows = l.invariant.grows; within = h.1; below = h.2; stops = inr (lt, omega (arith, next.1, c.if-point-from.true, c.from.ensures)) },
     )

@@ -8,8 +8,6 @@ use Rattle.freq_skips.proofs.walk.data_end.Goals as goal
 
 pub loop-turn-init : goal.loop-turn-init
 loop-turn-init c = record {
-  small = record { doc = omega arith; freq = omega arith; prox = omega arith };
-  few = omega arith;
   goes_on = λ postings stated above points end is all. (
     subst (λ (d : Cursor). Follows c.args.term.now postings (level_of c.args.number stated above) (place_in c.args.frq.now c.args.start) 0 no_point d) (sym c.at.ensures)
         (Follows-none c.args.term.now postings (level_of c.args.number stated above) (place_in c.args.frq.now c.args.start)),
@@ -19,8 +17,6 @@ loop-turn-init c = record {
 
 pub loop-turn-preserved : goal.loop-turn-preserved
 loop-turn-preserved c = record {
-  small = c.pass.ensures.small;
-  few = let few = c.loop-turn.invariant.few in omega (arith, c.pass.ensures.count);
   goes_on = λ postings stated above points end is all.
       let h = c.loop-turn.invariant.goes_on postings stated above points end is all in
       let lt : c.loop-turn.following.count < data_count c.args.term.now c.args.number = omega (arith, h.1, is) in

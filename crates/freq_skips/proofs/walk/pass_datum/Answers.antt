@@ -6,9 +6,10 @@ use Rattle.freq_skips.proofs.Powers.{stride-two, quotient-half}
 use Rattle.freq_skips.proofs.LevelPlaceLemmas.{TakesNext, IsOnLevel-next, IsDatumOfLast-next}
 use Rattle.freq_skips.proofs.walk.pass_datum.Goals as goal
 
-pub pass-requires-clause-few : goal.pass-requires-clause-few
-pass-requires-clause-few c =
-    subst (λ (n : ℕ). n < 2 ^ 31) (sym c.requires.on.number) (quotient-half c.args.before _ (stride-two c.args.term.now.rules.skip_interval c.args.level c.requires.interval) (omega arith))
+pub invariant_of-following : goal.invariant_of-following
+invariant_of-following c =
+    let few = subst (λ (n : ℕ). n < 2 ^ 31) (sym c.requires.on.number) (quotient-half c.args.before _ (stride-two c.args.term.now.rules.skip_interval c.args.level c.requires.interval) (omega arith)) in
+    record { few = omega (arith, few); small = c.requires.on.small }
 
 pub returns-clause-on : goal.returns-clause-on
 returns-clause-on c =
@@ -19,7 +20,7 @@ returns-clause-on c =
     let ps = postings_from t (start_in t frq) in
     let takes = subst (λ (d : Cursor). TakesNext t ps c.args.level r.count r.last d f.count f.last f.cur) c.at.ensures (c.pass.ensures.goes_on ps) in
     IsOnLevel-next t ps c.args.level (points_in t frq c.args.level) frq c.args.before r f.count c.place.result f.last f.cur (λ i. (c.type_inv.frq i).fits) c.requires.interval c.requires.multiple c.requires.within c.requires.on takes
-    c.pass.ensures.small c.place.ensures
+    c.pass.new.self.small c.place.ensures
 
 pub returns-clause-fresh : goal.returns-clause-fresh
 returns-clause-fresh c =

@@ -30,7 +30,7 @@ IsIn bytes c = (c ≡ place_in bytes c.place) × (c.place ≤ length bytes)
 -- ---- the vectors of a document
 
 -- a vector that was read stands at its place
-at_its_place : (wanted place : ℕ) (r : TvfRecord) → first_broken (heading_conditions wanted place r) ≡ None → place ≡ wanted
+pub at_its_place : (wanted place : ℕ) (r : TvfRecord) → first_broken (heading_conditions wanted place r) ≡ None → place ≡ wanted
 at_its_place wanted place r h = same-of place wanted (go (not (eqb place wanted)) h)
   where
     go : (b : Bool) → first_broken (record { rule = 106; broken = b } ∷ record { rule = 107; broken = ltb 3 (bits_of_heading r) } ∷ []) ≡ None → b ≡ false

@@ -73,7 +73,7 @@ writes-numbers asked fields (v ∷ vs) before place apart named good =
 -- ---- how far they stand apart
 
 -- the places of the vectors behind the first, which stands at this place
-further_from : ℕ → List StoredVector → List ℕ
+unfoldable pub further_from : ℕ → List StoredVector → List ℕ
 further_from place [] = []
 further_from place (v ∷ []) = []
 further_from place (v ∷ w ∷ vs) = (place + length (vector_bytes v)) ∷ further_from (place + length (vector_bytes v)) (w ∷ vs)

@@ -13,6 +13,7 @@ ghost use Rattle.lu_model.specs.Valid.{IsVectorTerm};
 ghost use Rattle.term_vectors.specs.Format.{vector_format, document_length, start_modulus, bit_positions, bit_offsets};
 ghost use Rattle.term_vectors.specs.Stores.{AreVectors, vector_files};
 ghost use Rattle.term_vectors.specs.VectorBytes.{tvx_bytes, tvd_bytes, tvf_bytes};
+ghost use Rattle.term_vectors.specs.WrittenChoices.{MakeWrittenChoices};
 ghost use Rattle.term_vectors.specs.Writable.{AreWritableVectors, IsCheckableWindow};
 ghost use Rattle.term_vectors.specs.Vectors.{StoredVector, terms_plan};
 ghost use Rattle.term_vectors.specs.VectorWriting.{VectorWriting, IsTermWhole, no_vectors_written, with_document_begun, with_vector_begun, with_term_begun, with_position, with_span, HoldsDocuments, HoldsOpenDocument, BegunVector, HoldsOpenVector, HoldsOpenTerm, begun_vector, begun_term, with_one_position, with_one_span};
@@ -42,6 +43,16 @@ pub fn documents_are_good()
 pub fn written_is_read()
     ensures { (documents : List (List StoredVector)) (fields : List TableField) (window : Window) → All AreWritableVectors documents → IsCheckableWindow fields window documents
         → StandFor (vector_files (length documents) window fields (Some (tvx_bytes documents)) (Some (tvd_bytes documents)) (Some (tvf_bytes documents))) (windowed window documents) }
+{}
+
+/// Nothing else is read so where the choices are the writer's: three files that stand for vectors, whose texts share what they can with
+/// the text before, and whose documents without vectors stand in `.tvf` where those before them end, are what the writer gives for some
+/// documents, and stand for those of them that the window has.
+pub fn only_written_is_read()
+    ensures { (total : ℕ) (window : Window) (fields : List TableField) (tvx tvd tvf : List ℕ) (seen : List (List StoredVector))
+        (stand : StandFor (vector_files total window fields (Some tvx) (Some tvd) (Some tvf)) seen) → MakeWrittenChoices total window fields tvx tvd tvf seen stand
+        → (documents : List (List StoredVector)) × (tvx ≡ tvx_bytes documents) × (tvd ≡ tvd_bytes documents) × (tvf ≡ tvf_bytes documents) × (length documents ≡ total)
+        × (seen ≡ windowed window documents) }
 {}
 
 /// What a writer holds. Documents: it begins with none; with a document begun it holds these and an open one without vectors; once that

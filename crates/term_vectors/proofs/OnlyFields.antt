@@ -1,0 +1,255 @@
+-- `.tvd` that was read is what the writer gives, where its vectors stand where the writer's do.
+use Rattle.std.proofs.Common.{◌≡◌, ◌≢◌, ℕ, zero, suc, ◌+◌, ◌-◌, Bool, true, false, not, eqb, List, [], ◌∷◌, ◌++◌, length, map, None, refl, sym, ap, subst, ◌∙◌, append_assoc, arith}
+use Rattle.std.specs.List.{flat_map}
+use Rattle.std.proofs.lemmas.List.{append-nil, length-append}
+use Rattle.lu_types.specs.Tables.{TableField}
+use Rattle.lu_types.specs.declared.stored.Window.{Window}
+use Rattle.lu_grammar.specs.Parts.{num, vlong, spelling}
+use Rattle.lu_grammar.specs.Records.{Spells, first_broken}
+use Rattle.lu_grammar.specs.Plans.{done, and_then}
+use Rattle.lu_grammar.specs.Meaning.{Spelled, bytes_of, Reads}
+use Rattle.lu_grammar.proofs.Codecs.{same-of}
+use Rattle.term_vectors.specs.declared.layout.DocumentPlaces.{DocumentPlaces}
+use Rattle.term_vectors.specs.Format.{headed}
+use Rattle.term_vectors.specs.Fields.{TvdRecord, VectorPlace, format, count, number, difference, stated, format_conditions, count_shape, count_conditions, number_shape, number_conditions, numbers_plan, difference_shape, difference_conditions, further_plan, placed, document_plan, is_within, documents_plan, tvd_plan}
+use Rattle.term_vectors.specs.Vectors.{StoredVector}
+use Rattle.term_vectors.specs.VectorBytes.{vector_header_bytes, vector_bytes, vectors_bytes, vector_number_bytes, vector_length_bytes, differences_bytes, document_fields_bytes, tvd_bytes, written_places}
+use Rattle.term_vectors.specs.WrittenChoices.{StandAtEnds}
+use Rattle.term_vectors.proofs.WritesVectors.{slots_from, all_slots}
+use Rattle.term_vectors.proofs.WritesFields.{further_from}
+use Rattle.term_vectors.proofs.PlanRecords.{AreRecordsOf, bytes_of-append, records_done, records_due, records_then, records_headed, of_one}
+use Rattle.term_vectors.proofs.OnlyVectors.{header_only}
+
+-- ---- numbers
+
+numbers_only : (asked : Bool) (fields : List TableField) (n : ℕ) (before : List ℕ) (place : ℕ) (ss : List (Spelled TvdRecord)) (numbers : List ℕ) → AreRecordsOf (numbers_plan asked fields n before) place ss numbers
+    → (bytes_of ss ≡ flat_map (λ m. spelling num m) numbers) × (length numbers ≡ n)
+unfolding numbers_plan
+numbers_only asked fields zero before place ss numbers h =
+    let none = records_done [] numbers place ss h in
+    (ap (λ (xs : List (Spelled TvdRecord)). bytes_of xs) none.0 ∙ ap (λ (ns : List ℕ). flat_map (λ m. spelling num m) ns) none.1, ap (λ (ns : List ℕ). length ns) (sym none.1))
+numbers_only asked fields (suc n) before place ss numbers h =
+    let parts = records_due number_shape (λ _ r. number_conditions asked fields before (stated r)) (λ _ r. headed (stated r) (numbers_plan asked fields n (stated r ∷ before))) place ss numbers h in
+    let s = parts.first in
+    let m = stated s.it in
+    let here = place + length s.front in
+    let one = of_one num (λ k. number k) s.it s.front parts.spells in
+    let front : s.front ≡ spelling num m = one.front_is ∙ ap (λ (r : TvdRecord). spelling num (stated r)) one.is in
+    let more = records_headed m (numbers_plan asked fields n (m ∷ before)) here parts.rest numbers parts.others in
+    let rest = numbers_only asked fields n (m ∷ before) here parts.rest more.0 more.1 in (
+      ap (λ (xs : List (Spelled TvdRecord)). bytes_of xs) parts.all ∙ ap (λ (t : List ℕ). t ++ bytes_of parts.rest) front ∙ ap (λ (t : List ℕ). spelling num m ++ t) rest.0
+      ∙ ap (λ (ns : List ℕ). flat_map (λ k. spelling num k) ns) (sym more.2),
+      ap (λ (ns : List ℕ). length ns) more.2 ∙ ap suc rest.1,
+    )
+
+-- ---- differences
+
+-- how far each place is from the one before, the first from this one
+apart_bytes : ℕ → List ℕ → List ℕ
+apart_bytes place [] = []
+apart_bytes place (p ∷ ps) = spelling vlong (p - place) ++ apart_bytes p ps
+
+further_only : (n first place : ℕ) (ss : List (Spelled TvdRecord)) (further : List ℕ) → AreRecordsOf (further_plan n first) place ss further → (bytes_of ss ≡ apart_bytes first further) × (length further ≡ n)
+unfolding further_plan apart_bytes
+further_only zero first place ss further h =
+    let none = records_done [] further place ss h in
+    (ap (λ (xs : List (Spelled TvdRecord)). bytes_of xs) none.0 ∙ ap (λ (ps : List ℕ). apart_bytes first ps) none.1, ap (λ (ps : List ℕ). length ps) (sym none.1))
+further_only (suc n) first place ss further h =
+    let parts = records_due difference_shape (λ _ r. difference_conditions first (stated r)) (λ _ r. headed (first + stated r) (further_plan n (first + stated r))) place ss further h in
+    let s = parts.first in
+    let p = first + stated s.it in
+    let here = place + length s.front in
+    let one = of_one vlong (λ k. difference k) s.it s.front parts.spells in
+    let back : stated s.it ≡ p - first = omega arith in
+    let front : s.front ≡ spelling vlong (p - first) = one.front_is ∙ ap (λ (r : TvdRecord). spelling vlong (stated r)) one.is ∙ ap (λ (k : ℕ). spelling vlong k) back in
+    let more = records_headed p (further_plan n p) here parts.rest further parts.others in
+    let rest = further_only n p here parts.rest more.0 more.1 in (
+      ap (λ (xs : List (Spelled TvdRecord)). bytes_of xs) parts.all ∙ ap (λ (t : List ℕ). t ++ bytes_of parts.rest) front ∙ ap (λ (t : List ℕ). spelling vlong (p - first) ++ t) rest.0
+      ∙ ap (λ (ps : List ℕ). apart_bytes first ps) (sym more.2),
+      ap (λ (ps : List ℕ). length ps) more.2 ∙ ap suc rest.1,
+    )
+
+-- ---- the vectors that stand so
+
+-- the fields and places of vectors that stand where the writer's do
+record StandAs (numbers further : List ℕ) (p place : ℕ) (vs : List StoredVector) : Type 0 where
+  numbers_are : numbers ≡ map (λ v. v.field) vs
+  further_are : further ≡ further_from place vs
+  first_is : p ≡ place
+
+heads : (a b : VectorPlace) (xs ys : List VectorPlace) → a ∷ xs ≡ b ∷ ys → a ≡ b
+heads a b xs ys h = cc
+
+tails : (a b : VectorPlace) (xs ys : List VectorPlace) → a ∷ xs ≡ b ∷ ys → xs ≡ ys
+tails a b xs ys h = cc
+
+none-some : (a : VectorPlace) (xs : List VectorPlace) → [] ≡ a ∷ xs → ⊥
+none-some a xs h = cc
+
+stand_as : (v : StoredVector) (vs : List StoredVector) (p place : ℕ) (numbers further : List ℕ) → placed numbers (p ∷ further) ≡ slots_from place (v ∷ vs) → length further ≡ length numbers - 1
+    → StandAs numbers further p place (v ∷ vs)
+unfolding placed slots_from further_from
+stand_as v vs p place [] further h long = absurd (none-some _ _ h)
+stand_as v [] p place (n ∷ []) [] h long =
+    let same = heads (record { field = n; place = p }) (record { field = v.field; place = place }) [] [] h in
+    record { numbers_are = ap (λ (a : VectorPlace). a.field ∷ []) same; further_are = refl; first_is = ap (λ (a : VectorPlace). a.place) same }
+stand_as v (w ∷ vs) p place (n ∷ []) [] h long = absurd (none-some _ _ (tails _ _ _ _ h))
+stand_as v vs p place (n ∷ []) (f ∷ further) h long = absurd (omega (arith, long))
+stand_as v vs p place (n ∷ m ∷ numbers) [] h long = absurd (omega (arith, long))
+stand_as v [] p place (n ∷ m ∷ numbers) (f ∷ further) h long = absurd (none-some _ _ (sym (tails _ _ _ _ h)))
+stand_as v (w ∷ vs) p place (n ∷ m ∷ numbers) (f ∷ further) h long =
+    let next = place + length (vector_bytes v) in
+    let same = heads (record { field = n; place = p }) (record { field = v.field; place = place }) (placed (m ∷ numbers) (f ∷ further)) (slots_from next (w ∷ vs)) h in
+    let later = tails (record { field = n; place = p }) (record { field = v.field; place = place }) (placed (m ∷ numbers) (f ∷ further)) (slots_from next (w ∷ vs)) h in
+    let rest = stand_as w vs f next (m ∷ numbers) further later (omega (arith, long)) in
+    record {
+      numbers_are = ap (λ (a : VectorPlace). a.field ∷ (m ∷ numbers)) same ∙ ap (λ (t : List ℕ). v.field ∷ t) rest.numbers_are;
+      further_are = ap (λ (q : ℕ). q ∷ further) rest.first_is ∙ ap (λ (t : List ℕ). next ∷ t) rest.further_are;
+      first_is = ap (λ (a : VectorPlace). a.place) same;
+    }
+
+-- their spellings are those of the vectors
+numbers_bytes : (vs : List StoredVector) → flat_map (λ m. spelling num m) (map (λ v. v.field) vs) ≡ flat_map vector_number_bytes vs
+numbers_bytes [] = refl
+numbers_bytes (v ∷ vs) = ap (λ (t : List ℕ). vector_number_bytes v ++ t) (numbers_bytes vs)
+
+apart-is : (vs : List StoredVector) (place : ℕ) → apart_bytes place (further_from place vs) ≡ differences_bytes vs
+unfolding apart_bytes further_from differences_bytes
+apart-is [] place = refl
+apart-is (v ∷ []) place = refl
+apart-is (v ∷ w ∷ vs) place =
+    let long = length (vector_bytes v) in
+    let back : place + long - place ≡ long = omega arith in
+    ap (λ (k : ℕ). spelling vlong k ++ apart_bytes (place + long) (further_from (place + long) (w ∷ vs))) back ∙ ap (λ (t : List ℕ). vector_length_bytes v ++ t) (apart-is (w ∷ vs) (place + long))
+
+-- ---- a document
+
+-- records that spell a document, which stands where its places are
+record SpellsFields (at : DocumentPlaces) (place end : ℕ) (ss : List (Spelled TvdRecord)) (d : List StoredVector) : Type 0 where
+  is : bytes_of ss ≡ document_fields_bytes d
+  tvd : at.tvd ≡ place
+  tvf : at.tvf ≡ end
+
+-- what was read of a document
+record PartsOf (at : DocumentPlaces) (place : ℕ) (ss : List (Spelled TvdRecord)) (slots : List VectorPlace) : Type 0 where
+  numbers : List ℕ
+  further : List ℕ
+  is : bytes_of ss ≡ spelling num (length numbers) ++ (flat_map (λ m. spelling num m) numbers ++ apart_bytes at.tvf further)
+  tvd : at.tvd ≡ place
+  long : length further ≡ length numbers - 1
+  all : placed numbers (at.tvf ∷ further) ≡ slots
+
+document_parts : (asked : Bool) (fields : List TableField) (at : DocumentPlaces) (place : ℕ) (ss : List (Spelled TvdRecord)) (slots : List VectorPlace) → AreRecordsOf (document_plan asked fields at) place ss slots → PartsOf at place ss slots
+document_parts asked fields at place ss slots h =
+    let parts = records_due count_shape (λ p _. count_conditions at.tvd p)
+    (λ _ r. and_then (numbers_plan asked fields (stated r) []) (λ numbers. and_then (further_plan (stated r - 1) at.tvf) (λ further. done (placed numbers (at.tvf ∷ further))))) place ss slots h in
+    let s = parts.first in
+    let n = stated s.it in
+    let here = place + length s.front in
+    let one = of_one num (λ k. count k) s.it s.front parts.spells in
+    let front : s.front ≡ spelling num n = one.front_is ∙ ap (λ (r : TvdRecord). spelling num (stated r)) one.is in
+    let second = records_then (numbers_plan asked fields n []) (λ numbers. and_then (further_plan (n - 1) at.tvf) (λ further. done (placed numbers (at.tvf ∷ further)))) here parts.rest slots parts.others in
+    let there = here + length (bytes_of second.first) in
+    let third = records_then (further_plan (n - 1) at.tvf) (λ further. done (placed second.value (at.tvf ∷ further))) there second.second slots second.two in
+    let last = records_done (placed second.value (at.tvf ∷ third.value)) slots (there + length (bytes_of third.first)) third.second third.two in
+    let numbers = numbers_only asked fields n [] here second.first second.value second.one in
+    let further = further_only (n - 1) at.tvf there third.first third.value third.one in
+    let same : second.second ≡ third.first = third.all ∙ ap (λ (xs : List (Spelled TvdRecord)). third.first ++ xs) last.0 ∙ append-nil third.first in
+    record {
+      numbers = second.value;
+      further = third.value;
+      is = ap (λ (xs : List (Spelled TvdRecord)). bytes_of xs) (parts.all ∙ ap (λ (xs : List (Spelled TvdRecord)). s ∷ xs) (second.all ∙ ap (λ (xs : List (Spelled TvdRecord)). second.first ++ xs) same))
+          ∙ ap (λ (t : List ℕ). s.front ++ t) (bytes_of-append second.first third.first ∙ ap (λ (t : List ℕ). t ++ bytes_of third.first) numbers.0 ∙ ap (λ (t : List ℕ). flat_map (λ m. spelling num m) second.value ++ t) further.0)
+          ∙ ap (λ (t : List ℕ). t ++ (flat_map (λ m. spelling num m) second.value ++ apart_bytes at.tvf third.value)) front
+          ∙ ap (λ (k : ℕ). spelling num k ++ (flat_map (λ m. spelling num m) second.value ++ apart_bytes at.tvf third.value)) (sym numbers.1);
+      tvd = sym (at_place place at.tvd parts.unbroken);
+      long = further.1 ∙ ap (λ (k : ℕ). k - 1) (sym numbers.1);
+      all = last.1;
+    }
+  where
+    at_place : (place wanted : ℕ) → first_broken (count_conditions wanted place) ≡ None → place ≡ wanted
+    at_place place wanted h = same-of place wanted (none_broken (not (eqb place wanted)) h)
+      where
+        none_broken : (b : Bool) → first_broken (record { rule = 99; broken = b } ∷ []) ≡ None → b ≡ false
+        none_broken true q = cc
+        none_broken false q = refl
+
+no_numbers : (numbers places : List ℕ) (p : ℕ) → placed numbers (p ∷ places) ≡ [] → numbers ≡ []
+unfolding placed
+no_numbers [] places p h = refl
+no_numbers (n ∷ numbers) places p h = absurd (none-some _ _ (sym h))
+
+document_only : (at : DocumentPlaces) (place end : ℕ) (ss : List (Spelled TvdRecord)) (slots : List VectorPlace) (d : List StoredVector) → PartsOf at place ss slots → slots ≡ slots_from end d → (d ≡ [] → at.tvf ≡ end)
+    → SpellsFields at place end ss d
+unfolding slots_from apart_bytes differences_bytes
+document_only at place end ss slots [] parts same free =
+    let none : parts.numbers ≡ [] = no_numbers parts.numbers parts.further at.tvf (parts.all ∙ same) in
+    let less : parts.further ≡ [] = nothing parts.further (parts.long ∙ ap (λ (ns : List ℕ). length ns - 1) none) in
+    record {
+      is = parts.is ∙ ap (λ (ns : List ℕ). spelling num (length ns) ++ (flat_map (λ m. spelling num m) ns ++ apart_bytes at.tvf parts.further)) none ∙ ap (λ (ps : List ℕ). spelling num 0 ++ apart_bytes at.tvf ps) less;
+      tvd = parts.tvd;
+      tvf = free refl;
+    }
+  where
+    nothing : (xs : List ℕ) → length xs ≡ 0 → xs ≡ []
+    nothing [] h = refl
+    nothing (x ∷ xs) h = absurd (omega (arith, h))
+document_only at place end ss slots (v ∷ vs) parts same free =
+    let stand = stand_as v vs at.tvf end parts.numbers parts.further (parts.all ∙ same) parts.long in
+    let d = v ∷ vs in
+    record {
+      is = parts.is ∙ ap (λ (ns : List ℕ). spelling num (length ns) ++ (flat_map (λ m. spelling num m) ns ++ apart_bytes at.tvf parts.further)) stand.numbers_are
+          ∙ ap (λ (k : ℕ). spelling num k ++ (flat_map (λ m. spelling num m) (map (λ w. w.field) d) ++ apart_bytes at.tvf parts.further)) (as_many d)
+          ∙ ap (λ (t : List ℕ). spelling num (length d) ++ (t ++ apart_bytes at.tvf parts.further)) (numbers_bytes d)
+          ∙ ap (λ (t : List ℕ). spelling num (length d) ++ (flat_map vector_number_bytes d ++ t))
+          (ap (λ (ps : List ℕ). apart_bytes at.tvf ps) stand.further_are ∙ ap (λ (q : ℕ). apart_bytes q (further_from end d)) stand.first_is ∙ apart-is d end);
+      tvd = parts.tvd;
+      tvf = stand.first_is;
+    }
+  where
+    as_many : (ws : List StoredVector) → length (map (λ w. w.field) ws) ≡ length ws
+    as_many [] = refl
+    as_many (w ∷ ws) = ap suc (as_many ws)
+
+-- ---- documents
+
+list_heads : (a b : List VectorPlace) (xs ys : List (List VectorPlace)) → a ∷ xs ≡ b ∷ ys → (a ≡ b) × (xs ≡ ys)
+list_heads a b xs ys h = (cc, cc)
+
+list_none : (a : List VectorPlace) (xs : List (List VectorPlace)) → [] ≡ a ∷ xs → ⊥
+list_none a xs h = cc
+
+documents_only : (fields : List TableField) (window : Window) (nth place end : ℕ) (places : List DocumentPlaces) (ss : List (Spelled TvdRecord)) (slots : List (List VectorPlace)) (ds : List (List StoredVector))
+    → AreRecordsOf (documents_plan fields window nth places) place ss slots → slots ≡ all_slots end ds → StandAtEnds end places ds → (bytes_of ss ≡ flat_map document_fields_bytes ds) × (places ≡ written_places place end ds)
+unfolding documents_plan all_slots StandAtEnds written_places
+documents_only fields window nth place end [] ss slots [] h same free = let none = records_done [] slots place ss h in (ap (λ (xs : List (Spelled TvdRecord)). bytes_of xs) none.0, refl)
+documents_only fields window nth place end [] ss slots (d ∷ ds) h same free = let none = records_done [] slots place ss h in absurd (list_none _ _ (none.1 ∙ same))
+documents_only fields window nth place end (at ∷ places) ss slots [] h same free =
+    let parts = records_then (document_plan (is_within window nth) fields at) (λ x. headed x (documents_plan fields window (suc nth) places)) place ss slots h in
+    let more = records_headed parts.value (documents_plan fields window (suc nth) places) (place + length (bytes_of parts.first)) parts.second slots parts.two in
+    absurd (list_none _ _ (sym (sym more.2 ∙ same)))
+documents_only fields window nth place end (at ∷ places) ss slots (d ∷ ds) h same free =
+    let parts = records_then (document_plan (is_within window nth) fields at) (λ x. headed x (documents_plan fields window (suc nth) places)) place ss slots h in
+    let here = place + length (bytes_of parts.first) in
+    let more = records_headed parts.value (documents_plan fields window (suc nth) places) here parts.second slots parts.two in
+    let both = list_heads parts.value (slots_from end d) more.0 (all_slots (end + length (vectors_bytes d)) ds) (sym more.2 ∙ same) in
+    let one = document_only at place end parts.first parts.value d (document_parts (is_within window nth) fields at place parts.first parts.value parts.one) both.0 free.0 in
+    let rest = documents_only fields window (suc nth) here (end + length (vectors_bytes d)) places parts.second more.0 ds more.1 both.1 free.1 in (
+      ap (λ (xs : List (Spelled TvdRecord)). bytes_of xs) parts.all ∙ bytes_of-append parts.first parts.second ∙ ap (λ (t : List ℕ). t ++ bytes_of parts.second) one.is ∙ ap (λ (t : List ℕ). document_fields_bytes d ++ t) rest.0,
+      ap (λ (p : ℕ). both_places p at.tvf ∷ places) one.tvd ∙ ap (λ (q : ℕ). both_places place q ∷ places) one.tvf
+      ∙ ap (λ (ps : List DocumentPlaces). both_places place end ∷ ps) (rest.1 ∙ ap (λ (t : List ℕ). written_places (place + length t) (end + length (vectors_bytes d)) ds) one.is),
+    )
+  where
+    both_places : ℕ → ℕ → DocumentPlaces
+    both_places tvd tvf = record { tvd = tvd; tvf = tvf }
+
+-- ---- the file
+
+pub tvd_only : (fields : List TableField) (window : Window) (places : List DocumentPlaces) (tvd : List ℕ) (slots : List (List VectorPlace)) (ds : List (List StoredVector)) → Reads (tvd_plan fields window places) tvd slots
+    → slots ≡ all_slots 4 ds → StandAtEnds 4 places ds → (tvd ≡ tvd_bytes ds) × (places ≡ written_places 4 4 ds)
+tvd_only fields window places tvd slots ds read same free =
+    let head = header_only format format_conditions 98 (λ z. refl) (documents_plan fields window 0 places) read.records slots (record { good = read.good; none = read.none_due }) in
+    let body = documents_only fields window 0 4 4 places head.more slots ds head.others same free in (
+      read.front ∙ append-nil (bytes_of read.records) ∙ ap (λ (xs : List (Spelled TvdRecord)). bytes_of xs) head.all ∙ ap (λ (t : List ℕ). t ++ bytes_of head.more) head.is ∙ ap (λ (t : List ℕ). vector_header_bytes ++ t) body.0,
+      body.1,
+    )

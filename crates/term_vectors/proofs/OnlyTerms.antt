@@ -1,0 +1,213 @@
+-- The terms of a vector that was read are spelled as the writer does, where each text shares what it can with the text before.
+use Rattle.std.proofs.Common.{◌≡◌, ℕ, zero, suc, ◌+◌, ◌-◌, ◌%◌, ◌^◌, ◌<◌, ◌≤◌, Bool, true, false, ◌||◌, ltb, List, [], ◌∷◌, ◌++◌, length, take, drop, Option, Some, None, refl, sym, ap, subst, ◌∙◌, append_assoc, arith}
+use Rattle.std.specs.Option.{unwrap_or}
+use Rattle.std.specs.Str.{is_utf8}
+use borrow.Author.Tests.{ltb-false}
+use Rattle.std.proofs.lemmas.List.{append-nil, length-append, length-take}
+use Rattle.lu_grammar.specs.Parts.{vint, num, bytes, spelling}
+use Rattle.lu_grammar.specs.Records.{Condition, Spells, first_broken}
+use Rattle.lu_grammar.specs.Plans.{done, and_then}
+use Rattle.lu_grammar.specs.Meaning.{Spelled, bytes_of}
+use Rattle.lu_types.specs.Stores.{greatest_place}
+use Rattle.lu_model.specs.Index.{Span, VectorTerm}
+use Rattle.term_vectors.specs.Format.{start_modulus, bit_positions, bit_offsets, headed}
+use Rattle.term_vectors.specs.Vectors.{TvfRecord, position, pair, term, position_shape, position_after, position_conditions, positions_plan, pair_shape, span_after, pair_conditions, spans_plan, text_after, freq_of, prefix_of, kept_count, term_shape, term_conditions, term_plan, terms_plan}
+use Rattle.term_vectors.specs.VectorBytes.{vector_positions_bytes, start_delta, span_bytes, vector_spans_bytes, shared_length, term_front_bytes, vector_term_bytes, vector_terms_bytes}
+use Rattle.term_vectors.specs.WrittenChoices.{text_behind, SharesMost, ShareMost}
+use Rattle.term_vectors.proofs.PlanRecords.{AreRecordsOf, bytes_of-append, records_done, records_due, records_then, records_headed, of_one}
+
+-- the text behind all of the records
+unfoldable pub text_after_all : List ℕ → List (Spelled TvfRecord) → List ℕ
+text_after_all before [] = before
+text_after_all before (s ∷ ss) = text_after_all (text_behind before s.it) ss
+
+pub text_after-append : (before : List ℕ) (xs ys : List (Spelled TvfRecord)) → text_after_all before (xs ++ ys) ≡ text_after_all (text_after_all before xs) ys
+unfolding text_after_all
+text_after-append before [] ys = refl
+text_after-append before (x ∷ xs) ys = text_after-append (text_behind before x.it) xs ys
+
+-- what holds of all holds of both parts
+pub shares-append : (before : List ℕ) (xs ys : List (Spelled TvfRecord)) → ShareMost before (xs ++ ys) → ShareMost before xs × ShareMost (text_after_all before xs) ys
+unfolding ShareMost text_after_all
+shares-append before [] ys h = (tt, h)
+shares-append before (x ∷ xs) ys h = let rest = shares-append (text_behind before x.it) xs ys h.1 in ((h.0, rest.0), rest.1)
+
+-- records that are spelled so, behind which the text before is what it was
+record SpellsInTerm (ss : List (Spelled TvfRecord)) (wanted : List ℕ) : Type 0 where
+  is : bytes_of ss ≡ wanted
+  same : (before : List ℕ) → text_after_all before ss ≡ before
+
+-- ---- positions
+
+record SpellsPosition (last : ℕ) (s : Spelled TvfRecord) : Type 0 where
+  is : s.front ≡ spelling vint (position_after last s.it - last)
+  same : (before : List ℕ) → text_behind before s.it ≡ before
+
+position_spelled : (last : ℕ) (s : Spelled TvfRecord) → Spells position_shape s.it s.front → SpellsPosition last s
+position_spelled last s spells =
+    let one = of_one vint (λ n. position n) s.it s.front spells in
+    let back : one.value ≡ last + one.value - last = omega arith in
+    record {
+      is = one.front_is ∙ ap (λ (n : ℕ). spelling vint n) back ∙ ap (λ (r : TvfRecord). spelling vint (position_after last r - last)) one.is;
+      same = λ before. ap (λ (r : TvfRecord). text_behind before r) (sym one.is);
+    }
+
+positions_only : (n last place : ℕ) (ss : List (Spelled TvfRecord)) (ps : List ℕ) → AreRecordsOf (positions_plan n last) place ss ps → SpellsInTerm ss (vector_positions_bytes last ps)
+unfolding positions_plan vector_positions_bytes text_after_all
+positions_only zero last place ss ps h =
+    let none = records_done [] ps place ss h in
+    record { is = ap (λ (xs : List (Spelled TvfRecord)). bytes_of xs) none.0 ∙ ap (λ (qs : List ℕ). vector_positions_bytes last qs) none.1; same = λ before. ap (λ (xs : List (Spelled TvfRecord)). text_after_all before xs) none.0 }
+positions_only (suc n) last place ss ps h =
+    let parts = records_due position_shape (λ _ r. position_conditions last r) (λ _ r. headed (position_after last r) (positions_plan n (position_after last r))) place ss ps h in
+    let s = parts.first in
+    let p = position_after last s.it in
+    let here = place + length s.front in
+    let more = records_headed p (positions_plan n p) here parts.rest ps parts.others in
+    let one = position_spelled last s parts.spells in
+    let rest = positions_only n p here parts.rest more.0 more.1 in
+    record {
+      is = ap (λ (xs : List (Spelled TvfRecord)). bytes_of xs) parts.all ∙ ap (λ (t : List ℕ). t ++ bytes_of parts.rest) one.is ∙ ap (λ (t : List ℕ). spelling vint (p - last) ++ t) rest.is
+          ∙ ap (λ (qs : List ℕ). vector_positions_bytes last qs) (sym more.2);
+      same = λ before. ap (λ (xs : List (Spelled TvfRecord)). text_after_all before xs) parts.all ∙ ap (λ (t : List ℕ). text_after_all t parts.rest) (one.same before) ∙ rest.same before;
+    }
+
+-- ---- spans
+
+record SpellsPair (last : ℕ) (s : Spelled TvfRecord) : Type 0 where
+  is : s.front ≡ span_bytes last (span_after last s.it)
+  low : (span_after last s.it).end < 2 ^ 31
+  same : (before : List ℕ) → text_behind before s.it ≡ before
+
+not_above : (a b : Bool) → first_broken (record { rule = 113; broken = a || b } ∷ []) ≡ None → b ≡ false
+not_above true b h = cc
+not_above false true h = cc
+not_above false false h = refl
+
+far_back : (last far : ℕ) → last < 2 ^ 31 → far < 2 ^ 32 → far ≡ start_delta last ((last + far) % start_modulus)
+far_back last far low fits = omega (arith, low, fits)
+
+pair_spelled : (last : ℕ) (s : Spelled TvfRecord) → last < 2 ^ 31 → Spells pair_shape s.it s.front → first_broken (pair_conditions last s.it) ≡ None → SpellsPair last s
+pair_spelled last s low (far, back, far_fits, front_is, tail) good =
+    let one = of_one num (λ long. pair far long) s.it back tail in
+    let start = (last + far) % start_modulus in
+    let long_back : one.value ≡ start + one.value - start = omega arith in
+    let end : (span_after last s.it).end ≤ greatest_place =
+    ltb-false greatest_place (span_after last s.it).end (not_above (ltb greatest_place (span_after last s.it).start) (ltb greatest_place (span_after last s.it).end) good) in
+    record {
+      is = front_is ∙ ap (λ (n : ℕ). spelling vint n ++ back) (far_back last far low far_fits) ∙ ap (λ (t : List ℕ). spelling vint (start_delta last start) ++ t) (one.front_is ∙ ap (λ (n : ℕ). spelling num n) long_back)
+          ∙ ap (λ (r : TvfRecord). span_bytes last (span_after last r)) one.is;
+      low = omega (arith, end);
+      same = λ before. ap (λ (r : TvfRecord). text_behind before r) (sym one.is);
+    }
+
+spans_only : (n last place : ℕ) (ss : List (Spelled TvfRecord)) (spans : List Span) → last < 2 ^ 31 → AreRecordsOf (spans_plan n last) place ss spans → SpellsInTerm ss (vector_spans_bytes last spans)
+unfolding spans_plan vector_spans_bytes text_after_all
+spans_only zero last place ss spans low h =
+    let none = records_done [] spans place ss h in
+    record { is = ap (λ (xs : List (Spelled TvfRecord)). bytes_of xs) none.0 ∙ ap (λ (qs : List Span). vector_spans_bytes last qs) none.1; same = λ before. ap (λ (xs : List (Spelled TvfRecord)). text_after_all before xs) none.0 }
+spans_only (suc n) last place ss spans low h =
+    let parts = records_due pair_shape (λ _ r. pair_conditions last r) (λ _ r. headed (span_after last r) (spans_plan n (span_after last r).end)) place ss spans h in
+    let s = parts.first in
+    let span = span_after last s.it in
+    let here = place + length s.front in
+    let more = records_headed span (spans_plan n span.end) here parts.rest spans parts.others in
+    let one = pair_spelled last s low parts.spells parts.unbroken in
+    let rest = spans_only n span.end here parts.rest more.0 one.low more.1 in
+    record {
+      is = ap (λ (xs : List (Spelled TvfRecord)). bytes_of xs) parts.all ∙ ap (λ (t : List ℕ). t ++ bytes_of parts.rest) one.is ∙ ap (λ (t : List ℕ). span_bytes last span ++ t) rest.is
+          ∙ ap (λ (qs : List Span). vector_spans_bytes last qs) (sym more.2);
+      same = λ before. ap (λ (xs : List (Spelled TvfRecord)). text_after_all before xs) parts.all ∙ ap (λ (t : List ℕ). text_after_all t parts.rest) (one.same before) ∙ rest.same before;
+    }
+
+-- ---- a term
+
+drop-front : (xs ys : List ℕ) → drop (length xs) (xs ++ ys) ≡ ys
+drop-front [] ys = refl
+drop-front (x ∷ xs) ys = drop-front xs ys
+
+-- the front of a term is spelled as the writer does, and the text is the one behind it
+record SpellsFront (before : Option (List ℕ)) (s : Spelled TvfRecord) : Type 0 where
+  is : s.front ≡ term_front_bytes (unwrap_or before []) (text_after before s.it) (freq_of s.it)
+  next : text_behind (unwrap_or before []) s.it ≡ text_after before s.it
+
+within_before : (before : Option (List ℕ)) (r : TvfRecord) → first_broken (term_conditions before r) ≡ None → prefix_of r ≤ length (unwrap_or before [])
+within_before before r good = ltb-false (length (unwrap_or before [])) (prefix_of r) (go (ltb (length (unwrap_or before [])) (prefix_of r)) (term_conditions before r) good)
+  where
+    go : (b : Bool) (cs : List Condition) → first_broken (record { rule = 108; broken = b } ∷ drop 1 cs) ≡ None → b ≡ false
+    go true cs h = cc
+    go false cs h = refl
+
+front_spelled : (before : Option (List ℕ)) (s : Spelled TvfRecord) → Spells term_shape s.it s.front → first_broken (term_conditions before s.it) ≡ None → SharesMost (unwrap_or before []) s.it → SpellsFront before s
+front_spelled before s (prefix, a, prefix_fits, front_is, (n, b, n_fits, a_is, (suffix, c, suffix_fits, b_is, tail))) good shares =
+    let one = of_one num (λ freq. term prefix suffix freq) s.it c tail in
+    let base = unwrap_or before [] in
+    let text = take prefix base ++ suffix in
+    let most : prefix ≡ shared_length base text = subst (λ (r : TvfRecord). SharesMost base r) (sym one.is) shares in
+    let within : prefix ≤ length base = subst (λ (r : TvfRecord). prefix_of r ≤ length base) (sym one.is) (within_before before s.it good) in
+    let long : length (take prefix base) ≡ prefix = omega (arith, within, length-take prefix base) in
+    let dropped : suffix ≡ drop (shared_length base text) text = sym (drop-front (take prefix base) suffix) ∙ ap (λ (k : ℕ). drop k text) (long ∙ most) in
+    let spelled : List ℕ → List ℕ = λ t. spelling num (length t) ++ (t ++ spelling num one.value) in
+    let inner : a ≡ spelled suffix = a_is ∙ ap (λ (k : ℕ). spelling num k ++ b) (sym suffix_fits.0) ∙ ap (λ (t : List ℕ). spelling num (length suffix) ++ t) (b_is ∙ ap (λ (t : List ℕ). suffix ++ t) one.front_is) in
+    record {
+      is = front_is ∙ ap (λ (k : ℕ). spelling num k ++ a) most ∙ ap (λ (t : List ℕ). spelling num (shared_length base text) ++ t) (inner ∙ ap spelled dropped)
+          ∙ ap (λ (r : TvfRecord). term_front_bytes base (text_after before r) (freq_of r)) one.is;
+      next = ap (λ (r : TvfRecord). text_behind base r) (sym one.is) ∙ ap (λ (r : TvfRecord). text_after before r) one.is;
+    }
+
+-- records that spell a term, behind which its text is the text before
+record SpellsTerm (base : List ℕ) (t : VectorTerm) (ss : List (Spelled TvfRecord)) : Type 0 where
+  is : bytes_of ss ≡ vector_term_bytes base t
+  next : text_after_all base ss ≡ t.text
+
+term_only : (bits : ℕ) (before : Option (List ℕ)) (place : ℕ) (ss : List (Spelled TvfRecord)) (t : VectorTerm) → AreRecordsOf (term_plan bits before) place ss t → ShareMost (unwrap_or before []) ss
+    → SpellsTerm (unwrap_or before []) t ss
+unfolding ShareMost text_after_all
+term_only bits before place ss t h shares =
+    let base = unwrap_or before [] in
+    let whole : TvfRecord → List ℕ → List Span → VectorTerm = λ r ps spans. record { text = text_after before r; frequency = freq_of r; positions = ps; spans = spans } in
+    let parts = records_due term_shape (λ _ r. term_conditions before r)
+    (λ _ r. and_then (positions_plan (kept_count bit_positions bits (freq_of r)) 0) (λ ps. and_then (spans_plan (kept_count bit_offsets bits (freq_of r)) 0) (λ spans. done (whole r ps spans)))) place ss t h in
+    let s = parts.first in
+    let here = place + length s.front in
+    let front_shares = subst (λ (xs : List (Spelled TvfRecord)). ShareMost base xs) parts.all shares in
+    let front = front_spelled before s parts.spells parts.unbroken front_shares.0 in
+    let spans_due = spans_plan (kept_count bit_offsets bits (freq_of s.it)) 0 in
+    let second = records_then (positions_plan (kept_count bit_positions bits (freq_of s.it)) 0) (λ ps. and_then spans_due (λ spans. done (whole s.it ps spans))) here parts.rest t parts.others in
+    let ps = second.value in
+    let there = here + length (bytes_of second.first) in
+    let third = records_then spans_due (λ spans. done (whole s.it ps spans)) there second.second t second.two in
+    let last = records_done (whole s.it ps third.value) t (there + length (bytes_of third.first)) third.second third.two in
+    let zero_low : 0 < 2 ^ 31 = omega arith in
+    let positions = positions_only (kept_count bit_positions bits (freq_of s.it)) 0 here second.first ps second.one in
+    let spans = spans_only (kept_count bit_offsets bits (freq_of s.it)) 0 there third.first third.value zero_low third.one in
+    let all_spans : second.second ≡ third.first = third.all ∙ ap (λ (xs : List (Spelled TvfRecord)). third.first ++ xs) last.0 ∙ append-nil third.first in
+    let all : ss ≡ s ∷ (second.first ++ third.first) = parts.all ∙ ap (λ (xs : List (Spelled TvfRecord)). s ∷ xs) (second.all ∙ ap (λ (xs : List (Spelled TvfRecord)). second.first ++ xs) all_spans) in
+    let behind : text_after_all (text_behind base s.it) (second.first ++ third.first) ≡ text_behind base s.it =
+    text_after-append (text_behind base s.it) second.first third.first ∙ spans.same (text_after_all (text_behind base s.it) second.first) ∙ positions.same (text_behind base s.it) in
+    record {
+      is = ap (λ (xs : List (Spelled TvfRecord)). bytes_of xs) all ∙ ap (λ (x : List ℕ). s.front ++ x) (bytes_of-append second.first third.first ∙ ap (λ (x : List ℕ). x ++ bytes_of third.first) positions.is ∙ ap (λ (x : List ℕ). vector_positions_bytes 0 ps ++ x) spans.is)
+          ∙ ap (λ (x : List ℕ). x ++ (vector_positions_bytes 0 ps ++ vector_spans_bytes 0 third.value)) front.is ∙ ap (λ (x : VectorTerm). vector_term_bytes base x) last.1;
+      next = ap (λ (xs : List (Spelled TvfRecord)). text_after_all base xs) all ∙ behind ∙ front.next ∙ ap (λ (x : VectorTerm). x.text) last.1;
+    }
+
+-- ---- the terms of a vector
+
+pub terms_only : (bits n : ℕ) (before : Option (List ℕ)) (place : ℕ) (ss : List (Spelled TvfRecord)) (ts : List VectorTerm) → AreRecordsOf (terms_plan bits n before) place ss ts → ShareMost (unwrap_or before []) ss
+    → (bytes_of ss ≡ vector_terms_bytes (unwrap_or before []) ts) × (length ts ≡ n)
+unfolding terms_plan vector_terms_bytes
+terms_only bits zero before place ss ts h shares =
+    let none = records_done [] ts place ss h in
+    (ap (λ (xs : List (Spelled TvfRecord)). bytes_of xs) none.0 ∙ ap (λ (xs : List VectorTerm). vector_terms_bytes (unwrap_or before []) xs) none.1, ap (λ (xs : List VectorTerm). length xs) (sym none.1))
+terms_only bits (suc n) before place ss ts h shares =
+    let base = unwrap_or before [] in
+    let parts = records_then (term_plan bits before) (λ t. headed t (terms_plan bits n (Some t.text))) place ss ts h in
+    let t = parts.value in
+    let here = place + length (bytes_of parts.first) in
+    let both = shares-append base parts.first parts.second (subst (λ (xs : List (Spelled TvfRecord)). ShareMost base xs) parts.all shares) in
+    let one = term_only bits before place parts.first t parts.one both.0 in
+    let more = records_headed t (terms_plan bits n (Some t.text)) here parts.second ts parts.two in
+    let rest = terms_only bits n (Some t.text) here parts.second more.0 more.1 (subst (λ (x : List ℕ). ShareMost x parts.second) one.next both.1) in (
+      ap (λ (xs : List (Spelled TvfRecord)). bytes_of xs) parts.all ∙ bytes_of-append parts.first parts.second ∙ ap (λ (x : List ℕ). x ++ bytes_of parts.second) one.is
+      ∙ ap (λ (x : List ℕ). vector_term_bytes base t ++ x) rest.0 ∙ ap (λ (xs : List VectorTerm). vector_terms_bytes base xs) (sym more.2),
+      ap (λ (xs : List VectorTerm). length xs) more.2 ∙ ap suc rest.1,
+    )

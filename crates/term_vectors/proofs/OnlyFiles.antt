@@ -3,11 +3,11 @@ use Rattle.std.proofs.Common.{◌≡◌, ◌≢◌, ℕ, zero, suc, ◌+◌, Boo
 use Rattle.std.specs.Prelude.{is_none}
 use Rattle.std.specs.Option.{unwrap_or}
 use Rattle.std.specs.List.{flat_map}
-use Rattle.std.proofs.lemmas.List.{append-nil}
+use Rattle.std.proofs.lemmas.List.{append-nil, take_all}
 use Rattle.lu_types.specs.Tables.{TableField}
 use Rattle.lu_types.specs.declared.stored.Window.{Window}
 use Rattle.lu_types.specs.FilePlans.{StandFor}
-use Rattle.lu_types.specs.Stores.{greatest_place, windowed}
+use Rattle.lu_types.specs.Stores.{greatest_place, windowed, whole_store}
 use Rattle.lu_grammar.specs.Parts.{int64, spelling}
 use Rattle.lu_grammar.specs.Records.{Spells, first_broken}
 use Rattle.lu_grammar.specs.Meaning.{Spelled, bytes_of, Reads}
@@ -109,3 +109,11 @@ only_written total window fields tvx tvd tvf seen (at, at_read, (slots, slots_re
       sym (written_many 4 4 documents) ∙ sym (ap (λ (ps : List DocumentPlaces). length ps) heads.1) ∙ stated.1,
       seen_is,
     )
+
+pub only_written-whole : (total : ℕ) (fields : List TableField) (tvx tvd tvf : List ℕ) (documents : List (List StoredVector))
+    (stand : StandFor (vector_files total (whole_store total) fields (Some tvx) (Some tvd) (Some tvf)) documents) → MakeWrittenChoices total (whole_store total) fields tvx tvd tvf documents stand
+    → (tvx ≡ tvx_bytes documents) × (tvd ≡ tvd_bytes documents) × (tvf ≡ tvf_bytes documents)
+only_written-whole total fields tvx tvd tvf documents stand made =
+    let (ds, x, d, f, many, seen) = only_written total (whole_store total) fields tvx tvd tvf documents stand made in
+    let same : ds ≡ documents = sym (take_all total ds (omega (arith, many))) ∙ sym seen in
+    (x ∙ ap (λ (es : List (List StoredVector)). tvx_bytes es) same, d ∙ ap (λ (es : List (List StoredVector)). tvd_bytes es) same, f ∙ ap (λ (es : List (List StoredVector)). tvf_bytes es) same)

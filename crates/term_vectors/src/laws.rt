@@ -7,7 +7,7 @@ ghost use Rattle.lu_types.specs.Tables.{TableField};
 ghost use Rattle.lu_types.specs.declared.stored.Window.{Window};
 ghost use Rattle.lu_grammar.specs.Bytes.{IsBytes, Cursor};
 ghost use Rattle.lu_grammar.specs.Plans.{read_plan};
-ghost use Rattle.lu_types.specs.Stores.{header_length, greatest_place, windowed};
+ghost use Rattle.lu_types.specs.Stores.{header_length, greatest_place, windowed, whole_store};
 ghost use Rattle.lu_model.specs.Index.{Span, VectorTerm};
 ghost use Rattle.lu_model.specs.Valid.{IsVectorTerm};
 ghost use Rattle.term_vectors.specs.Format.{vector_format, document_length, start_modulus, bit_positions, bit_offsets};
@@ -47,12 +47,15 @@ pub fn written_is_read()
 
 /// Nothing else is read so where the choices are the writer's: three files that stand for vectors, whose texts share what they can with
 /// the text before, and whose documents without vectors stand in `.tvf` where those before them end, are what the writer gives for some
-/// documents, and stand for those of them that the window has.
+/// documents, and stand for those of them that the window has: where it is the whole store, for these.
 pub fn only_written_is_read()
-    ensures { (total : ℕ) (window : Window) (fields : List TableField) (tvx tvd tvf : List ℕ) (seen : List (List StoredVector))
+    ensures window { (total : ℕ) (window : Window) (fields : List TableField) (tvx tvd tvf : List ℕ) (seen : List (List StoredVector))
         (stand : StandFor (vector_files total window fields (Some tvx) (Some tvd) (Some tvf)) seen) → MakeWrittenChoices total window fields tvx tvd tvf seen stand
         → (documents : List (List StoredVector)) × (tvx ≡ tvx_bytes documents) × (tvd ≡ tvd_bytes documents) × (tvf ≡ tvf_bytes documents) × (length documents ≡ total)
         × (seen ≡ windowed window documents) }
+    ensures whole { (total : ℕ) (fields : List TableField) (tvx tvd tvf : List ℕ) (documents : List (List StoredVector))
+        (stand : StandFor (vector_files total (whole_store total) fields (Some tvx) (Some tvd) (Some tvf)) documents)
+        → MakeWrittenChoices total (whole_store total) fields tvx tvd tvf documents stand → (tvx ≡ tvx_bytes documents) × (tvd ≡ tvd_bytes documents) × (tvf ≡ tvf_bytes documents) }
 {}
 
 /// What a writer holds. Documents: it begins with none; with a document begun it holds these and an open one without vectors; once that

@@ -26,22 +26,49 @@ unfolding text_after_all
 text_after-append before [] ys = refl
 text_after-append before (x ∷ xs) ys = text_after-append (text_behind before x.it) xs ys
 
--- what holds of all holds of both parts
+-- what holds of all holds of both parts, and what holds of both holds of all
 pub shares-append : (before : List ℕ) (xs ys : List (Spelled TvfRecord)) → ShareMost before (xs ++ ys) → ShareMost before xs × ShareMost (text_after_all before xs) ys
 unfolding ShareMost text_after_all
 shares-append before [] ys h = (tt, h)
 shares-append before (x ∷ xs) ys h = let rest = shares-append (text_behind before x.it) xs ys h.1 in ((h.0, rest.0), rest.1)
 
--- records that are spelled so, behind which the text before is what it was
-record SpellsInTerm (ss : List (Spelled TvfRecord)) (wanted : List ℕ) : Type 0 where
-  is : bytes_of ss ≡ wanted
-  same : (before : List ℕ) → text_after_all before ss ≡ before
+pub shares-join : (before : List ℕ) (xs ys : List (Spelled TvfRecord)) → ShareMost before xs → ShareMost (text_after_all before xs) ys → ShareMost before (xs ++ ys)
+unfolding ShareMost text_after_all
+shares-join before [] ys front back = back
+shares-join before (x ∷ xs) ys front back = (front.0, shares-join (text_behind before x.it) xs ys front.1 back)
+
+-- records that are spelled so, of which none is a term: behind them the text before is what it was
+pub record SpellsInTerm (ss : List (Spelled TvfRecord)) (wanted : List ℕ) : Type 0 where
+  pub is : bytes_of ss ≡ wanted
+  pub same : (before : List ℕ) → text_after_all before ss ≡ before
+  pub shares : (before : List ℕ) → ShareMost before ss
+
+-- a record that is no term
+record IsNoTerm (r : TvfRecord) : Type 0 where
+  same : (before : List ℕ) → text_behind before r ≡ before
+  shares : (before : List ℕ) → SharesMost before r
+
+no-term_none : (ss : List (Spelled TvfRecord)) (wanted : List ℕ) → ss ≡ [] → [] ≡ wanted → SpellsInTerm ss wanted
+unfolding ShareMost text_after_all
+no-term_none ss wanted none is = record {
+  is = ap (λ (xs : List (Spelled TvfRecord)). bytes_of xs) none ∙ is;
+  same = λ before. ap (λ (xs : List (Spelled TvfRecord)). text_after_all before xs) none;
+  shares = λ before. subst (λ (xs : List (Spelled TvfRecord)). ShareMost before xs) (sym none) tt;
+}
+
+no-term_more : (s : Spelled TvfRecord) (rest ss : List (Spelled TvfRecord)) (a b wanted : List ℕ) → ss ≡ s ∷ rest → s.front ≡ a → IsNoTerm s.it → SpellsInTerm rest b → a ++ b ≡ wanted → SpellsInTerm ss wanted
+unfolding ShareMost text_after_all
+no-term_more s rest ss a b wanted all front one more is = record {
+  is = ap (λ (xs : List (Spelled TvfRecord)). bytes_of xs) all ∙ ap (λ (t : List ℕ). t ++ bytes_of rest) front ∙ ap (λ (t : List ℕ). a ++ t) more.is ∙ is;
+  same = λ before. ap (λ (xs : List (Spelled TvfRecord)). text_after_all before xs) all ∙ ap (λ (t : List ℕ). text_after_all t rest) (one.same before) ∙ more.same before;
+  shares = λ before. subst (λ (xs : List (Spelled TvfRecord)). ShareMost before xs) (sym all) (one.shares before, subst (λ (t : List ℕ). ShareMost t rest) (sym (one.same before)) (more.shares before));
+}
 
 -- ---- positions
 
 record SpellsPosition (last : ℕ) (s : Spelled TvfRecord) : Type 0 where
   is : s.front ≡ spelling vint (position_after last s.it - last)
-  same : (before : List ℕ) → text_behind before s.it ≡ before
+  none : IsNoTerm s.it
 
 position_spelled : (last : ℕ) (s : Spelled TvfRecord) → Spells position_shape s.it s.front → SpellsPosition last s
 position_spelled last s spells =
@@ -49,14 +76,14 @@ position_spelled last s spells =
     let back : one.value ≡ last + one.value - last = omega arith in
     record {
       is = one.front_is ∙ ap (λ (n : ℕ). spelling vint n) back ∙ ap (λ (r : TvfRecord). spelling vint (position_after last r - last)) one.is;
-      same = λ before. ap (λ (r : TvfRecord). text_behind before r) (sym one.is);
+      none = subst IsNoTerm one.is (record { same = λ before. refl; shares = λ before. tt });
     }
 
 positions_only : (n last place : ℕ) (ss : List (Spelled TvfRecord)) (ps : List ℕ) → AreRecordsOf (positions_plan n last) place ss ps → SpellsInTerm ss (vector_positions_bytes last ps)
-unfolding positions_plan vector_positions_bytes text_after_all
+unfolding positions_plan vector_positions_bytes
 positions_only zero last place ss ps h =
     let none = records_done [] ps place ss h in
-    record { is = ap (λ (xs : List (Spelled TvfRecord)). bytes_of xs) none.0 ∙ ap (λ (qs : List ℕ). vector_positions_bytes last qs) none.1; same = λ before. ap (λ (xs : List (Spelled TvfRecord)). text_after_all before xs) none.0 }
+    no-term_none ss (vector_positions_bytes last ps) none.0 (ap (λ (qs : List ℕ). vector_positions_bytes last qs) none.1)
 positions_only (suc n) last place ss ps h =
     let parts = records_due position_shape (λ _ r. position_conditions last r) (λ _ r. headed (position_after last r) (positions_plan n (position_after last r))) place ss ps h in
     let s = parts.first in
@@ -65,18 +92,14 @@ positions_only (suc n) last place ss ps h =
     let more = records_headed p (positions_plan n p) here parts.rest ps parts.others in
     let one = position_spelled last s parts.spells in
     let rest = positions_only n p here parts.rest more.0 more.1 in
-    record {
-      is = ap (λ (xs : List (Spelled TvfRecord)). bytes_of xs) parts.all ∙ ap (λ (t : List ℕ). t ++ bytes_of parts.rest) one.is ∙ ap (λ (t : List ℕ). spelling vint (p - last) ++ t) rest.is
-          ∙ ap (λ (qs : List ℕ). vector_positions_bytes last qs) (sym more.2);
-      same = λ before. ap (λ (xs : List (Spelled TvfRecord)). text_after_all before xs) parts.all ∙ ap (λ (t : List ℕ). text_after_all t parts.rest) (one.same before) ∙ rest.same before;
-    }
+    no-term_more s parts.rest ss (spelling vint (p - last)) (vector_positions_bytes p more.0) (vector_positions_bytes last ps) parts.all one.is one.none rest (ap (λ (qs : List ℕ). vector_positions_bytes last qs) (sym more.2))
 
 -- ---- spans
 
 record SpellsPair (last : ℕ) (s : Spelled TvfRecord) : Type 0 where
   is : s.front ≡ span_bytes last (span_after last s.it)
   low : (span_after last s.it).end < 2 ^ 31
-  same : (before : List ℕ) → text_behind before s.it ≡ before
+  none : IsNoTerm s.it
 
 not_above : (a b : Bool) → first_broken (record { rule = 113; broken = a || b } ∷ []) ≡ None → b ≡ false
 not_above true b h = cc
@@ -97,14 +120,14 @@ pair_spelled last s low (far, back, far_fits, front_is, tail) good =
       is = front_is ∙ ap (λ (n : ℕ). spelling vint n ++ back) (far_back last far low far_fits) ∙ ap (λ (t : List ℕ). spelling vint (start_delta last start) ++ t) (one.front_is ∙ ap (λ (n : ℕ). spelling num n) long_back)
           ∙ ap (λ (r : TvfRecord). span_bytes last (span_after last r)) one.is;
       low = omega (arith, end);
-      same = λ before. ap (λ (r : TvfRecord). text_behind before r) (sym one.is);
+      none = subst IsNoTerm one.is (record { same = λ before. refl; shares = λ before. tt });
     }
 
 spans_only : (n last place : ℕ) (ss : List (Spelled TvfRecord)) (spans : List Span) → last < 2 ^ 31 → AreRecordsOf (spans_plan n last) place ss spans → SpellsInTerm ss (vector_spans_bytes last spans)
-unfolding spans_plan vector_spans_bytes text_after_all
+unfolding spans_plan vector_spans_bytes
 spans_only zero last place ss spans low h =
     let none = records_done [] spans place ss h in
-    record { is = ap (λ (xs : List (Spelled TvfRecord)). bytes_of xs) none.0 ∙ ap (λ (qs : List Span). vector_spans_bytes last qs) none.1; same = λ before. ap (λ (xs : List (Spelled TvfRecord)). text_after_all before xs) none.0 }
+    no-term_none ss (vector_spans_bytes last spans) none.0 (ap (λ (qs : List Span). vector_spans_bytes last qs) none.1)
 spans_only (suc n) last place ss spans low h =
     let parts = records_due pair_shape (λ _ r. pair_conditions last r) (λ _ r. headed (span_after last r) (spans_plan n (span_after last r).end)) place ss spans h in
     let s = parts.first in
@@ -113,11 +136,7 @@ spans_only (suc n) last place ss spans low h =
     let more = records_headed span (spans_plan n span.end) here parts.rest spans parts.others in
     let one = pair_spelled last s low parts.spells parts.unbroken in
     let rest = spans_only n span.end here parts.rest more.0 one.low more.1 in
-    record {
-      is = ap (λ (xs : List (Spelled TvfRecord)). bytes_of xs) parts.all ∙ ap (λ (t : List ℕ). t ++ bytes_of parts.rest) one.is ∙ ap (λ (t : List ℕ). span_bytes last span ++ t) rest.is
-          ∙ ap (λ (qs : List Span). vector_spans_bytes last qs) (sym more.2);
-      same = λ before. ap (λ (xs : List (Spelled TvfRecord)). text_after_all before xs) parts.all ∙ ap (λ (t : List ℕ). text_after_all t parts.rest) (one.same before) ∙ rest.same before;
-    }
+    no-term_more s parts.rest ss (span_bytes last span) (vector_spans_bytes span.end more.0) (vector_spans_bytes last spans) parts.all one.is one.none rest (ap (λ (qs : List Span). vector_spans_bytes last qs) (sym more.2))
 
 -- ---- a term
 
@@ -154,23 +173,24 @@ front_spelled before s (prefix, a, prefix_fits, front_is, (n, b, n_fits, a_is, (
       next = ap (λ (r : TvfRecord). text_behind base r) (sym one.is) ∙ ap (λ (r : TvfRecord). text_after before r) one.is;
     }
 
--- records that spell a term, behind which its text is the text before
-record SpellsTerm (base : List ℕ) (t : VectorTerm) (ss : List (Spelled TvfRecord)) : Type 0 where
-  is : bytes_of ss ≡ vector_term_bytes base t
-  next : text_after_all base ss ≡ t.text
+-- the front of a term, and its positions and spans
+pub record PartsOfTerm (before : Option (List ℕ)) (ss : List (Spelled TvfRecord)) (t : VectorTerm) : Type 0 where
+  pub first : Spelled TvfRecord
+  pub rest : List (Spelled TvfRecord)
+  pub all : ss ≡ first ∷ rest
+  pub spells : Spells term_shape first.it first.front
+  pub unbroken : first_broken (term_conditions before first.it) ≡ None
+  pub text : text_after before first.it ≡ t.text
+  pub freq : freq_of first.it ≡ t.frequency
+  pub others : SpellsInTerm rest (vector_positions_bytes 0 t.positions ++ vector_spans_bytes 0 t.spans)
 
-term_only : (bits : ℕ) (before : Option (List ℕ)) (place : ℕ) (ss : List (Spelled TvfRecord)) (t : VectorTerm) → AreRecordsOf (term_plan bits before) place ss t → ShareMost (unwrap_or before []) ss
-    → SpellsTerm (unwrap_or before []) t ss
-unfolding ShareMost text_after_all
-term_only bits before place ss t h shares =
-    let base = unwrap_or before [] in
+pub term_parts : (bits : ℕ) (before : Option (List ℕ)) (place : ℕ) (ss : List (Spelled TvfRecord)) (t : VectorTerm) → AreRecordsOf (term_plan bits before) place ss t → PartsOfTerm before ss t
+term_parts bits before place ss t h =
     let whole : TvfRecord → List ℕ → List Span → VectorTerm = λ r ps spans. record { text = text_after before r; frequency = freq_of r; positions = ps; spans = spans } in
     let parts = records_due term_shape (λ _ r. term_conditions before r)
     (λ _ r. and_then (positions_plan (kept_count bit_positions bits (freq_of r)) 0) (λ ps. and_then (spans_plan (kept_count bit_offsets bits (freq_of r)) 0) (λ spans. done (whole r ps spans)))) place ss t h in
     let s = parts.first in
     let here = place + length s.front in
-    let front_shares = subst (λ (xs : List (Spelled TvfRecord)). ShareMost base xs) parts.all shares in
-    let front = front_spelled before s parts.spells parts.unbroken front_shares.0 in
     let spans_due = spans_plan (kept_count bit_offsets bits (freq_of s.it)) 0 in
     let second = records_then (positions_plan (kept_count bit_positions bits (freq_of s.it)) 0) (λ ps. and_then spans_due (λ spans. done (whole s.it ps spans))) here parts.rest t parts.others in
     let ps = second.value in
@@ -181,33 +201,67 @@ term_only bits before place ss t h shares =
     let positions = positions_only (kept_count bit_positions bits (freq_of s.it)) 0 here second.first ps second.one in
     let spans = spans_only (kept_count bit_offsets bits (freq_of s.it)) 0 there third.first third.value zero_low third.one in
     let all_spans : second.second ≡ third.first = third.all ∙ ap (λ (xs : List (Spelled TvfRecord)). third.first ++ xs) last.0 ∙ append-nil third.first in
-    let all : ss ≡ s ∷ (second.first ++ third.first) = parts.all ∙ ap (λ (xs : List (Spelled TvfRecord)). s ∷ xs) (second.all ∙ ap (λ (xs : List (Spelled TvfRecord)). second.first ++ xs) all_spans) in
-    let behind : text_after_all (text_behind base s.it) (second.first ++ third.first) ≡ text_behind base s.it =
-    text_after-append (text_behind base s.it) second.first third.first ∙ spans.same (text_after_all (text_behind base s.it) second.first) ∙ positions.same (text_behind base s.it) in
+    let all_rest : parts.rest ≡ second.first ++ third.first = second.all ∙ ap (λ (xs : List (Spelled TvfRecord)). second.first ++ xs) all_spans in
     record {
-      is = ap (λ (xs : List (Spelled TvfRecord)). bytes_of xs) all ∙ ap (λ (x : List ℕ). s.front ++ x) (bytes_of-append second.first third.first ∙ ap (λ (x : List ℕ). x ++ bytes_of third.first) positions.is ∙ ap (λ (x : List ℕ). vector_positions_bytes 0 ps ++ x) spans.is)
-          ∙ ap (λ (x : List ℕ). x ++ (vector_positions_bytes 0 ps ++ vector_spans_bytes 0 third.value)) front.is ∙ ap (λ (x : VectorTerm). vector_term_bytes base x) last.1;
-      next = ap (λ (xs : List (Spelled TvfRecord)). text_after_all base xs) all ∙ behind ∙ front.next ∙ ap (λ (x : VectorTerm). x.text) last.1;
+      first = s;
+      rest = parts.rest;
+      all = parts.all;
+      spells = parts.spells;
+      unbroken = parts.unbroken;
+      text = ap (λ (x : VectorTerm). x.text) last.1;
+      freq = ap (λ (x : VectorTerm). x.frequency) last.1;
+      others = record {
+        is = ap (λ (xs : List (Spelled TvfRecord)). bytes_of xs) all_rest ∙ bytes_of-append second.first third.first ∙ ap (λ (x : List ℕ). x ++ bytes_of third.first) positions.is
+            ∙ ap (λ (x : List ℕ). vector_positions_bytes 0 ps ++ x) spans.is ∙ ap (λ (x : VectorTerm). vector_positions_bytes 0 x.positions ++ vector_spans_bytes 0 x.spans) last.1;
+        same = λ base. ap (λ (xs : List (Spelled TvfRecord)). text_after_all base xs) all_rest ∙ text_after-append base second.first third.first ∙ spans.same (text_after_all base second.first) ∙ positions.same base;
+        shares = λ base. subst (λ (xs : List (Spelled TvfRecord)). ShareMost base xs) (sym all_rest)
+            (shares-join base second.first third.first (positions.shares base) (spans.shares (text_after_all base second.first)));
+      };
+    }
+
+-- records that spell a term, behind which its text is the text before
+pub record SpellsTerm (base : List ℕ) (t : VectorTerm) (ss : List (Spelled TvfRecord)) : Type 0 where
+  pub is : bytes_of ss ≡ vector_term_bytes base t
+  pub next : text_after_all base ss ≡ t.text
+
+pub term_only : (before : Option (List ℕ)) (ss : List (Spelled TvfRecord)) (t : VectorTerm) → PartsOfTerm before ss t → ShareMost (unwrap_or before []) ss → SpellsTerm (unwrap_or before []) t ss
+unfolding ShareMost text_after_all
+term_only before ss t parts shares =
+    let base = unwrap_or before [] in
+    let s = parts.first in
+    let both = subst (λ (xs : List (Spelled TvfRecord)). ShareMost base xs) parts.all shares in
+    let front = front_spelled before s parts.spells parts.unbroken both.0 in
+    record {
+      is = ap (λ (xs : List (Spelled TvfRecord)). bytes_of xs) parts.all ∙ ap (λ (x : List ℕ). s.front ++ x) parts.others.is
+          ∙ ap (λ (x : List ℕ). x ++ (vector_positions_bytes 0 t.positions ++ vector_spans_bytes 0 t.spans)) (front.is ∙ ap (λ (x : List ℕ). term_front_bytes base x (freq_of s.it)) parts.text ∙ ap (λ (n : ℕ). term_front_bytes base t.text n) parts.freq);
+      next = ap (λ (xs : List (Spelled TvfRecord)). text_after_all base xs) parts.all ∙ parts.others.same (text_behind base s.it) ∙ front.next ∙ parts.text;
     }
 
 -- ---- the terms of a vector
 
+pub terms_many : (bits n : ℕ) (before : Option (List ℕ)) (place : ℕ) (ss : List (Spelled TvfRecord)) (ts : List VectorTerm) → AreRecordsOf (terms_plan bits n before) place ss ts → length ts ≡ n
+unfolding terms_plan
+terms_many bits zero before place ss ts h = ap (λ (xs : List VectorTerm). length xs) (sym (records_done [] ts place ss h).1)
+terms_many bits (suc n) before place ss ts h =
+    let parts = records_then (term_plan bits before) (λ t. headed t (terms_plan bits n (Some t.text))) place ss ts h in
+    let here = place + length (bytes_of parts.first) in
+    let more = records_headed parts.value (terms_plan bits n (Some parts.value.text)) here parts.second ts parts.two in
+    ap (λ (xs : List VectorTerm). length xs) more.2 ∙ ap suc (terms_many bits n (Some parts.value.text) here parts.second more.0 more.1)
+
 pub terms_only : (bits n : ℕ) (before : Option (List ℕ)) (place : ℕ) (ss : List (Spelled TvfRecord)) (ts : List VectorTerm) → AreRecordsOf (terms_plan bits n before) place ss ts → ShareMost (unwrap_or before []) ss
-    → (bytes_of ss ≡ vector_terms_bytes (unwrap_or before []) ts) × (length ts ≡ n)
+    → bytes_of ss ≡ vector_terms_bytes (unwrap_or before []) ts
 unfolding terms_plan vector_terms_bytes
 terms_only bits zero before place ss ts h shares =
     let none = records_done [] ts place ss h in
-    (ap (λ (xs : List (Spelled TvfRecord)). bytes_of xs) none.0 ∙ ap (λ (xs : List VectorTerm). vector_terms_bytes (unwrap_or before []) xs) none.1, ap (λ (xs : List VectorTerm). length xs) (sym none.1))
+    ap (λ (xs : List (Spelled TvfRecord)). bytes_of xs) none.0 ∙ ap (λ (xs : List VectorTerm). vector_terms_bytes (unwrap_or before []) xs) none.1
 terms_only bits (suc n) before place ss ts h shares =
     let base = unwrap_or before [] in
     let parts = records_then (term_plan bits before) (λ t. headed t (terms_plan bits n (Some t.text))) place ss ts h in
     let t = parts.value in
     let here = place + length (bytes_of parts.first) in
     let both = shares-append base parts.first parts.second (subst (λ (xs : List (Spelled TvfRecord)). ShareMost base xs) parts.all shares) in
-    let one = term_only bits before place parts.first t parts.one both.0 in
+    let one = term_only before parts.first t (term_parts bits before place parts.first t parts.one) both.0 in
     let more = records_headed t (terms_plan bits n (Some t.text)) here parts.second ts parts.two in
-    let rest = terms_only bits n (Some t.text) here parts.second more.0 more.1 (subst (λ (x : List ℕ). ShareMost x parts.second) one.next both.1) in (
-      ap (λ (xs : List (Spelled TvfRecord)). bytes_of xs) parts.all ∙ bytes_of-append parts.first parts.second ∙ ap (λ (x : List ℕ). x ++ bytes_of parts.second) one.is
-      ∙ ap (λ (x : List ℕ). vector_term_bytes base t ++ x) rest.0 ∙ ap (λ (xs : List VectorTerm). vector_terms_bytes base xs) (sym more.2),
-      ap (λ (xs : List VectorTerm). length xs) more.2 ∙ ap suc rest.1,
-    )
+    let rest = terms_only bits n (Some t.text) here parts.second more.0 more.1 (subst (λ (x : List ℕ). ShareMost x parts.second) one.next both.1) in
+    ap (λ (xs : List (Spelled TvfRecord)). bytes_of xs) parts.all ∙ bytes_of-append parts.first parts.second ∙ ap (λ (x : List ℕ). x ++ bytes_of parts.second) one.is
+    ∙ ap (λ (x : List ℕ). vector_term_bytes base t ++ x) rest ∙ ap (λ (xs : List VectorTerm). vector_terms_bytes base xs) (sym more.2)

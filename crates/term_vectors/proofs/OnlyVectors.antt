@@ -16,7 +16,7 @@ use Rattle.term_vectors.proofs.FormatLemmas.{same_format}
 use Rattle.term_vectors.proofs.StandLemmas.{at_its_place}
 use Rattle.term_vectors.proofs.WritesVectors.{slots_from, all_slots}
 use Rattle.term_vectors.proofs.PlanRecords.{AreRecordsOf, bytes_of-append, records_done, records_due, records_then, records_headed, of_one}
-use Rattle.term_vectors.proofs.OnlyTerms.{text_after_all, shares-append, terms_only}
+use Rattle.term_vectors.proofs.OnlyTerms.{text_after_all, shares-append, terms_many, terms_only}
 
 -- ---- the header of each file
 
@@ -44,9 +44,9 @@ header_only {V} {R} of_number conditions rule same rest ss v h =
 
 -- ---- a vector
 
-record SpellsHeading (s : Spelled TvfRecord) : Type 0 where
-  is : s.front ≡ vector_heading_bytes (count_of_heading s.it) (bits_of_heading s.it)
-  next : (before : List ℕ) → text_behind before s.it ≡ []
+pub record SpellsHeading (s : Spelled TvfRecord) : Type 0 where
+  pub is : s.front ≡ vector_heading_bytes (count_of_heading s.it) (bits_of_heading s.it)
+  pub next : (before : List ℕ) → text_behind before s.it ≡ []
 
 heading_spelled : (s : Spelled TvfRecord) → Spells heading_shape s.it s.front → SpellsHeading s
 heading_spelled s (count, a, fits, front_is, tail) =
@@ -56,37 +56,55 @@ heading_spelled s (count, a, fits, front_is, tail) =
       next = λ before. ap (λ (r : TvfRecord). text_behind before r) (sym one.is);
     }
 
--- records that spell a vector, which stands where its place is
-record SpellsVector (at : VectorPlace) (place : ℕ) (ss : List (Spelled TvfRecord)) (v : StoredVector) : Type 0 where
-  is : bytes_of ss ≡ vector_bytes v
-  placed : at ≡ record { field = v.field; place = place }
+-- the heading of a vector, which stands where its place is, and its terms
+pub record PartsOfVector (at : VectorPlace) (place : ℕ) (ss : List (Spelled TvfRecord)) (v : StoredVector) : Type 0 where
+  pub first : Spelled TvfRecord
+  pub rest : List (Spelled TvfRecord)
+  pub all : ss ≡ first ∷ rest
+  pub front : first.front ≡ vector_heading_bytes (length v.terms) v.bits
+  pub heading : SpellsHeading first
+  pub count : ℕ
+  pub there : ℕ
+  pub terms : AreRecordsOf (terms_plan (bits_of_heading first.it) count None) there rest v.terms
+  pub placed : at ≡ record { field = v.field; place = place }
 
-vector_only : (at : VectorPlace) (before : List ℕ) (place : ℕ) (ss : List (Spelled TvfRecord)) (v : StoredVector) → AreRecordsOf (vector_plan at) place ss v → ShareMost before ss → SpellsVector at place ss v
-unfolding ShareMost
-vector_only at before place ss v h shares =
+pub vector_parts : (at : VectorPlace) (place : ℕ) (ss : List (Spelled TvfRecord)) (v : StoredVector) → AreRecordsOf (vector_plan at) place ss v → PartsOfVector at place ss v
+vector_parts at place ss v h =
     let whole : TvfRecord → List VectorTerm → StoredVector = λ r terms. record { field = at.field; bits = bits_of_heading r; terms = terms } in
     let parts = records_due heading_shape (λ p r. heading_conditions at.place p r) (λ _ r. and_then (terms_plan (bits_of_heading r) (count_of_heading r) None) (λ terms. done (whole r terms))) place ss v h in
     let s = parts.first in
     let here = place + length s.front in
     let bits = bits_of_heading s.it in
     let count = count_of_heading s.it in
-    let front = heading_spelled s parts.spells in
-    let both = subst (λ (xs : List (Spelled TvfRecord)). ShareMost before xs) parts.all shares in
+    let heading = heading_spelled s parts.spells in
     let second = records_then (terms_plan bits count None) (λ terms. done (whole s.it terms)) here parts.rest v parts.others in
     let last = records_done (whole s.it second.value) v (here + length (bytes_of second.first)) second.second second.two in
     let same : parts.rest ≡ second.first = second.all ∙ ap (λ (xs : List (Spelled TvfRecord)). second.first ++ xs) last.0 ∙ append-nil second.first in
-    let from_none : ShareMost [] second.first = subst (λ (xs : List (Spelled TvfRecord)). ShareMost [] xs) same (subst (λ (t : List ℕ). ShareMost t parts.rest) (front.next before) both.1) in
-    let terms = terms_only bits count None here second.first second.value second.one from_none in
     let place_is : place ≡ at.place = at_its_place at.place place s.it parts.unbroken in
     record {
-      is = ap (λ (xs : List (Spelled TvfRecord)). bytes_of xs) (parts.all ∙ ap (λ (xs : List (Spelled TvfRecord)). s ∷ xs) same) ∙ ap (λ (t : List ℕ). t ++ bytes_of second.first) front.is
-          ∙ ap (λ (t : List ℕ). vector_heading_bytes count bits ++ t) terms.0 ∙ ap (λ (n : ℕ). vector_heading_bytes n bits ++ vector_terms_bytes [] second.value) (sym terms.1)
-          ∙ ap (λ (w : StoredVector). vector_bytes w) last.1;
+      first = s;
+      rest = parts.rest;
+      all = parts.all;
+      front = heading.is ∙ ap (λ (n : ℕ). vector_heading_bytes n bits) (sym (terms_many bits count None here second.first second.value second.one)) ∙ ap (λ (w : StoredVector). vector_heading_bytes (length w.terms) w.bits) last.1;
+      heading = heading;
+      count = count;
+      there = here;
+      terms = subst (λ (ts : List VectorTerm). AreRecordsOf (terms_plan bits count None) here parts.rest ts) (ap (λ (w : StoredVector). w.terms) last.1)
+          (subst (λ (xs : List (Spelled TvfRecord)). AreRecordsOf (terms_plan bits count None) here xs second.value) (sym same) second.one);
       placed = ap (λ (n : ℕ). at_place at.field n) (sym place_is) ∙ ap (λ (w : StoredVector). at_place w.field place) last.1;
     }
   where
     at_place : ℕ → ℕ → VectorPlace
     at_place field place = record { field = field; place = place }
+
+pub vector_only : (at : VectorPlace) (before : List ℕ) (place : ℕ) (ss : List (Spelled TvfRecord)) (v : StoredVector) → PartsOfVector at place ss v → ShareMost before ss → bytes_of ss ≡ vector_bytes v
+unfolding ShareMost
+vector_only at before place ss v parts shares =
+    let s = parts.first in
+    let both = subst (λ (xs : List (Spelled TvfRecord)). ShareMost before xs) parts.all shares in
+    let from_none : ShareMost [] parts.rest = subst (λ (t : List ℕ). ShareMost t parts.rest) (parts.heading.next before) both.1 in
+    ap (λ (xs : List (Spelled TvfRecord)). bytes_of xs) parts.all ∙ ap (λ (t : List ℕ). t ++ bytes_of parts.rest) parts.front
+    ∙ ap (λ (t : List ℕ). vector_heading_bytes (length v.terms) v.bits ++ t) (terms_only (bits_of_heading s.it) parts.count None parts.there parts.rest v.terms parts.terms from_none)
 
 -- ---- vectors and documents
 
@@ -101,12 +119,13 @@ vectors_only (at ∷ slots) before place ss vs h shares =
     let v = parts.value in
     let here = place + length (bytes_of parts.first) in
     let both = shares-append before parts.first parts.second (subst (λ (xs : List (Spelled TvfRecord)). ShareMost before xs) parts.all shares) in
-    let one = vector_only at before place parts.first v parts.one both.0 in
+    let pieces = vector_parts at place parts.first v parts.one in
+    let one = vector_only at before place parts.first v pieces both.0 in
     let more = records_headed v (vectors_plan slots) here parts.second vs parts.two in
     let rest = vectors_only slots (text_after_all before parts.first) here parts.second more.0 more.1 both.1 in (
-      ap (λ (xs : List (Spelled TvfRecord)). bytes_of xs) parts.all ∙ bytes_of-append parts.first parts.second ∙ ap (λ (t : List ℕ). t ++ bytes_of parts.second) one.is ∙ ap (λ (t : List ℕ). vector_bytes v ++ t) rest.0
+      ap (λ (xs : List (Spelled TvfRecord)). bytes_of xs) parts.all ∙ bytes_of-append parts.first parts.second ∙ ap (λ (t : List ℕ). t ++ bytes_of parts.second) one ∙ ap (λ (t : List ℕ). vector_bytes v ++ t) rest.0
       ∙ ap (λ (ws : List StoredVector). vectors_bytes ws) (sym more.2),
-      ap (λ (a : VectorPlace). a ∷ slots) one.placed ∙ ap (λ (t : List VectorPlace). record { field = v.field; place = place } ∷ t) (rest.1 ∙ ap (λ (t : List ℕ). slots_from (place + length t) more.0) one.is)
+      ap (λ (a : VectorPlace). a ∷ slots) pieces.placed ∙ ap (λ (t : List VectorPlace). record { field = v.field; place = place } ∷ t) (rest.1 ∙ ap (λ (t : List ℕ). slots_from (place + length t) more.0) one)
       ∙ ap (λ (ws : List StoredVector). slots_from place ws) (sym more.2),
     )
 

@@ -11,7 +11,7 @@ use Rattle.term_vectors.specs.Format.{vector_format, format_shape, is_other_form
 use Rattle.term_vectors.specs.Fields.{VectorPlace}
 use Rattle.term_vectors.specs.Vectors.{TvfRecord, format, heading, StoredVector, format_conditions, count_of_heading, bits_of_heading, heading_shape, heading_conditions, terms_plan, vector_plan, vectors_plan, all_plan, tvf_plan}
 use Rattle.term_vectors.specs.VectorBytes.{vector_header_bytes, vector_heading_bytes, vector_terms_bytes, vector_bytes, vectors_bytes, tvf_bytes}
-use Rattle.term_vectors.specs.WrittenChoices.{text_behind, ShareMost}
+use Rattle.term_vectors.specs.WrittenChoices.{text_behind, SharesMost, ShareMost}
 use Rattle.term_vectors.proofs.FormatLemmas.{same_format}
 use Rattle.term_vectors.proofs.StandLemmas.{at_its_place}
 use Rattle.term_vectors.proofs.WritesVectors.{slots_from, all_slots}
@@ -20,15 +20,17 @@ use Rattle.term_vectors.proofs.OnlyTerms.{text_after_all, shares-append, terms_m
 
 -- ---- the header of each file
 
-pub record HeaderOf {V R : Type 0} (rest : Plan V R) (ss : List (Spelled R)) (v : V) : Type 0 where
+pub record HeaderOf {V R : Type 0} (of_number : ℤ → R) (rest : Plan V R) (ss : List (Spelled R)) (v : V) : Type 0 where
   pub first : Spelled R
   pub more : List (Spelled R)
   pub all : ss ≡ first ∷ more
+  pub number : ℤ
+  pub it : of_number number ≡ first.it
   pub is : first.front ≡ vector_header_bytes
   pub others : AreRecordsOf rest 4 more v
 
 pub header_only : {V R : Type 0} (of_number : ℤ → R) (conditions : R → List Condition) (rule : ℕ) → ((z : ℤ) → conditions (of_number z) ≡ format_rule rule z) → (rest : Plan V R) (ss : List (Spelled R)) (v : V)
-    → AreRecordsOf (due (format_shape of_number) (λ _ r. conditions r) (λ _ _. rest)) 0 ss v → HeaderOf rest ss v
+    → AreRecordsOf (due (format_shape of_number) (λ _ r. conditions r) (λ _ _. rest)) 0 ss v → HeaderOf of_number rest ss v
 header_only {V} {R} of_number conditions rule same rest ss v h =
     let parts = records_due (format_shape of_number) (λ _ r. conditions r) (λ _ _. rest) 0 ss v h in
     let one = of_one int32 of_number parts.first.it parts.first.front parts.spells in
@@ -36,7 +38,7 @@ header_only {V} {R} of_number conditions rule same rest ss v h =
     let is : parts.first.front ≡ vector_header_bytes = one.front_is ∙ ap (λ (z : ℤ). spelling int32 z) (same_format one.value (right (is_other_format one.value) good)) in
     let four : length vector_header_bytes ≡ 4 = refl in
     let place : 0 + length parts.first.front ≡ 4 = omega (arith, ap length is, four) in
-    record { first = parts.first; more = parts.rest; all = parts.all; is = is; others = subst (λ (p : ℕ). AreRecordsOf rest p parts.rest v) place parts.others }
+    record { first = parts.first; more = parts.rest; all = parts.all; number = one.value; it = one.is; is = is; others = subst (λ (p : ℕ). AreRecordsOf rest p parts.rest v) place parts.others }
   where
     right : (b : Bool) → first_broken (record { rule = rule; broken = b } ∷ []) ≡ None → b ≡ false
     right true q = cc
@@ -47,6 +49,7 @@ header_only {V} {R} of_number conditions rule same rest ss v h =
 pub record SpellsHeading (s : Spelled TvfRecord) : Type 0 where
   pub is : s.front ≡ vector_heading_bytes (count_of_heading s.it) (bits_of_heading s.it)
   pub next : (before : List ℕ) → text_behind before s.it ≡ []
+  pub shares : (before : List ℕ) → SharesMost before s.it
 
 heading_spelled : (s : Spelled TvfRecord) → Spells heading_shape s.it s.front → SpellsHeading s
 heading_spelled s (count, a, fits, front_is, tail) =
@@ -54,6 +57,7 @@ heading_spelled s (count, a, fits, front_is, tail) =
     record {
       is = front_is ∙ ap (λ (t : List ℕ). spelling num count ++ t) one.front_is ∙ ap (λ (r : TvfRecord). vector_heading_bytes (count_of_heading r) (bits_of_heading r)) one.is;
       next = λ before. ap (λ (r : TvfRecord). text_behind before r) (sym one.is);
+      shares = λ before. subst (λ (r : TvfRecord). SharesMost before r) one.is tt;
     }
 
 -- the heading of a vector, which stands where its place is, and its terms

@@ -58,6 +58,13 @@ pub fn only_written_is_read()
         → MakeWrittenChoices total (whole_store total) fields tvx tvd tvf documents stand → (tvx ≡ tvx_bytes documents) × (tvd ≡ tvd_bytes documents) × (tvf ≡ tvf_bytes documents) }
 {}
 
+/// The writer makes these choices: whatever is read of what it gives for some documents, each with vectors that an index can have.
+pub fn writer_makes_choices()
+    ensures { (documents : List (List StoredVector)) (fields : List TableField) (window : Window) → All AreWritableVectors documents → IsCheckableWindow fields window documents
+        → (stand : StandFor (vector_files (length documents) window fields (Some (tvx_bytes documents)) (Some (tvd_bytes documents)) (Some (tvf_bytes documents))) (windowed window documents))
+        → MakeWrittenChoices (length documents) window fields (tvx_bytes documents) (tvd_bytes documents) (tvf_bytes documents) (windowed window documents) stand }
+{}
+
 /// What a writer holds. Documents: it begins with none; with a document begun it holds these and an open one without vectors; once that
 /// has its vectors, it holds one document more.
 pub fn documents_are_held()

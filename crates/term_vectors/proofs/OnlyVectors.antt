@@ -16,7 +16,8 @@ use Rattle.term_vectors.proofs.FormatLemmas.{same_format}
 use Rattle.term_vectors.proofs.StandLemmas.{at_its_place}
 use Rattle.term_vectors.proofs.WritesVectors.{slots_from, all_slots}
 use Rattle.term_vectors.proofs.PlanRecords.{AreRecordsOf, bytes_of-append, records_done, records_due, records_then, records_headed, of_one}
-use Rattle.term_vectors.proofs.OnlyTerms.{text_after_all, shares-append, terms_many, terms_only}
+use Rattle.term_vectors.proofs.OnlyOccurrences.{text_after_all, shares-append}
+use Rattle.term_vectors.proofs.OnlyTerms.{terms_many, terms_only}
 
 -- ---- the header of each file
 

@@ -28,7 +28,8 @@ use Rattle.term_vectors.proofs.SharedLemmas.{shared-within}
 use Rattle.term_vectors.proofs.WritesVectors.{all_slots}
 use Rattle.term_vectors.proofs.WrittenFiles.{written_reads}
 use Rattle.term_vectors.proofs.PlanRecords.{AreRecordsOf, bytes_of-append, records_done, records_then, records_headed, of_one}
-use Rattle.term_vectors.proofs.OnlyTerms.{text_after_all, shares-join, PartsOfTerm, term_parts, term_only}
+use Rattle.term_vectors.proofs.OnlyOccurrences.{text_after_all, shares-join}
+use Rattle.term_vectors.proofs.OnlyTerms.{PartsOfTerm, term_parts, term_only}
 use Rattle.term_vectors.proofs.OnlyVectors.{header_only, PartsOfVector, vector_parts, vector_only}
 
 -- ---- bytes in another grouping

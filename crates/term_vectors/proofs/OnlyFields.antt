@@ -1,19 +1,19 @@
 -- `.tvd` that was read is what the writer gives, where its vectors stand where the writer's do.
-use Rattle.std.proofs.Common.{◌≡◌, ◌≢◌, ℕ, zero, suc, ◌+◌, ◌-◌, Bool, true, false, not, eqb, List, [], ◌∷◌, ◌++◌, length, map, None, refl, sym, ap, subst, ◌∙◌, append_assoc, arith}
+use Rattle.std.proofs.Common.{◌≡◌, ℕ, suc, ◌+◌, ◌-◌, Bool, true, false, not, eqb, List, [], ◌∷◌, ◌++◌, length, map, None, refl, sym, ap, ◌∙◌, arith}
 use Rattle.std.specs.List.{flat_map}
-use Rattle.std.proofs.lemmas.List.{append-nil, length-append}
+use Rattle.std.proofs.lemmas.List.{append-nil}
 use Rattle.lu_types.specs.Tables.{TableField}
 use Rattle.lu_types.specs.declared.stored.Window.{Window}
-use Rattle.lu_grammar.specs.Parts.{num, vlong, spelling}
-use Rattle.lu_grammar.specs.Records.{Spells, first_broken}
+use Rattle.lu_grammar.specs.Parts.{num, spelling}
+use Rattle.lu_grammar.specs.Records.{first_broken}
 use Rattle.lu_grammar.specs.Plans.{done, and_then}
 use Rattle.lu_grammar.specs.Meaning.{Spelled, bytes_of, Reads}
 use Rattle.lu_grammar.proofs.Codecs.{same-of}
 use Rattle.term_vectors.specs.declared.layout.DocumentPlaces.{DocumentPlaces}
 use Rattle.term_vectors.specs.Format.{headed}
-use Rattle.term_vectors.specs.Fields.{TvdRecord, VectorPlace, format, count, number, difference, stated, format_conditions, count_shape, count_conditions, number_shape, number_conditions, numbers_plan, difference_shape, difference_conditions, further_plan, placed, document_plan, is_within, documents_plan, tvd_plan}
+use Rattle.term_vectors.specs.Fields.{TvdRecord, VectorPlace, format, count, stated, format_conditions, count_shape, count_conditions, numbers_plan, further_plan, placed, document_plan, is_within, documents_plan, tvd_plan}
 use Rattle.term_vectors.specs.Vectors.{StoredVector}
-use Rattle.term_vectors.specs.VectorBytes.{vector_header_bytes, vector_bytes, vectors_bytes, vector_number_bytes, vector_length_bytes, differences_bytes, document_fields_bytes, tvd_bytes, written_places}
+use Rattle.term_vectors.specs.VectorBytes.{vector_header_bytes, vectors_bytes, vector_number_bytes, differences_bytes, document_fields_bytes, tvd_bytes, written_places}
 use Rattle.term_vectors.specs.WrittenChoices.{StandAtEnds}
 use Rattle.term_vectors.proofs.WritesVectors.{slots_from, all_slots}
 use Rattle.term_vectors.proofs.WritesFields.{further_from}
@@ -136,7 +136,7 @@ documents_only fields window nth place end (at ∷ places) ss slots (d ∷ ds) h
     let rest = documents_only fields window (suc nth) here (end + length (vectors_bytes d)) places parts.second more.0 ds more.1 both.1 free.1 in (
       ap (λ (xs : List (Spelled TvdRecord)). bytes_of xs) parts.all ∙ bytes_of-append parts.first parts.second ∙ ap (λ (t : List ℕ). t ++ bytes_of parts.second) one.is ∙ ap (λ (t : List ℕ). document_fields_bytes d ++ t) rest.0,
       ap (λ (p : ℕ). both_places p at.tvf ∷ places) one.tvd ∙ ap (λ (q : ℕ). both_places place q ∷ places) one.tvf
-      ∙ ap (λ (ps : List DocumentPlaces). both_places place end ∷ ps) (rest.1 ∙ ap (λ (t : List ℕ). written_places (place + length t) (end + length (vectors_bytes d)) ds) one.is),
+          ∙ ap (λ (ps : List DocumentPlaces). both_places place end ∷ ps) (rest.1 ∙ ap (λ (t : List ℕ). written_places (place + length t) (end + length (vectors_bytes d)) ds) one.is),
     )
   where
     both_places : ℕ → ℕ → DocumentPlaces

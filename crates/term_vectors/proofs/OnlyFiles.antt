@@ -1,6 +1,5 @@
 -- Three files that stand for vectors, and make the choices of the writer, are what it gives.
 use Rattle.std.proofs.Common.{◌≡◌, ◌≢◌, ℕ, zero, suc, ◌+◌, Bool, true, false, ◌||◌, cond, ltb, List, [], ◌∷◌, ◌++◌, length, Option, Some, None, refl, sym, ap, subst, ◌∙◌, arith, ℤ, pos, negsuc}
-use Rattle.std.specs.Prelude.{is_none}
 use Rattle.std.specs.Option.{unwrap_or}
 use Rattle.std.specs.List.{flat_map}
 use Rattle.std.proofs.lemmas.List.{append-nil, take_all}
@@ -76,7 +75,7 @@ places_only (suc n) before place ss all h =
     let more = records_headed at (places_plan n (Some at.tvd)) here parts.rest all parts.others in
     let rest = places_only n (Some at.tvd) here parts.rest more.0 more.1 in (
       ap (λ (xs : List (Spelled TvxRecord)). bytes_of xs) parts.all ∙ ap (λ (t : List ℕ). t ++ bytes_of parts.rest) front ∙ ap (λ (t : List ℕ). document_places_bytes at ++ t) rest.0
-      ∙ ap (λ (ps : List DocumentPlaces). flat_map document_places_bytes ps) (sym more.2),
+          ∙ ap (λ (ps : List DocumentPlaces). flat_map document_places_bytes ps) (sym more.2),
       ap (λ (ps : List DocumentPlaces). length ps) more.2 ∙ ap suc rest.1,
     )
 

@@ -1,20 +1,16 @@
 -- The positions and the spans of a term that was read are spelled as the writer does; and the text behind some records.
-use Rattle.std.proofs.Common.{◌≡◌, ℕ, zero, suc, ◌+◌, ◌-◌, ◌%◌, ◌^◌, ◌<◌, ◌≤◌, Bool, true, false, ◌||◌, ltb, List, [], ◌∷◌, ◌++◌, length, take, drop, Option, Some, None, refl, sym, ap, subst, ◌∙◌, append_assoc, arith}
-use Rattle.std.specs.Option.{unwrap_or}
-use Rattle.std.specs.Str.{is_utf8}
+use Rattle.std.proofs.Common.{◌≡◌, ℕ, zero, suc, ◌+◌, ◌-◌, ◌%◌, ◌^◌, ◌<◌, ◌≤◌, Bool, true, false, ◌||◌, ltb, List, [], ◌∷◌, ◌++◌, length, None, refl, sym, ap, subst, ◌∙◌, arith}
 use borrow.Author.Tests.{ltb-false}
-use Rattle.std.proofs.lemmas.List.{append-nil, length-append, length-take}
-use Rattle.lu_grammar.specs.Parts.{vint, num, bytes, spelling}
-use Rattle.lu_grammar.specs.Records.{Condition, Spells, first_broken}
-use Rattle.lu_grammar.specs.Plans.{done, and_then}
+use Rattle.lu_grammar.specs.Parts.{vint, num, spelling}
+use Rattle.lu_grammar.specs.Records.{Spells, first_broken}
 use Rattle.lu_grammar.specs.Meaning.{Spelled, bytes_of}
 use Rattle.lu_types.specs.Stores.{greatest_place}
-use Rattle.lu_model.specs.Index.{Span, VectorTerm}
-use Rattle.term_vectors.specs.Format.{start_modulus, bit_positions, bit_offsets, headed}
-use Rattle.term_vectors.specs.Vectors.{TvfRecord, position, pair, term, position_shape, position_after, position_conditions, positions_plan, pair_shape, span_after, pair_conditions, spans_plan, text_after, freq_of, prefix_of, kept_count, term_shape, term_conditions, term_plan, terms_plan}
-use Rattle.term_vectors.specs.VectorBytes.{vector_positions_bytes, start_delta, span_bytes, vector_spans_bytes, shared_length, term_front_bytes, vector_term_bytes, vector_terms_bytes}
+use Rattle.lu_model.specs.Index.{Span}
+use Rattle.term_vectors.specs.Format.{start_modulus, headed}
+use Rattle.term_vectors.specs.Vectors.{TvfRecord, position, pair, position_shape, position_after, position_conditions, positions_plan, pair_shape, span_after, pair_conditions, spans_plan}
+use Rattle.term_vectors.specs.VectorBytes.{vector_positions_bytes, start_delta, span_bytes, vector_spans_bytes}
 use Rattle.term_vectors.specs.WrittenChoices.{text_behind, SharesMost, ShareMost}
-use Rattle.term_vectors.proofs.PlanRecords.{AreRecordsOf, bytes_of-append, records_done, records_due, records_then, records_headed, of_one}
+use Rattle.term_vectors.proofs.PlanRecords.{AreRecordsOf, records_done, records_due, records_headed, of_one}
 
 -- the text behind all of the records
 unfoldable pub text_after_all : List ℕ → List (Spelled TvfRecord) → List ℕ

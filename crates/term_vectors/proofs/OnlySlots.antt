@@ -1,24 +1,16 @@
 -- The fields and the differences of a document's vectors that were read are spelled as the writer does.
-use Rattle.std.proofs.Common.{◌≡◌, ◌≢◌, ℕ, zero, suc, ◌+◌, ◌-◌, Bool, true, false, not, eqb, List, [], ◌∷◌, ◌++◌, length, map, None, refl, sym, ap, subst, ◌∙◌, append_assoc, arith}
+use Rattle.std.proofs.Common.{◌≡◌, ℕ, zero, suc, ◌+◌, ◌-◌, Bool, List, [], ◌∷◌, ◌++◌, length, map, refl, sym, ap, ◌∙◌, arith}
 use Rattle.std.specs.List.{flat_map}
-use Rattle.std.proofs.lemmas.List.{append-nil, length-append}
 use Rattle.lu_types.specs.Tables.{TableField}
-use Rattle.lu_types.specs.declared.stored.Window.{Window}
 use Rattle.lu_grammar.specs.Parts.{num, vlong, spelling}
-use Rattle.lu_grammar.specs.Records.{Spells, first_broken}
-use Rattle.lu_grammar.specs.Plans.{done, and_then}
-use Rattle.lu_grammar.specs.Meaning.{Spelled, bytes_of, Reads}
-use Rattle.lu_grammar.proofs.Codecs.{same-of}
-use Rattle.term_vectors.specs.declared.layout.DocumentPlaces.{DocumentPlaces}
+use Rattle.lu_grammar.specs.Meaning.{Spelled, bytes_of}
 use Rattle.term_vectors.specs.Format.{headed}
-use Rattle.term_vectors.specs.Fields.{TvdRecord, VectorPlace, format, count, number, difference, stated, format_conditions, count_shape, count_conditions, number_shape, number_conditions, numbers_plan, difference_shape, difference_conditions, further_plan, placed, document_plan, is_within, documents_plan, tvd_plan}
+use Rattle.term_vectors.specs.Fields.{TvdRecord, VectorPlace, number, difference, stated, number_shape, number_conditions, numbers_plan, difference_shape, difference_conditions, further_plan, placed}
 use Rattle.term_vectors.specs.Vectors.{StoredVector}
-use Rattle.term_vectors.specs.VectorBytes.{vector_header_bytes, vector_bytes, vectors_bytes, vector_number_bytes, vector_length_bytes, differences_bytes, document_fields_bytes, tvd_bytes, written_places}
-use Rattle.term_vectors.specs.WrittenChoices.{StandAtEnds}
-use Rattle.term_vectors.proofs.WritesVectors.{slots_from, all_slots}
+use Rattle.term_vectors.specs.VectorBytes.{vector_bytes, vector_number_bytes, vector_length_bytes, differences_bytes}
+use Rattle.term_vectors.proofs.WritesVectors.{slots_from}
 use Rattle.term_vectors.proofs.WritesFields.{further_from}
-use Rattle.term_vectors.proofs.PlanRecords.{AreRecordsOf, bytes_of-append, records_done, records_due, records_then, records_headed, of_one}
-use Rattle.term_vectors.proofs.OnlyVectors.{header_only}
+use Rattle.term_vectors.proofs.PlanRecords.{AreRecordsOf, records_done, records_due, records_headed, of_one}
 
 -- ---- numbers
 
@@ -38,7 +30,7 @@ numbers_only asked fields (suc n) before place ss numbers h =
     let more = records_headed m (numbers_plan asked fields n (m ∷ before)) here parts.rest numbers parts.others in
     let rest = numbers_only asked fields n (m ∷ before) here parts.rest more.0 more.1 in (
       ap (λ (xs : List (Spelled TvdRecord)). bytes_of xs) parts.all ∙ ap (λ (t : List ℕ). t ++ bytes_of parts.rest) front ∙ ap (λ (t : List ℕ). spelling num m ++ t) rest.0
-      ∙ ap (λ (ns : List ℕ). flat_map (λ k. spelling num k) ns) (sym more.2),
+          ∙ ap (λ (ns : List ℕ). flat_map (λ k. spelling num k) ns) (sym more.2),
       ap (λ (ns : List ℕ). length ns) more.2 ∙ ap suc rest.1,
     )
 
@@ -65,7 +57,7 @@ further_only (suc n) first place ss further h =
     let more = records_headed p (further_plan n p) here parts.rest further parts.others in
     let rest = further_only n p here parts.rest more.0 more.1 in (
       ap (λ (xs : List (Spelled TvdRecord)). bytes_of xs) parts.all ∙ ap (λ (t : List ℕ). t ++ bytes_of parts.rest) front ∙ ap (λ (t : List ℕ). spelling vlong (p - first) ++ t) rest.0
-      ∙ ap (λ (ps : List ℕ). apart_bytes first ps) (sym more.2),
+          ∙ ap (λ (ps : List ℕ). apart_bytes first ps) (sym more.2),
       ap (λ (ps : List ℕ). length ps) more.2 ∙ ap suc rest.1,
     )
 

@@ -1,18 +1,16 @@
 -- The terms of a vector that was read are spelled as the writer does, where each text shares what it can with the text before.
-use Rattle.std.proofs.Common.{◌≡◌, ℕ, zero, suc, ◌+◌, ◌-◌, ◌%◌, ◌^◌, ◌<◌, ◌≤◌, Bool, true, false, ◌||◌, ltb, List, [], ◌∷◌, ◌++◌, length, take, drop, Option, Some, None, refl, sym, ap, subst, ◌∙◌, append_assoc, arith}
+use Rattle.std.proofs.Common.{◌≡◌, ℕ, zero, suc, ◌+◌, ◌^◌, ◌<◌, ◌≤◌, Bool, true, false, ltb, List, [], ◌∷◌, ◌++◌, length, take, drop, Option, Some, None, refl, sym, ap, subst, ◌∙◌, arith}
 use Rattle.std.specs.Option.{unwrap_or}
-use Rattle.std.specs.Str.{is_utf8}
 use borrow.Author.Tests.{ltb-false}
-use Rattle.std.proofs.lemmas.List.{append-nil, length-append, length-take}
-use Rattle.lu_grammar.specs.Parts.{vint, num, bytes, spelling}
+use Rattle.std.proofs.lemmas.List.{append-nil, length-take}
+use Rattle.lu_grammar.specs.Parts.{num, spelling}
 use Rattle.lu_grammar.specs.Records.{Condition, Spells, first_broken}
 use Rattle.lu_grammar.specs.Plans.{done, and_then}
 use Rattle.lu_grammar.specs.Meaning.{Spelled, bytes_of}
-use Rattle.lu_types.specs.Stores.{greatest_place}
 use Rattle.lu_model.specs.Index.{Span, VectorTerm}
-use Rattle.term_vectors.specs.Format.{start_modulus, bit_positions, bit_offsets, headed}
-use Rattle.term_vectors.specs.Vectors.{TvfRecord, position, pair, term, position_shape, position_after, position_conditions, positions_plan, pair_shape, span_after, pair_conditions, spans_plan, text_after, freq_of, prefix_of, kept_count, term_shape, term_conditions, term_plan, terms_plan}
-use Rattle.term_vectors.specs.VectorBytes.{vector_positions_bytes, start_delta, span_bytes, vector_spans_bytes, shared_length, term_front_bytes, vector_term_bytes, vector_terms_bytes}
+use Rattle.term_vectors.specs.Format.{bit_positions, bit_offsets, headed}
+use Rattle.term_vectors.specs.Vectors.{TvfRecord, term, positions_plan, spans_plan, text_after, freq_of, prefix_of, kept_count, term_shape, term_conditions, term_plan, terms_plan}
+use Rattle.term_vectors.specs.VectorBytes.{vector_positions_bytes, vector_spans_bytes, shared_length, term_front_bytes, vector_term_bytes, vector_terms_bytes}
 use Rattle.term_vectors.specs.WrittenChoices.{text_behind, SharesMost, ShareMost}
 use Rattle.term_vectors.proofs.PlanRecords.{AreRecordsOf, bytes_of-append, records_done, records_due, records_then, records_headed, of_one}
 use Rattle.term_vectors.proofs.OnlyOccurrences.{text_after_all, text_after-append, shares-append, shares-join, SpellsInTerm, positions_only, spans_only}

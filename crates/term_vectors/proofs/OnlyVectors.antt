@@ -1,16 +1,16 @@
 -- `.tvf` that was read is what the writer gives, where each text shares what it can with the text before.
 use Rattle.std.proofs.Common.{◌≡◌, ℕ, ◌+◌, Bool, true, false, List, [], ◌∷◌, ◌++◌, length, None, refl, sym, ap, subst, ◌∙◌, arith, ℤ}
 use Rattle.std.specs.List.{flat_map}
-use Rattle.std.proofs.lemmas.List.{append-nil, length-append}
+use Rattle.std.proofs.lemmas.List.{append-nil}
 use Rattle.lu_grammar.specs.Parts.{int32, num, byte, spelling}
 use Rattle.lu_grammar.specs.Records.{Condition, Spells, first_broken}
 use Rattle.lu_grammar.specs.Plans.{Plan, done, due, and_then}
 use Rattle.lu_grammar.specs.Meaning.{Spelled, bytes_of, Reads}
 use Rattle.lu_model.specs.Index.{VectorTerm}
-use Rattle.term_vectors.specs.Format.{vector_format, format_shape, is_other_format, format_rule, headed}
+use Rattle.term_vectors.specs.Format.{format_shape, is_other_format, format_rule, headed}
 use Rattle.term_vectors.specs.Fields.{VectorPlace}
 use Rattle.term_vectors.specs.Vectors.{TvfRecord, format, heading, StoredVector, format_conditions, count_of_heading, bits_of_heading, heading_shape, heading_conditions, terms_plan, vector_plan, vectors_plan, all_plan, tvf_plan}
-use Rattle.term_vectors.specs.VectorBytes.{vector_header_bytes, vector_heading_bytes, vector_terms_bytes, vector_bytes, vectors_bytes, tvf_bytes}
+use Rattle.term_vectors.specs.VectorBytes.{vector_header_bytes, vector_heading_bytes, vector_bytes, vectors_bytes, tvf_bytes}
 use Rattle.term_vectors.specs.WrittenChoices.{text_behind, SharesMost, ShareMost}
 use Rattle.term_vectors.proofs.FormatLemmas.{same_format}
 use Rattle.term_vectors.proofs.StandLemmas.{at_its_place}
@@ -129,9 +129,9 @@ vectors_only (at ∷ slots) before place ss vs h shares =
     let more = records_headed v (vectors_plan slots) here parts.second vs parts.two in
     let rest = vectors_only slots (text_after_all before parts.first) here parts.second more.0 more.1 both.1 in (
       ap (λ (xs : List (Spelled TvfRecord)). bytes_of xs) parts.all ∙ bytes_of-append parts.first parts.second ∙ ap (λ (t : List ℕ). t ++ bytes_of parts.second) one ∙ ap (λ (t : List ℕ). vector_bytes v ++ t) rest.0
-      ∙ ap (λ (ws : List StoredVector). vectors_bytes ws) (sym more.2),
+          ∙ ap (λ (ws : List StoredVector). vectors_bytes ws) (sym more.2),
       ap (λ (a : VectorPlace). a ∷ slots) pieces.placed ∙ ap (λ (t : List VectorPlace). record { field = v.field; place = place } ∷ t) (rest.1 ∙ ap (λ (t : List ℕ). slots_from (place + length t) more.0) one)
-      ∙ ap (λ (ws : List StoredVector). slots_from place ws) (sym more.2),
+          ∙ ap (λ (ws : List StoredVector). slots_from place ws) (sym more.2),
     )
 
 all_only : (documents : List (List VectorPlace)) (before : List ℕ) (place : ℕ) (ss : List (Spelled TvfRecord)) (ds : List (List StoredVector)) → AreRecordsOf (all_plan documents) place ss ds → ShareMost before ss
@@ -149,9 +149,9 @@ all_only (slots ∷ documents) before place ss ds h shares =
     let more = records_headed d (all_plan documents) here parts.second ds parts.two in
     let rest = all_only documents (text_after_all before parts.first) here parts.second more.0 more.1 both.1 in (
       ap (λ (xs : List (Spelled TvfRecord)). bytes_of xs) parts.all ∙ bytes_of-append parts.first parts.second ∙ ap (λ (t : List ℕ). t ++ bytes_of parts.second) one.0 ∙ ap (λ (t : List ℕ). vectors_bytes d ++ t) rest.0
-      ∙ ap (λ (ws : List (List StoredVector)). flat_map vectors_bytes ws) (sym more.2),
+          ∙ ap (λ (ws : List (List StoredVector)). flat_map vectors_bytes ws) (sym more.2),
       ap (λ (a : List VectorPlace). a ∷ documents) one.1 ∙ ap (λ (t : List (List VectorPlace)). slots_from place d ∷ t) (rest.1 ∙ ap (λ (t : List ℕ). all_slots (place + length t) more.0) one.0)
-      ∙ ap (λ (ws : List (List StoredVector)). all_slots place ws) (sym more.2),
+          ∙ ap (λ (ws : List (List StoredVector)). all_slots place ws) (sym more.2),
     )
 
 -- ---- the file

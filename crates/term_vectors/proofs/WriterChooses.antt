@@ -1,5 +1,5 @@
 -- The writer makes the choices: where records spell the written bytes, each text shares what it can with the text before.
-use Rattle.std.proofs.Common.{◌≡◌, ℕ, zero, suc, ◌+◌, ◌^◌, ◌<◌, ◌≤◌, List, [], ◌∷◌, ◌++◌, length, take, drop, Option, Some, None, Ok, refl, sym, ap, subst, ◌∙◌, append_assoc, arith}
+use Rattle.std.proofs.Common.{◌≡◌, ℕ, zero, suc, ◌+◌, ◌^◌, ◌<◌, List, [], ◌∷◌, ◌++◌, length, take, drop, Option, Some, None, refl, sym, ap, subst, ◌∙◌, append_assoc, arith}
 use Rattle.std.specs.Prelude.{All}
 use Rattle.std.specs.Option.{unwrap_or}
 use Rattle.std.specs.List.{flat_map}
@@ -22,7 +22,7 @@ use Rattle.term_vectors.specs.Fields.{VectorPlace, tvd_plan}
 use Rattle.term_vectors.specs.Vectors.{TvfRecord, format, term, StoredVector, format_conditions, text_after, term_shape, term_plan, terms_plan, bits_of_heading, vector_plan, vectors_plan, all_plan, tvf_plan}
 use Rattle.term_vectors.specs.Stores.{vector_files}
 use Rattle.term_vectors.specs.Writable.{AreWritableVectors, IsCheckableWindow}
-use Rattle.term_vectors.specs.VectorBytes.{vector_header_bytes, vector_positions_bytes, vector_spans_bytes, shared_length, term_front_bytes, vector_term_bytes, vector_terms_bytes, vector_heading_bytes, vector_bytes, vectors_bytes, document_fields_bytes, written_places, tvx_bytes, tvd_bytes, tvf_bytes}
+use Rattle.term_vectors.specs.VectorBytes.{vector_header_bytes, vector_positions_bytes, vector_spans_bytes, shared_length, vector_term_bytes, vector_terms_bytes, vector_heading_bytes, vector_bytes, vectors_bytes, document_fields_bytes, written_places, tvx_bytes, tvd_bytes, tvf_bytes}
 use Rattle.term_vectors.specs.WrittenChoices.{text_behind, SharesMost, ShareMost, StandAtEnds, MakeWrittenChoices}
 use Rattle.term_vectors.proofs.SharedLemmas.{shared-within}
 use Rattle.term_vectors.proofs.WritesVectors.{all_slots}
@@ -146,7 +146,7 @@ vectors_share (at ∷ slots) before place ss vs x y h short e =
     let rest = vectors_share slots (text_after_all before parts.first) here parts.second more.0 x y more.1 (λ k d lt. all_short (suc k) d (omega (arith, lt))) (left_over a b x (vector_bytes v) later y one same) in (
       subst (λ (xs : List (Spelled TvfRecord)). ShareMost before xs) (sym parts.all) (shares-join before parts.first parts.second shares rest.0),
       ap (λ (xs : List (Spelled TvfRecord)). bytes_of xs) parts.all ∙ bytes_of-append parts.first parts.second ∙ ap (λ (t : List ℕ). t ++ b) one ∙ ap (λ (t : List ℕ). vector_bytes v ++ t) rest.1
-      ∙ ap (λ (ws : List StoredVector). vectors_bytes ws) (sym more.2),
+          ∙ ap (λ (ws : List StoredVector). vectors_bytes ws) (sym more.2),
     )
 
 all_share : (documents : List (List VectorPlace)) (before : List ℕ) (place : ℕ) (ss : List (Spelled TvfRecord)) (ds : List (List StoredVector)) (x y : List ℕ) → AreRecordsOf (all_plan documents) place ss ds

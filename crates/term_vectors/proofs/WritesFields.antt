@@ -1,17 +1,15 @@
 -- What the written `.tvd` is read as.
-use Rattle.std.proofs.Common.{◌≡◌, ◌≢◌, ℕ, zero, suc, ◌+◌, ◌-◌, ◌^◌, ◌<◌, ◌≤◌, Bool, true, false, not, eqb, ltb, List, [], ◌∷◌, ◌++◌, length, map, None, refl, sym, ap, subst, ◌∙◌, arith, append_assoc}
-use Rattle.std.specs.Prelude.{All, AllPairs, slice_index_or, ◌&&◌, ◌||◌}
+use Rattle.std.proofs.Common.{◌≡◌, ◌≢◌, ℕ, suc, ◌+◌, ◌-◌, ◌^◌, ◌<◌, Bool, true, false, not, eqb, ltb, List, [], ◌∷◌, ◌++◌, length, map, None, refl, sym, ap, subst, arith}
+use Rattle.std.specs.Prelude.{All, AllPairs, slice_index_or, ◌&&◌}
 use Rattle.std.specs.List.{flat_map}
 use Rattle.std.proofs.lemmas.Bool.{le-ltb, eq-eqb, ne_eqb}
 use Rattle.std.proofs.lemmas.List.{append-nil, length-append}
 use Rattle.lu_types.specs.Tables.{TableField}
 use Rattle.lu_types.specs.declared.stored.Window.{Window}
-use Rattle.lu_grammar.specs.Parts.{num, vlong, spelling}
+use Rattle.lu_grammar.specs.Parts.{num, spelling}
 use Rattle.lu_grammar.specs.Records.{first_broken}
 use Rattle.lu_grammar.specs.Plans.{Plan, done, and_then}
 use Rattle.lu_grammar.proofs.Codecs.{Writes, Writes-due, Writes-done, Writes-and_then}
-use Rattle.lu_model.specs.Valid.{IsSmall}
-use Rattle.term_vectors.specs.declared.layout.DocumentPlaces.{DocumentPlaces}
 use Rattle.lu_types.specs.Stores.{greatest_place}
 use Rattle.term_vectors.specs.Format.{vector_format, format_shape, headed}
 use Rattle.term_vectors.specs.Fields.{TvdRecord, VectorPlace, format, count, number, difference, stated, format_conditions, count_shape, count_conditions, has_vectors, is_among, number_shape, number_conditions, numbers_plan, difference_shape, difference_conditions, further_plan, placed, document_plan, is_within, documents_plan, tvd_plan}
@@ -41,7 +39,7 @@ apart_from [] before differ apart = tt
 apart_from (v ∷ vs) before differ apart = (
   differ 0 v (omega arith),
   apart_from vs (v.field ∷ before) (differ_more v before vs (λ k d lt. apart 0 (suc k) d (omega arith) (omega (arith, lt))) (λ k d lt. differ (suc k) d (omega (arith, lt))))
-  (λ i j d lt le. apart (suc i) (suc j) d (omega (arith, lt)) (omega (arith, le))),
+      (λ i j d lt le. apart (suc i) (suc j) d (omega (arith, lt)) (omega (arith, le))),
 )
 
 -- the field has vectors, where this is asked

@@ -1,5 +1,5 @@
 -- The three written files are read as the vectors that they were written of, through any window.
-use Rattle.std.proofs.Common.{◌≡◌, ℕ, zero, suc, ◌+◌, ◌-◌, ◌^◌, ◌<◌, ◌≤◌, Bool, true, false, List, [], ◌∷◌, ◌++◌, length, take, drop, get_or, Some, refl, sym, ap, subst, ◌∙◌, arith}
+use Rattle.std.proofs.Common.{◌≡◌, ℕ, suc, ◌+◌, ◌-◌, ◌^◌, ◌<◌, ◌≤◌, Bool, true, false, List, [], ◌∷◌, length, drop, get_or, Some, refl, ap, subst, ◌∙◌, arith}
 use Rattle.std.specs.Prelude.{All, ◌&&◌, nat_le, nat_lt}
 use Rattle.std.specs.List.{flat_map}
 use borrow.Author.Tests.{ltb-true, leb-true}
@@ -17,7 +17,7 @@ use Rattle.term_vectors.specs.Stores.{vector_files}
 use Rattle.term_vectors.specs.VectorBytes.{vector_header_bytes, vectors_bytes, tvf_bytes, document_fields_bytes, tvd_bytes, written_places, tvx_bytes}
 use Rattle.term_vectors.specs.Writable.{AreWritableVectors, IsCheckableWindow}
 use Rattle.term_vectors.proofs.WritesVectors.{all_slots, writes-tvf}
-use Rattle.term_vectors.proofs.WritesFields.{IsNamed, AreNamedFrom, writes-tvd}
+use Rattle.term_vectors.proofs.WritesFields.{AreNamedFrom, writes-tvd}
 use Rattle.term_vectors.proofs.WritesPlaces.{writes-tvx}
 use Rattle.term_vectors.proofs.WrittenBytes.{of_tvx, of_tvd, of_tvf}
 

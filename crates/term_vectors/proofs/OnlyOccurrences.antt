@@ -9,7 +9,7 @@ use Rattle.lu_model.specs.Index.{Span}
 use Rattle.term_vectors.specs.Format.{start_modulus, headed}
 use Rattle.term_vectors.specs.Vectors.{TvfRecord, position, pair, position_shape, position_after, position_conditions, positions_plan, pair_shape, span_after, pair_conditions, spans_plan}
 use Rattle.term_vectors.specs.VectorBytes.{vector_positions_bytes, start_delta, span_bytes, vector_spans_bytes}
-use Rattle.term_vectors.specs.WrittenChoices.{text_behind, SharesMost, ShareMost}
+use Rattle.term_vectors.specs.WrittenChoices.{text_behind, SharesMost, AllShareMost}
 use Rattle.term_vectors.proofs.PlanRecords.{AreRecordsOf, records_done, records_due, records_headed, of_one}
 
 -- the text behind all of the records
@@ -23,13 +23,13 @@ text_after-append before [] ys = refl
 text_after-append before (x ∷ xs) ys = text_after-append (text_behind before x.it) xs ys
 
 -- what holds of all holds of both parts, and what holds of both holds of all
-pub shares-append : (before : List ℕ) (xs ys : List (Spelled TvfRecord)) → ShareMost before (xs ++ ys) → ShareMost before xs × ShareMost (text_after_all before xs) ys
-unfolding ShareMost text_after_all
+pub shares-append : (before : List ℕ) (xs ys : List (Spelled TvfRecord)) → AllShareMost before (xs ++ ys) → AllShareMost before xs × AllShareMost (text_after_all before xs) ys
+unfolding AllShareMost text_after_all
 shares-append before [] ys h = (tt, h)
 shares-append before (x ∷ xs) ys h = let rest = shares-append (text_behind before x.it) xs ys h.1 in ((h.0, rest.0), rest.1)
 
-pub shares-join : (before : List ℕ) (xs ys : List (Spelled TvfRecord)) → ShareMost before xs → ShareMost (text_after_all before xs) ys → ShareMost before (xs ++ ys)
-unfolding ShareMost text_after_all
+pub shares-join : (before : List ℕ) (xs ys : List (Spelled TvfRecord)) → AllShareMost before xs → AllShareMost (text_after_all before xs) ys → AllShareMost before (xs ++ ys)
+unfolding AllShareMost text_after_all
 shares-join before [] ys front back = back
 shares-join before (x ∷ xs) ys front back = (front.0, shares-join (text_behind before x.it) xs ys front.1 back)
 
@@ -37,7 +37,7 @@ shares-join before (x ∷ xs) ys front back = (front.0, shares-join (text_behind
 pub record SpellsInTerm (ss : List (Spelled TvfRecord)) (wanted : List ℕ) : Type 0 where
   pub is : bytes_of ss ≡ wanted
   pub same : (before : List ℕ) → text_after_all before ss ≡ before
-  pub shares : (before : List ℕ) → ShareMost before ss
+  pub shares : (before : List ℕ) → AllShareMost before ss
 
 -- a record that is no term
 record IsNoTerm (r : TvfRecord) : Type 0 where
@@ -45,19 +45,19 @@ record IsNoTerm (r : TvfRecord) : Type 0 where
   shares : (before : List ℕ) → SharesMost before r
 
 no-term_none : (ss : List (Spelled TvfRecord)) (wanted : List ℕ) → ss ≡ [] → [] ≡ wanted → SpellsInTerm ss wanted
-unfolding ShareMost text_after_all
+unfolding AllShareMost text_after_all
 no-term_none ss wanted none is = record {
   is = ap (λ (xs : List (Spelled TvfRecord)). bytes_of xs) none ∙ is;
   same = λ before. ap (λ (xs : List (Spelled TvfRecord)). text_after_all before xs) none;
-  shares = λ before. subst (λ (xs : List (Spelled TvfRecord)). ShareMost before xs) (sym none) tt;
+  shares = λ before. subst (λ (xs : List (Spelled TvfRecord)). AllShareMost before xs) (sym none) tt;
 }
 
 no-term_more : (s : Spelled TvfRecord) (rest ss : List (Spelled TvfRecord)) (a b wanted : List ℕ) → ss ≡ s ∷ rest → s.front ≡ a → IsNoTerm s.it → SpellsInTerm rest b → a ++ b ≡ wanted → SpellsInTerm ss wanted
-unfolding ShareMost text_after_all
+unfolding AllShareMost text_after_all
 no-term_more s rest ss a b wanted all front one more is = record {
   is = ap (λ (xs : List (Spelled TvfRecord)). bytes_of xs) all ∙ ap (λ (t : List ℕ). t ++ bytes_of rest) front ∙ ap (λ (t : List ℕ). a ++ t) more.is ∙ is;
   same = λ before. ap (λ (xs : List (Spelled TvfRecord)). text_after_all before xs) all ∙ ap (λ (t : List ℕ). text_after_all t rest) (one.same before) ∙ more.same before;
-  shares = λ before. subst (λ (xs : List (Spelled TvfRecord)). ShareMost before xs) (sym all) (one.shares before, subst (λ (t : List ℕ). ShareMost t rest) (sym (one.same before)) (more.shares before));
+  shares = λ before. subst (λ (xs : List (Spelled TvfRecord)). AllShareMost before xs) (sym all) (one.shares before, subst (λ (t : List ℕ). AllShareMost t rest) (sym (one.same before)) (more.shares before));
 }
 
 -- ---- positions

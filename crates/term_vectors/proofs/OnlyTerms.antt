@@ -11,7 +11,7 @@ use Rattle.lu_model.specs.Index.{Span, VectorTerm}
 use Rattle.term_vectors.specs.Format.{bit_positions, bit_offsets, headed}
 use Rattle.term_vectors.specs.Vectors.{TvfRecord, term, positions_plan, spans_plan, text_after, freq_of, prefix_of, kept_count, term_shape, term_conditions, term_plan, terms_plan}
 use Rattle.term_vectors.specs.VectorBytes.{vector_positions_bytes, vector_spans_bytes, shared_length, term_front_bytes, vector_term_bytes, vector_terms_bytes}
-use Rattle.term_vectors.specs.WrittenChoices.{text_behind, SharesMost, ShareMost}
+use Rattle.term_vectors.specs.WrittenChoices.{text_behind, SharesMost, AllShareMost}
 use Rattle.term_vectors.proofs.PlanRecords.{AreRecordsOf, bytes_of-append, records_done, records_due, records_then, records_headed, of_one}
 use Rattle.term_vectors.proofs.OnlyOccurrences.{text_after_all, text_after-append, shares-append, shares-join, SpellsInTerm, positions_only, spans_only}
 
@@ -91,7 +91,7 @@ term_parts bits before place ss t h =
         is = ap (λ (xs : List (Spelled TvfRecord)). bytes_of xs) all_rest ∙ bytes_of-append second.first third.first ∙ ap (λ (x : List ℕ). x ++ bytes_of third.first) positions.is
             ∙ ap (λ (x : List ℕ). vector_positions_bytes 0 ps ++ x) spans.is ∙ ap (λ (x : VectorTerm). vector_positions_bytes 0 x.positions ++ vector_spans_bytes 0 x.spans) last.1;
         same = λ base. ap (λ (xs : List (Spelled TvfRecord)). text_after_all base xs) all_rest ∙ text_after-append base second.first third.first ∙ spans.same (text_after_all base second.first) ∙ positions.same base;
-        shares = λ base. subst (λ (xs : List (Spelled TvfRecord)). ShareMost base xs) (sym all_rest)
+        shares = λ base. subst (λ (xs : List (Spelled TvfRecord)). AllShareMost base xs) (sym all_rest)
             (shares-join base second.first third.first (positions.shares base) (spans.shares (text_after_all base second.first)));
       };
     }
@@ -101,12 +101,12 @@ pub record SpellsTerm (base : List ℕ) (t : VectorTerm) (ss : List (Spelled Tvf
   pub is : bytes_of ss ≡ vector_term_bytes base t
   pub next : text_after_all base ss ≡ t.text
 
-pub term_only : (before : Option (List ℕ)) (ss : List (Spelled TvfRecord)) (t : VectorTerm) → PartsOfTerm before ss t → ShareMost (unwrap_or before []) ss → SpellsTerm (unwrap_or before []) t ss
-unfolding ShareMost text_after_all
+pub term_only : (before : Option (List ℕ)) (ss : List (Spelled TvfRecord)) (t : VectorTerm) → PartsOfTerm before ss t → AllShareMost (unwrap_or before []) ss → SpellsTerm (unwrap_or before []) t ss
+unfolding AllShareMost text_after_all
 term_only before ss t parts shares =
     let base = unwrap_or before [] in
     let s = parts.first in
-    let both = subst (λ (xs : List (Spelled TvfRecord)). ShareMost base xs) parts.all shares in
+    let both = subst (λ (xs : List (Spelled TvfRecord)). AllShareMost base xs) parts.all shares in
     let front = front_spelled before s parts.spells parts.unbroken both.0 in
     record {
       is = ap (λ (xs : List (Spelled TvfRecord)). bytes_of xs) parts.all ∙ ap (λ (x : List ℕ). s.front ++ x) parts.others.is
@@ -125,7 +125,7 @@ terms_many bits (suc n) before place ss ts h =
     let more = records_headed parts.value (terms_plan bits n (Some parts.value.text)) here parts.second ts parts.two in
     ap (λ (xs : List VectorTerm). length xs) more.2 ∙ ap suc (terms_many bits n (Some parts.value.text) here parts.second more.0 more.1)
 
-pub terms_only : (bits n : ℕ) (before : Option (List ℕ)) (place : ℕ) (ss : List (Spelled TvfRecord)) (ts : List VectorTerm) → AreRecordsOf (terms_plan bits n before) place ss ts → ShareMost (unwrap_or before []) ss
+pub terms_only : (bits n : ℕ) (before : Option (List ℕ)) (place : ℕ) (ss : List (Spelled TvfRecord)) (ts : List VectorTerm) → AreRecordsOf (terms_plan bits n before) place ss ts → AllShareMost (unwrap_or before []) ss
     → bytes_of ss ≡ vector_terms_bytes (unwrap_or before []) ts
 unfolding terms_plan vector_terms_bytes
 terms_only bits zero before place ss ts h shares =
@@ -136,9 +136,9 @@ terms_only bits (suc n) before place ss ts h shares =
     let parts = records_then (term_plan bits before) (λ t. headed t (terms_plan bits n (Some t.text))) place ss ts h in
     let t = parts.value in
     let here = place + length (bytes_of parts.first) in
-    let both = shares-append base parts.first parts.second (subst (λ (xs : List (Spelled TvfRecord)). ShareMost base xs) parts.all shares) in
+    let both = shares-append base parts.first parts.second (subst (λ (xs : List (Spelled TvfRecord)). AllShareMost base xs) parts.all shares) in
     let one = term_only before parts.first t (term_parts bits before place parts.first t parts.one) both.0 in
     let more = records_headed t (terms_plan bits n (Some t.text)) here parts.second ts parts.two in
-    let rest = terms_only bits n (Some t.text) here parts.second more.0 more.1 (subst (λ (x : List ℕ). ShareMost x parts.second) one.next both.1) in
+    let rest = terms_only bits n (Some t.text) here parts.second more.0 more.1 (subst (λ (x : List ℕ). AllShareMost x parts.second) one.next both.1) in
     ap (λ (xs : List (Spelled TvfRecord)). bytes_of xs) parts.all ∙ bytes_of-append parts.first parts.second ∙ ap (λ (x : List ℕ). x ++ bytes_of parts.second) one.is
     ∙ ap (λ (x : List ℕ). vector_term_bytes base t ++ x) rest ∙ ap (λ (xs : List VectorTerm). vector_terms_bytes base xs) (sym more.2)

@@ -11,7 +11,7 @@ use Rattle.term_vectors.specs.Format.{format_shape, is_other_format, format_rule
 use Rattle.term_vectors.specs.Fields.{VectorPlace}
 use Rattle.term_vectors.specs.Vectors.{TvfRecord, format, heading, StoredVector, format_conditions, count_of_heading, bits_of_heading, heading_shape, heading_conditions, terms_plan, vector_plan, vectors_plan, all_plan, tvf_plan}
 use Rattle.term_vectors.specs.VectorBytes.{vector_header_bytes, vector_heading_bytes, vector_bytes, vectors_bytes, tvf_bytes}
-use Rattle.term_vectors.specs.WrittenChoices.{text_behind, SharesMost, ShareMost}
+use Rattle.term_vectors.specs.WrittenChoices.{text_behind, SharesMost, AllShareMost}
 use Rattle.term_vectors.proofs.FormatLemmas.{same_format}
 use Rattle.term_vectors.proofs.StandLemmas.{at_its_place}
 use Rattle.term_vectors.proofs.WritesVectors.{slots_from, all_slots}
@@ -102,18 +102,18 @@ vector_parts at place ss v h =
     at_place : ℕ → ℕ → VectorPlace
     at_place field place = record { field = field; place = place }
 
-pub vector_only : (at : VectorPlace) (before : List ℕ) (place : ℕ) (ss : List (Spelled TvfRecord)) (v : StoredVector) → PartsOfVector at place ss v → ShareMost before ss → bytes_of ss ≡ vector_bytes v
-unfolding ShareMost
+pub vector_only : (at : VectorPlace) (before : List ℕ) (place : ℕ) (ss : List (Spelled TvfRecord)) (v : StoredVector) → PartsOfVector at place ss v → AllShareMost before ss → bytes_of ss ≡ vector_bytes v
+unfolding AllShareMost
 vector_only at before place ss v parts shares =
     let s = parts.first in
-    let both = subst (λ (xs : List (Spelled TvfRecord)). ShareMost before xs) parts.all shares in
-    let from_none : ShareMost [] parts.rest = subst (λ (t : List ℕ). ShareMost t parts.rest) (parts.heading.next before) both.1 in
+    let both = subst (λ (xs : List (Spelled TvfRecord)). AllShareMost before xs) parts.all shares in
+    let from_none : AllShareMost [] parts.rest = subst (λ (t : List ℕ). AllShareMost t parts.rest) (parts.heading.next before) both.1 in
     ap (λ (xs : List (Spelled TvfRecord)). bytes_of xs) parts.all ∙ ap (λ (t : List ℕ). t ++ bytes_of parts.rest) parts.front
     ∙ ap (λ (t : List ℕ). vector_heading_bytes (length v.terms) v.bits ++ t) (terms_only (bits_of_heading s.it) parts.count None parts.there parts.rest v.terms parts.terms from_none)
 
 -- ---- vectors and documents
 
-vectors_only : (slots : List VectorPlace) (before : List ℕ) (place : ℕ) (ss : List (Spelled TvfRecord)) (vs : List StoredVector) → AreRecordsOf (vectors_plan slots) place ss vs → ShareMost before ss
+vectors_only : (slots : List VectorPlace) (before : List ℕ) (place : ℕ) (ss : List (Spelled TvfRecord)) (vs : List StoredVector) → AreRecordsOf (vectors_plan slots) place ss vs → AllShareMost before ss
     → (bytes_of ss ≡ vectors_bytes vs) × (slots ≡ slots_from place vs)
 unfolding vectors_plan slots_from
 vectors_only [] before place ss vs h shares =
@@ -123,7 +123,7 @@ vectors_only (at ∷ slots) before place ss vs h shares =
     let parts = records_then (vector_plan at) (λ v. headed v (vectors_plan slots)) place ss vs h in
     let v = parts.value in
     let here = place + length (bytes_of parts.first) in
-    let both = shares-append before parts.first parts.second (subst (λ (xs : List (Spelled TvfRecord)). ShareMost before xs) parts.all shares) in
+    let both = shares-append before parts.first parts.second (subst (λ (xs : List (Spelled TvfRecord)). AllShareMost before xs) parts.all shares) in
     let pieces = vector_parts at place parts.first v parts.one in
     let one = vector_only at before place parts.first v pieces both.0 in
     let more = records_headed v (vectors_plan slots) here parts.second vs parts.two in
@@ -134,7 +134,7 @@ vectors_only (at ∷ slots) before place ss vs h shares =
           ∙ ap (λ (ws : List StoredVector). slots_from place ws) (sym more.2),
     )
 
-all_only : (documents : List (List VectorPlace)) (before : List ℕ) (place : ℕ) (ss : List (Spelled TvfRecord)) (ds : List (List StoredVector)) → AreRecordsOf (all_plan documents) place ss ds → ShareMost before ss
+all_only : (documents : List (List VectorPlace)) (before : List ℕ) (place : ℕ) (ss : List (Spelled TvfRecord)) (ds : List (List StoredVector)) → AreRecordsOf (all_plan documents) place ss ds → AllShareMost before ss
     → (bytes_of ss ≡ flat_map vectors_bytes ds) × (documents ≡ all_slots place ds)
 unfolding all_plan all_slots
 all_only [] before place ss ds h shares =
@@ -144,7 +144,7 @@ all_only (slots ∷ documents) before place ss ds h shares =
     let parts = records_then (vectors_plan slots) (λ vs. headed vs (all_plan documents)) place ss ds h in
     let d = parts.value in
     let here = place + length (bytes_of parts.first) in
-    let both = shares-append before parts.first parts.second (subst (λ (xs : List (Spelled TvfRecord)). ShareMost before xs) parts.all shares) in
+    let both = shares-append before parts.first parts.second (subst (λ (xs : List (Spelled TvfRecord)). AllShareMost before xs) parts.all shares) in
     let one = vectors_only slots before place parts.first d parts.one both.0 in
     let more = records_headed d (all_plan documents) here parts.second ds parts.two in
     let rest = all_only documents (text_after_all before parts.first) here parts.second more.0 more.1 both.1 in (
@@ -156,11 +156,11 @@ all_only (slots ∷ documents) before place ss ds h shares =
 
 -- ---- the file
 
-pub tvf_only : (slots : List (List VectorPlace)) (tvf : List ℕ) (ds : List (List StoredVector)) (read : Reads (tvf_plan slots) tvf ds) → ShareMost [] read.records → (tvf ≡ tvf_bytes ds) × (slots ≡ all_slots 4 ds)
-unfolding ShareMost
+pub tvf_only : (slots : List (List VectorPlace)) (tvf : List ℕ) (ds : List (List StoredVector)) (read : Reads (tvf_plan slots) tvf ds) → AllShareMost [] read.records → (tvf ≡ tvf_bytes ds) × (slots ≡ all_slots 4 ds)
+unfolding AllShareMost
 tvf_only slots tvf ds read shares =
     let head = header_only format format_conditions 105 (λ z. refl) (all_plan slots) read.records ds (record { good = read.good; none = read.none_due }) in
-    let both = subst (λ (xs : List (Spelled TvfRecord)). ShareMost [] xs) head.all shares in
+    let both = subst (λ (xs : List (Spelled TvfRecord)). AllShareMost [] xs) head.all shares in
     let body = all_only slots (text_behind [] head.first.it) 4 head.more ds head.others both.1 in (
       read.front ∙ append-nil (bytes_of read.records) ∙ ap (λ (xs : List (Spelled TvfRecord)). bytes_of xs) head.all ∙ ap (λ (t : List ℕ). t ++ bytes_of head.more) head.is ∙ ap (λ (t : List ℕ). vector_header_bytes ++ t) body.0,
       body.1,

@@ -3,7 +3,7 @@ use Rattle.std.proofs.Common.{◌≡◌, ℕ, List, [], ◌∷◌, refl}
 use Rattle.lu_grammar.specs.Meaning.{Spelled}
 use Rattle.term_vectors.specs.Vectors.{TvfRecord, heading, term, position}
 use Rattle.term_vectors.specs.VectorBytes.{shared_length}
-use Rattle.term_vectors.specs.WrittenChoices.{ShareMost, StandAtEnds}
+use Rattle.term_vectors.specs.WrittenChoices.{AllShareMost, StandAtEnds}
 
 -- a record; its bytes do not matter here
 abbrev spelled : TvfRecord → Spelled TvfRecord
@@ -13,12 +13,12 @@ spelled r = record { it = r; front = [] }
 abbrev two_texts : ℕ → List ℕ → List (Spelled TvfRecord)
 two_texts prefix suffix = spelled (heading 2 1) ∷ spelled (term 0 (0x61 ∷ 0x61 ∷ []) 1) ∷ spelled (position 0) ∷ spelled (term prefix suffix 1) ∷ []
 
-one_shared : ShareMost [] (two_texts 1 (0x62 ∷ []))
-unfolding ShareMost shared_length
+one_shared : AllShareMost [] (two_texts 1 (0x62 ∷ []))
+unfolding AllShareMost shared_length
 one_shared = (tt, (refl, (tt, (refl, tt))))
 
-none_shared : ShareMost [] (two_texts 0 (0x61 ∷ 0x62 ∷ [])) → ⊥
-unfolding ShareMost shared_length
+none_shared : AllShareMost [] (two_texts 0 (0x61 ∷ 0x62 ∷ [])) → ⊥
+unfolding AllShareMost shared_length
 none_shared h = absurd (zero_one h.1.1.1.0)
   where
     zero_one : ◌≡◌ {A = ℕ} 0 1 → ⊥

@@ -23,7 +23,7 @@ use Rattle.term_vectors.specs.Vectors.{TvfRecord, format, term, StoredVector, fo
 use Rattle.term_vectors.specs.Stores.{vector_files}
 use Rattle.term_vectors.specs.Writable.{AreWritableVectors, IsCheckableWindow}
 use Rattle.term_vectors.specs.VectorBytes.{vector_header_bytes, vector_positions_bytes, vector_spans_bytes, shared_length, vector_term_bytes, vector_terms_bytes, vector_heading_bytes, vector_bytes, vectors_bytes, document_fields_bytes, written_places, tvx_bytes, tvd_bytes, tvf_bytes}
-use Rattle.term_vectors.specs.WrittenChoices.{text_behind, SharesMost, ShareMost, StandAtEnds, MakeWrittenChoices}
+use Rattle.term_vectors.specs.WrittenChoices.{text_behind, SharesMost, AllShareMost, StandAtEnds, MakeWrittenChoices}
 use Rattle.term_vectors.proofs.SharedLemmas.{shared-within}
 use Rattle.term_vectors.proofs.WritesVectors.{all_slots}
 use Rattle.term_vectors.proofs.WrittenFiles.{written_reads}
@@ -49,9 +49,9 @@ left_over a b x c d y same e = append_cancel_left c (b ++ x) (d ++ y) (ap (λ (t
 both_parts : (ss first second : List (Spelled TvfRecord)) (x : List ℕ) → ss ≡ first ++ second → bytes_of ss ++ x ≡ (bytes_of first ++ bytes_of second) ++ x
 both_parts ss first second x all = ap (λ (t : List ℕ). t ++ x) (ap (λ (xs : List (Spelled TvfRecord)). bytes_of xs) all ∙ bytes_of-append first second)
 
-no_records : (before : List ℕ) (ss : List (Spelled TvfRecord)) → ss ≡ [] → ShareMost before ss
-unfolding ShareMost
-no_records before ss none = subst (λ (xs : List (Spelled TvfRecord)). ShareMost before xs) (sym none) tt
+no_records : (before : List ℕ) (ss : List (Spelled TvfRecord)) → ss ≡ [] → AllShareMost before ss
+unfolding AllShareMost
+no_records before ss none = subst (λ (xs : List (Spelled TvfRecord)). AllShareMost before xs) (sym none) tt
 
 -- ---- terms
 
@@ -72,8 +72,8 @@ front_shares before s text x y (prefix, a, prefix_fits, front_is, (n, b, n_fits,
     subst (λ (r : TvfRecord). SharesMost base r) one.is (same.0 ∙ ap (λ (t : List ℕ). shared_length base t) (sym full))
 
 term_shares : (before : Option (List ℕ)) (ss : List (Spelled TvfRecord)) (t : VectorTerm) (x y : List ℕ) → PartsOfTerm before ss t → IsShort t → bytes_of ss ++ x ≡ vector_term_bytes (unwrap_or before []) t ++ y
-    → ShareMost (unwrap_or before []) ss
-unfolding ShareMost
+    → AllShareMost (unwrap_or before []) ss
+unfolding AllShareMost
 term_shares before ss t x y parts short e =
     let base = unwrap_or before [] in
     let s = parts.first in
@@ -84,10 +84,10 @@ term_shares before ss t x y parts short e =
     let spelled : s.front ++ (bytes_of parts.rest ++ x) ≡ spelling num most ++ ((more ++ occurrences) ++ y) =
     sym (append_assoc s.front (bytes_of parts.rest) x) ∙ ap (λ (xs : List (Spelled TvfRecord)). bytes_of xs ++ x) (sym parts.all) ∙ e ∙ first_alone (spelling num most) more occurrences y in
     let head = front_shares before s t.text (bytes_of parts.rest ++ x) ((more ++ occurrences) ++ y) parts.spells parts.text short spelled in
-    subst (λ (xs : List (Spelled TvfRecord)). ShareMost base xs) (sym parts.all) (head, parts.others.shares (text_behind base s.it))
+    subst (λ (xs : List (Spelled TvfRecord)). AllShareMost base xs) (sym parts.all) (head, parts.others.shares (text_behind base s.it))
 
 terms_share : (bits n : ℕ) (before : Option (List ℕ)) (place : ℕ) (ss : List (Spelled TvfRecord)) (ts : List VectorTerm) (x y : List ℕ) → AreRecordsOf (terms_plan bits n before) place ss ts → All IsShort ts
-    → bytes_of ss ++ x ≡ vector_terms_bytes (unwrap_or before []) ts ++ y → ShareMost (unwrap_or before []) ss
+    → bytes_of ss ++ x ≡ vector_terms_bytes (unwrap_or before []) ts ++ y → AllShareMost (unwrap_or before []) ss
 unfolding terms_plan vector_terms_bytes
 terms_share bits zero before place ss ts x y h short e = no_records (unwrap_or before []) ss (records_done [] ts place ss h).0
 terms_share bits (suc n) before place ss ts x y h short e =
@@ -106,7 +106,7 @@ terms_share bits (suc n) before place ss ts x y h short e =
     let shares = term_shares before parts.first t (b ++ x) (later ++ y) pieces (all_short 0 t (omega arith)) (apart a b x first later y same) in
     let one = term_only before parts.first t pieces shares in
     let rest = terms_share bits n (Some t.text) here parts.second more.0 x y more.1 (λ k d lt. all_short (suc k) d (omega (arith, lt))) (left_over a b x first later y one.is same) in
-    subst (λ (xs : List (Spelled TvfRecord)). ShareMost base xs) (sym parts.all) (shares-join base parts.first parts.second shares (subst (λ (z : List ℕ). ShareMost z parts.second) (sym one.next) rest))
+    subst (λ (xs : List (Spelled TvfRecord)). AllShareMost base xs) (sym parts.all) (shares-join base parts.first parts.second shares (subst (λ (z : List ℕ). AllShareMost z parts.second) (sym one.next) rest))
 
 -- ---- vectors
 
@@ -114,18 +114,18 @@ abbrev HasShortTexts : StoredVector → Type 0
 HasShortTexts v = All IsShort v.terms
 
 vector_shares : (at : VectorPlace) (before : List ℕ) (place : ℕ) (ss : List (Spelled TvfRecord)) (v : StoredVector) (x y : List ℕ) → PartsOfVector at place ss v → HasShortTexts v → bytes_of ss ++ x ≡ vector_bytes v ++ y
-    → ShareMost before ss
-unfolding ShareMost
+    → AllShareMost before ss
+unfolding AllShareMost
 vector_shares at before place ss v x y parts short e =
     let s = parts.first in
     let front = vector_heading_bytes (length v.terms) v.bits in
     let terms = vector_terms_bytes [] v.terms in
     let same : (s.front ++ bytes_of parts.rest) ++ x ≡ (front ++ terms) ++ y = ap (λ (xs : List (Spelled TvfRecord)). bytes_of xs ++ x) (sym parts.all) ∙ e in
     let rest = terms_share (bits_of_heading s.it) parts.count None parts.there parts.rest v.terms x y parts.terms short (left_over s.front (bytes_of parts.rest) x front terms y parts.front same) in
-    subst (λ (xs : List (Spelled TvfRecord)). ShareMost before xs) (sym parts.all) (parts.heading.shares before, subst (λ (t : List ℕ). ShareMost t parts.rest) (sym (parts.heading.next before)) rest)
+    subst (λ (xs : List (Spelled TvfRecord)). AllShareMost before xs) (sym parts.all) (parts.heading.shares before, subst (λ (t : List ℕ). AllShareMost t parts.rest) (sym (parts.heading.next before)) rest)
 
 vectors_share : (slots : List VectorPlace) (before : List ℕ) (place : ℕ) (ss : List (Spelled TvfRecord)) (vs : List StoredVector) (x y : List ℕ) → AreRecordsOf (vectors_plan slots) place ss vs → All HasShortTexts vs
-    → bytes_of ss ++ x ≡ vectors_bytes vs ++ y → (ShareMost before ss) × (bytes_of ss ≡ vectors_bytes vs)
+    → bytes_of ss ++ x ≡ vectors_bytes vs ++ y → (AllShareMost before ss) × (bytes_of ss ≡ vectors_bytes vs)
 unfolding vectors_plan
 vectors_share [] before place ss vs x y h short e =
     let none = records_done [] vs place ss h in
@@ -144,13 +144,13 @@ vectors_share (at ∷ slots) before place ss vs x y h short e =
     let shares = vector_shares at before place parts.first v (b ++ x) (later ++ y) pieces (all_short 0 v (omega arith)) (apart a b x (vector_bytes v) later y same) in
     let one = vector_only at before place parts.first v pieces shares in
     let rest = vectors_share slots (text_after_all before parts.first) here parts.second more.0 x y more.1 (λ k d lt. all_short (suc k) d (omega (arith, lt))) (left_over a b x (vector_bytes v) later y one same) in (
-      subst (λ (xs : List (Spelled TvfRecord)). ShareMost before xs) (sym parts.all) (shares-join before parts.first parts.second shares rest.0),
+      subst (λ (xs : List (Spelled TvfRecord)). AllShareMost before xs) (sym parts.all) (shares-join before parts.first parts.second shares rest.0),
       ap (λ (xs : List (Spelled TvfRecord)). bytes_of xs) parts.all ∙ bytes_of-append parts.first parts.second ∙ ap (λ (t : List ℕ). t ++ b) one ∙ ap (λ (t : List ℕ). vector_bytes v ++ t) rest.1
           ∙ ap (λ (ws : List StoredVector). vectors_bytes ws) (sym more.2),
     )
 
 all_share : (documents : List (List VectorPlace)) (before : List ℕ) (place : ℕ) (ss : List (Spelled TvfRecord)) (ds : List (List StoredVector)) (x y : List ℕ) → AreRecordsOf (all_plan documents) place ss ds
-    → All (All HasShortTexts) ds → bytes_of ss ++ x ≡ flat_map vectors_bytes ds ++ y → ShareMost before ss
+    → All (All HasShortTexts) ds → bytes_of ss ++ x ≡ flat_map vectors_bytes ds ++ y → AllShareMost before ss
 unfolding all_plan
 all_share [] before place ss ds x y h short e = no_records before ss (records_done [] ds place ss h).0
 all_share (slots ∷ documents) before place ss ds x y h short e =
@@ -165,21 +165,21 @@ all_share (slots ∷ documents) before place ss ds x y h short e =
     let same : (a ++ b) ++ x ≡ (vectors_bytes d ++ later) ++ y = sym (both_parts ss parts.first parts.second x parts.all) ∙ e ∙ ap (λ (es : List (List StoredVector)). flat_map vectors_bytes es ++ y) more.2 in
     let one = vectors_share slots before place parts.first d (b ++ x) (later ++ y) parts.one (all_short 0 d (omega arith)) (apart a b x (vectors_bytes d) later y same) in
     let rest = all_share documents (text_after_all before parts.first) here parts.second more.0 x y more.1 (λ k v lt. all_short (suc k) v (omega (arith, lt))) (left_over a b x (vectors_bytes d) later y one.1 same) in
-    subst (λ (xs : List (Spelled TvfRecord)). ShareMost before xs) (sym parts.all) (shares-join before parts.first parts.second one.0 rest)
+    subst (λ (xs : List (Spelled TvfRecord)). AllShareMost before xs) (sym parts.all) (shares-join before parts.first parts.second one.0 rest)
 
 -- ---- the files
 
 short_texts : (ds : List (List StoredVector)) → All AreWritableVectors ds → All (All HasShortTexts) ds
 short_texts ds good k d lt = λ j v within. λ i t inside. (((good k d lt).each j v within).terms i t inside).text.1
 
-tvf_shares : (slots : List (List VectorPlace)) (ds : List (List StoredVector)) (tvf : List ℕ) (read : Reads (tvf_plan slots) tvf ds) → tvf ≡ tvf_bytes ds → All AreWritableVectors ds → ShareMost [] read.records
-unfolding ShareMost
+tvf_shares : (slots : List (List VectorPlace)) (ds : List (List StoredVector)) (tvf : List ℕ) (read : Reads (tvf_plan slots) tvf ds) → tvf ≡ tvf_bytes ds → All AreWritableVectors ds → AllShareMost [] read.records
+unfolding AllShareMost
 tvf_shares slots ds tvf read is good =
     let head = header_only format format_conditions 105 (λ z. refl) (all_plan slots) read.records ds (record { good = read.good; none = read.none_due }) in
     let same : (head.first.front ++ bytes_of head.more) ++ [] ≡ (vector_header_bytes ++ flat_map vectors_bytes ds) ++ [] =
     ap (λ (xs : List (Spelled TvfRecord)). bytes_of xs ++ []) (sym head.all) ∙ sym read.front ∙ is ∙ sym (append-nil (tvf_bytes ds)) in
     let rest = all_share slots (text_behind [] head.first.it) 4 head.more ds [] [] head.others (short_texts ds good) (left_over head.first.front (bytes_of head.more) [] vector_header_bytes (flat_map vectors_bytes ds) [] head.is same) in
-    subst (λ (xs : List (Spelled TvfRecord)). ShareMost [] xs) (sym head.all) (subst (λ (r : TvfRecord). SharesMost [] r) head.it tt, rest)
+    subst (λ (xs : List (Spelled TvfRecord)). AllShareMost [] xs) (sym head.all) (subst (λ (r : TvfRecord). SharesMost [] r) head.it tt, rest)
 
 stand_written : (tvd tvf : ℕ) (ds : List (List StoredVector)) → StandAtEnds tvf (written_places tvd tvf ds) ds
 unfolding StandAtEnds written_places

@@ -22,9 +22,9 @@ SharesMost before (term prefix suffix freq) = prefix ≡ shared_length before (t
 SharesMost before _ = Unit {0}
 
 -- the same of each of the records, the first behind this text
-unfoldable pub ShareMost : List ℕ → List (Spelled TvfRecord) → Type 0
-ShareMost before [] = Unit {0}
-ShareMost before (s ∷ records) = SharesMost before s.it × ShareMost (text_behind before s.it) records
+unfoldable pub AllShareMost : List ℕ → List (Spelled TvfRecord) → Type 0
+AllShareMost before [] = Unit {0}
+AllShareMost before (s ∷ records) = SharesMost before s.it × AllShareMost (text_behind before s.it) records
 
 -- a document without vectors stands in `.tvf` where those before it end
 unfoldable pub StandAtEnds : ℕ → List DocumentPlaces → List (List StoredVector) → Type 0
@@ -36,4 +36,4 @@ StandAtEnds end (at ∷ places) (d ∷ documents) = (d ≡ [] → at.tvf ≡ end
 pub record MakeWrittenChoices (total : ℕ) (window : Window) (fields : List TableField) (tvx tvd tvf : List ℕ) (seen : List (List StoredVector))
     (stand : StandFor (vector_files total window fields (Some tvx) (Some tvd) (Some tvf)) seen) : Type 0 where
   pub places : StandAtEnds header_length stand.0 stand.2.2.0
-  pub prefixes : ShareMost [] stand.2.2.1.records
+  pub prefixes : AllShareMost [] stand.2.2.1.records

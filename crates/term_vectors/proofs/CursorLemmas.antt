@@ -1,24 +1,23 @@
 -- The walk over the vectors of a document.
-use Rattle.std.proofs.Common.{◌≡◌, ℕ, zero, suc, ◌+◌, ◌-◌, ◌<◌, ◌≤◌, Bool, true, false, eqb, List, [], ◌∷◌, length, map, None, Result, Ok, Err, refl, sym, ap, subst, ◌∙◌, arith}
+use Rattle.std.proofs.Common.{◌≡◌, ℕ, zero, suc, ◌+◌, ◌-◌, ◌<◌, ◌≤◌, Bool, true, false, eqb, List, [], ◌∷◌, length, map, None, Ok, Err, refl, sym, ap, subst, ◌∙◌, arith}
 use Rattle.std.specs.Prelude.{◌||◌}
 use Rattle.lu_grammar.specs.declared.bad.Bad.{Bad}
 use Rattle.lu_grammar.specs.Bytes.{IsBytes, Cursor, place_in}
 use Rattle.lu_grammar.specs.Parts.{num}
-use Rattle.lu_grammar.specs.Reading.{read_part, value_or}
+use Rattle.lu_grammar.specs.Reading.{read_part}
 use Rattle.lu_grammar.specs.Records.{first_broken, record_at}
 use Rattle.lu_grammar.specs.Plans.{read_plan}
 use Rattle.lu_grammar.proofs.Codecs.{ok_pair, same_pair, ok_of, err_is_not_ok, due_was, read_due, record_at-was, record_at-read, alone, alone_read}
 use Rattle.term_vectors.specs.Format.{headed}
-use Rattle.term_vectors.specs.Fields.{TvdRecord, VectorPlace, stated, is_among, number_shape, number_conditions, numbers_plan, difference_shape, difference_conditions, further_plan, placed}
-use Rattle.term_vectors.specs.Vectors.{StoredVector}
+use Rattle.term_vectors.specs.Fields.{TvdRecord, VectorPlace, stated, is_among, number_shape, number_conditions, numbers_plan, difference_shape, difference_conditions, placed}
 use Rattle.term_vectors.specs.InnerViews.{slots_here, vector_here, vectors_here, IsVectorThere, AreAllThere, AreThere}
 use Rattle.term_vectors.specs.InnerCursors.{numbers_left, further_left, slots_left, vectors_left, AreVectorsLeft, IsSteppedTo}
 use Rattle.term_vectors.specs.declared.cursor.VectorStep.{VectorStep}
 use Rattle.term_vectors.proofs.Steps.{headed_was, headed-done}
-use Rattle.term_vectors.proofs.FieldLemmas.{reads_numbers, reads_further, numbers-done}
+use Rattle.term_vectors.proofs.FieldLemmas.{reads_numbers, reads_further}
 use Rattle.term_vectors.proofs.LeftLemmas.{settled_left, plan_in, record_in}
 use Rattle.term_vectors.proofs.SlotLemmas.{numbers_was, slots_were}
-use Rattle.term_vectors.proofs.WasRead.{numbers-many, further-next, further-ends}
+use Rattle.term_vectors.proofs.WasRead.{numbers-many, further-next}
 
 -- ---- fields that differ from these differ from fewer
 

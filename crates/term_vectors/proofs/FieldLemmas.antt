@@ -1,27 +1,25 @@
 -- The records of `.tvd`, one after another.
-use Rattle.std.proofs.Common.{◌≡◌, ◌≢◌, ℕ, zero, suc, ◌+◌, ◌-◌, ◌<◌, ◌≤◌, Bool, true, false, eqb, ltb, not, cond, List, [], ◌∷◌, Option, Some, None, Result, Ok, Err, refl, sym, ap, subst, ◌∙◌, arith, inl, inr}
-use Rattle.std.proofs.lemmas.Bool.{eq-eqb, ne_eqb, lt-ltb, le-ltb, cases_eq}
+use Rattle.std.proofs.Common.{◌≡◌, ◌≢◌, ℕ, suc, ◌+◌, ◌-◌, ◌<◌, ◌≤◌, Bool, true, false, eqb, ltb, List, [], ◌∷◌, Result, Ok, Err, refl, sym, subst, arith}
+use Rattle.std.proofs.lemmas.Bool.{eq-eqb, ne_eqb, lt-ltb, le-ltb}
 use Rattle.std.proofs.lemmas.Grind.{common_steps}
-use Rattle.std.specs.BTreeSet.{BTreeSet, contains, Updates}
+use Rattle.std.specs.BTreeSet.{BTreeSet, Updates}
 use Rattle.std.specs.Ordering.{nat_cmp}
 use Rattle.lu_types.specs.Tables.{TableField}
 use Rattle.lu_types.specs.declared.kind.FileKind.{FileKind}
 use Rattle.lu_types.specs.declared.fault.CodecFault.{CodecFault}
 use Rattle.lu_types.specs.Judging.{IsBrokenSo}
-use Rattle.lu_grammar.specs.Bytes.{Cursor, start_of}
+use Rattle.lu_grammar.specs.Bytes.{Cursor}
 use Rattle.lu_grammar.specs.Parts.{num, vlong}
 use Rattle.lu_grammar.specs.Reading.{read_part}
-use Rattle.lu_grammar.specs.Records.{first_broken, record_at}
-use Rattle.lu_grammar.specs.Plans.{Plan, done, due, and_then, Broken, read_plan}
+use Rattle.lu_grammar.specs.Records.{record_at}
+use Rattle.lu_grammar.specs.Plans.{Plan, done, and_then, Broken, read_plan}
 use Rattle.lu_grammar.proofs.Codecs.{read_due, read_due_broken, alone_read, alone_breaks}
 use Rattle.lu_types.specs.Stores.{greatest_place}
 use Rattle.term_vectors.specs.declared.layout.DocumentPlaces.{DocumentPlaces}
-use Rattle.term_vectors.specs.Format.{vector_format, format_shape, format_rule, headed}
-use Rattle.term_vectors.specs.Fields.{TvdRecord, VectorPlace, format, count, number, difference, stated, format_conditions, count_shape, count_conditions, is_among, number_shape, number_conditions, numbers_plan, difference_shape, difference_conditions, further_plan, placed, document_plan, is_within, documents_plan, tvd_plan}
+use Rattle.term_vectors.specs.Format.{headed}
+use Rattle.term_vectors.specs.Fields.{TvdRecord, VectorPlace, count, number, difference, stated, count_shape, count_conditions, number_shape, number_conditions, numbers_plan, difference_shape, difference_conditions, further_plan, placed, document_plan}
 use Rattle.term_vectors.specs.InnerFields.{HasFieldNumbers}
-use Rattle.term_vectors.proofs.Steps.{Continues, record-left, led-left, then-left, then-broken, then-broken_so, Continues-then, Continues-ok, Continues-err}
-use Rattle.term_vectors.proofs.FormatLemmas.{header-left, header-broken}
-use Rattle.term_vectors.proofs.PlaceLemmas.{IsBehindFormat}
+use Rattle.term_vectors.proofs.Steps.{Continues, record-left, then-left, then-broken, then-broken_so, Continues-then, Continues-ok, Continues-err}
 
 -- ---- one record
 

@@ -1,15 +1,15 @@
 -- What a writer holds, before and after each of its calls.
-use Rattle.std.proofs.Common.{◌≡◌, ℕ, zero, suc, ◌+◌, ◌-◌, ◌<◌, Bool, true, false, eqb, List, [], ◌∷◌, ◌++◌, length, Option, Some, None, refl, sym, ap, subst, ◌∙◌, append_assoc, arith}
+use Rattle.std.proofs.Common.{◌≡◌, ℕ, zero, suc, ◌+◌, ◌-◌, ◌<◌, Bool, true, false, eqb, List, [], ◌∷◌, ◌++◌, length, Option, Some, refl, sym, ap, subst, ◌∙◌, append_assoc, arith}
 use Rattle.std.specs.Prelude.{if◌then◌else◌, ◌==◌}
 use Rattle.std.specs.List.{flat_map}
-use Rattle.std.proofs.lemmas.Bool.{eq-eqb, ne_eqb, cases_eq}
+use Rattle.std.proofs.lemmas.Bool.{eq-eqb, ne_eqb}
 use Rattle.std.proofs.lemmas.List.{append-nil}
 use Rattle.lu_grammar.specs.Parts.{vint, num, spelling}
 use Rattle.lu_model.specs.Index.{Span, VectorTerm}
 use Rattle.term_vectors.specs.Format.{bit_positions, bit_offsets}
 use Rattle.term_vectors.specs.Vectors.{StoredVector, kept_count}
-use Rattle.term_vectors.specs.VectorBytes.{vector_header_bytes, vector_positions_bytes, span_bytes, vector_spans_bytes, term_front_bytes, vector_term_bytes, vector_terms_bytes, vector_heading_bytes, vector_bytes, vectors_bytes, tvf_bytes, vector_number_bytes, vector_length_bytes, differences_bytes, document_fields_bytes, tvd_bytes, document_places_bytes, written_places, tvx_bytes}
-use Rattle.term_vectors.specs.VectorWriting.{VectorWriting, IsTermWhole, IsVectorWhole, IsDocumentWhole, no_vectors_written, with_document_begun, difference_from, differences_with, differences_at_last, with_vector_begun, with_term_begun, with_position, with_span, HoldsDocuments, begun_places_bytes, vector_start, last_start, HoldsOpenDocument, BegunVector, HoldsVectorBytes, last_vector_text, HoldsOpenVector, last_vector_position, last_vector_end, HoldsOpenTerm, begun_vector, begun_term, with_one_position, with_one_span}
+use Rattle.term_vectors.specs.VectorBytes.{vector_header_bytes, vector_positions_bytes, span_bytes, vector_spans_bytes, term_front_bytes, vector_terms_bytes, vector_heading_bytes, vector_bytes, vectors_bytes, tvf_bytes, vector_number_bytes, vector_length_bytes, differences_bytes, tvd_bytes, document_places_bytes, written_places, tvx_bytes}
+use Rattle.term_vectors.specs.VectorWriting.{VectorWriting, IsTermWhole, no_vectors_written, with_document_begun, difference_from, differences_with, differences_at_last, with_vector_begun, with_term_begun, with_position, with_span, HoldsDocuments, last_start, HoldsOpenDocument, BegunVector, HoldsVectorBytes, last_vector_text, HoldsOpenVector, last_vector_position, last_vector_end, HoldsOpenTerm, begun_vector, begun_term, with_one_position, with_one_span}
 use Rattle.term_vectors.proofs.BytesMore.{flat_map-more, length-more, positions-more, last_position-more, spans-more, last_end-more, terms-more, last_text-more, differences-more, last_start-more, differences-all, tvd-more, tvf-more, tvx-more}
 
 -- ---- documents

@@ -1,18 +1,18 @@
 -- What is left to read: one more is taken from it, and what a term that was read is made of.
-use Rattle.std.proofs.Common.{◌≡◌, ℕ, zero, suc, ◌+◌, ◌≤◌, Bool, true, false, not, eqb, ltb, List, [], ◌∷◌, ◌++◌, length, take, Option, Some, None, Result, Ok, Err, refl, sym, ap, subst, ◌∙◌, arith}
+use Rattle.std.proofs.Common.{◌≡◌, ℕ, suc, ◌≤◌, Bool, true, false, not, eqb, ltb, List, [], ◌∷◌, ◌++◌, length, take, Option, Some, None, Result, Ok, Err, refl, sym, ap, ◌∙◌}
 use borrow.Author.Tests.{ltb-false}
 use Rattle.std.specs.Option.{unwrap_or}
 use Rattle.std.specs.Str.{IsUtf8, is_utf8}
 use Rattle.std.proofs.lemmas.Str.{IsUtf8-from_is_utf8}
 use Rattle.lu_grammar.specs.declared.bad.Bad.{Bad}
 use Rattle.lu_grammar.specs.Bytes.{IsBytes, Cursor, place_in}
-use Rattle.lu_grammar.specs.Reading.{◌>>=◌, value_or}
+use Rattle.lu_grammar.specs.Reading.{value_or}
 use Rattle.lu_grammar.specs.Records.{Shape, Condition, first_broken, read_shape, record_at}
 use Rattle.lu_grammar.specs.Plans.{Plan, done, due, Broken, read_plan}
 use Rattle.lu_grammar.proofs.Codecs.{ok_pair, same_pair, ok_of, err_is_not_ok, then_ok, due_was, read_due, record_at-was, read_plan-and_then, place_in-after}
 use Rattle.lu_model.specs.Index.{Span, VectorTerm}
 use Rattle.term_vectors.specs.Format.{bit_positions, bit_offsets, headed}
-use Rattle.term_vectors.specs.Vectors.{TvfRecord, term, freq_of, kept_count, text_after, is_above, position_shape, position_after, position_conditions, positions_plan, pair_shape, span_after, pair_conditions, spans_plan, term_shape, term_conditions, term_plan, terms_plan}
+use Rattle.term_vectors.specs.Vectors.{TvfRecord, term, kept_count, is_above, position_shape, position_after, position_conditions, positions_plan, pair_shape, span_after, pair_conditions, spans_plan, term_shape, term_conditions, term_plan, terms_plan}
 use Rattle.term_vectors.proofs.Steps.{headed_was}
 use Rattle.term_vectors.proofs.OccurrenceLemmas.{reads_positions, reads_spans}
 use Rattle.term_vectors.proofs.TermLemmas.{term_of, spans_after, rest_of_term, reads_terms}

@@ -1,7 +1,6 @@
 -- What a sound last text is, and the text that stands before the next one.
-use Rattle.std.proofs.Common.{◌≡◌, Bool, true, false, cond, [], length, Option, Some, None, refl, sym, ap}
+use Rattle.std.proofs.Common.{◌≡◌, Bool, true, false, cond, [], Some, None, refl, sym, ap}
 use Rattle.std.specs.Option.{unwrap_or}
-use Rattle.std.specs.declared.cmp.Ordering.{Ordering}
 use Rattle.term_vectors.specs.declared.texts.LastText.{LastText}
 use Rattle.term_vectors.specs.InnerTexts.{text_before, IsSoundText}
 

@@ -1,8 +1,7 @@
 -- Worked rows on the written form.
-use Rattle.std.proofs.Common.{◌≡◌, ℕ, List, [], ◌∷◌, ◌++◌, refl}
+use Rattle.std.proofs.Common.{◌≡◌, List, [], ◌∷◌, refl}
 use Rattle.std.specs.Prelude.{codes}
 use Rattle.lu_grammar.specs.Parts.{groups}
-use Rattle.lu_model.specs.Index.{Span, VectorTerm}
 use Rattle.term_vectors.specs.Vectors.{StoredVector}
 use Rattle.term_vectors.specs.VectorBytes.{vector_positions_bytes, vector_spans_bytes, shared_length, vector_terms_bytes, differences_bytes, written_places, tvx_bytes, tvd_bytes, tvf_bytes}
 

@@ -1,9 +1,8 @@
 -- Where the vectors of a document stand, by their number.
-use Rattle.std.proofs.Common.{◌≡◌, ℕ, zero, suc, ◌+◌, ◌-◌, ◌<◌, ◌≤◌, Bool, true, false, eqb, cond, List, [], ◌∷◌, length, drop, map, get_or, Option, Some, None, Result, Ok, Err, refl, sym, ap, subst, ◌∙◌, arith, add-one}
+use Rattle.std.proofs.Common.{◌≡◌, ℕ, zero, suc, ◌+◌, ◌-◌, ◌<◌, ◌≤◌, Bool, true, false, eqb, cond, List, [], ◌∷◌, length, drop, get_or, None, Ok, Err, refl, sym, ap, ◌∙◌, arith, add-one}
 use Rattle.std.proofs.lemmas.Bool.{eqb-true, eqb-false}
-use Rattle.std.proofs.Math.Seq.{drop-cons}
 use Rattle.lu_grammar.specs.declared.bad.Bad.{Bad}
-use Rattle.lu_grammar.specs.Bytes.{IsBytes, Cursor, place_in}
+use Rattle.lu_grammar.specs.Bytes.{Cursor}
 use Rattle.lu_grammar.specs.Parts.{num}
 use Rattle.lu_grammar.specs.Reading.{read_part, value_or}
 use Rattle.lu_grammar.specs.Records.{record_at}
@@ -17,7 +16,7 @@ use Rattle.term_vectors.specs.InnerViews.{no_slot, slots_plan, IsVectorThere, Ar
 use Rattle.term_vectors.proofs.Steps.{headed_was}
 use Rattle.term_vectors.proofs.FieldLemmas.{reads_numbers, reads_further, further-broken}
 use Rattle.term_vectors.proofs.TermLemmas.{reads_terms}
-use Rattle.term_vectors.proofs.VectorLemmas.{vector_of, rest_of_vector, vector-broken}
+use Rattle.term_vectors.proofs.VectorLemmas.{vector_of, rest_of_vector}
 use Rattle.term_vectors.proofs.WasRead.{numbers-many, further-next, further-ends}
 use Rattle.term_vectors.proofs.WalkLemmas.{one_left}
 

@@ -1,17 +1,17 @@
 -- Where the documents of a store without a fault stand.
-use Rattle.std.proofs.Common.{◌≡◌, ℕ, zero, suc, ◌+◌, ◌<◌, ◌≤◌, Bool, true, false, not, eqb, ltb, List, [], ◌∷◌, length, take, drop, map, get_or, Some, None, Result, Ok, refl, sym, ap, subst, ◌∙◌, arith}
+use Rattle.std.proofs.Common.{◌≡◌, ℕ, zero, suc, ◌+◌, ◌<◌, ◌≤◌, Bool, true, false, not, eqb, ltb, List, [], ◌∷◌, length, drop, map, get_or, None, Ok, refl, sym, ap, subst, ◌∙◌, arith}
 use Rattle.std.proofs.lemmas.List.{length-take, length-drop, get_or-take, get_or-drop}
 use Rattle.lu_types.specs.declared.stored.Window.{Window}
 use Rattle.lu_grammar.specs.Bytes.{IsBytes, Cursor, start_of, place_in}
 use Rattle.lu_grammar.specs.Parts.{int32, num}
-use Rattle.lu_grammar.specs.Reading.{◌>>=◌, read_part}
-use Rattle.lu_grammar.specs.Records.{Condition, first_broken, record_at}
-use Rattle.lu_grammar.specs.Plans.{Broken, read_plan, read_file}
+use Rattle.lu_grammar.specs.Reading.{read_part}
+use Rattle.lu_grammar.specs.Records.{first_broken, record_at}
+use Rattle.lu_grammar.specs.Plans.{read_plan, read_file}
 use Rattle.lu_grammar.proofs.Codecs.{ok_pair, same_pair, ok_of, then_ok, due_was, record_at-was, alone_was, read_plan-and_then, file_was, same-of, int32_read}
 use Rattle.lu_types.specs.Stores.{windowed}
 use Rattle.term_vectors.specs.declared.layout.DocumentPlaces.{DocumentPlaces}
 use Rattle.term_vectors.specs.Format.{format_shape, headed}
-use Rattle.term_vectors.specs.Fields.{VectorPlace, count, stated, count_shape, count_conditions, document_plan, is_within, no_window, documents_plan}
+use Rattle.term_vectors.specs.Fields.{VectorPlace, count, stated, count_shape, count_conditions, document_plan, no_window, documents_plan}
 use Rattle.term_vectors.specs.Vectors.{TvfRecord, StoredVector, format, format_conditions, bits_of_heading, heading_shape, heading_conditions, vector_plan, vectors_plan, all_plan, tvf_plan}
 use Rattle.term_vectors.specs.Stores.{places_in, slots_in, stored_vectors_in}
 use Rattle.term_vectors.specs.InnerViews.{no_vector, slots_plan, vector_here, IsVectorThere, AreAllThere, HaveNoFault}
@@ -30,7 +30,7 @@ IsIn bytes c = (c ≡ place_in bytes c.place) × (c.place ≤ length bytes)
 -- ---- the vectors of a document
 
 -- a vector that was read stands at its place
-at_its_place : (wanted place : ℕ) (r : TvfRecord) → first_broken (heading_conditions wanted place r) ≡ None → place ≡ wanted
+pub at_its_place : (wanted place : ℕ) (r : TvfRecord) → first_broken (heading_conditions wanted place r) ≡ None → place ≡ wanted
 at_its_place wanted place r h = same-of place wanted (go (not (eqb place wanted)) h)
   where
     go : (b : Bool) → first_broken (record { rule = 106; broken = b } ∷ record { rule = 107; broken = ltb 3 (bits_of_heading r) } ∷ []) ≡ None → b ≡ false

@@ -1,12 +1,12 @@
 -- Where the places of each document stand in `.tvx`.
-use Rattle.std.proofs.Common.{◌≡◌, ℕ, zero, suc, ◌+◌, ◌*◌, ◌<◌, ◌≤◌, List, [], ◌∷◌, length, drop, get_or, Option, Some, None, Result, Ok, refl, sym, ap, subst, ◌∙◌, arith, ℤ}
+use Rattle.std.proofs.Common.{◌≡◌, ℕ, zero, suc, ◌+◌, ◌*◌, ◌<◌, ◌≤◌, List, [], ◌∷◌, length, drop, get_or, Option, Some, None, Ok, refl, sym, ap, subst, ◌∙◌, arith, ℤ}
 use Rattle.std.specs.Option.{unwrap_or}
 use Rattle.std.proofs.lemmas.List.{length-drop, drop-drop}
 use Rattle.lu_grammar.specs.declared.bad.Bad.{Bad}
 use Rattle.lu_grammar.specs.Bytes.{Cursor, start_of, place_in, moved}
 use Rattle.lu_grammar.specs.Parts.{int32, int64}
 use Rattle.lu_grammar.specs.Reading.{◌>>=◌, read_part}
-use Rattle.lu_grammar.specs.Records.{whole, part, read_shape, record_at}
+use Rattle.lu_grammar.specs.Records.{whole, part, read_shape}
 use Rattle.lu_grammar.specs.Plans.{read_plan, read_file}
 use Rattle.lu_grammar.proofs.Codecs.{ok_pair, same_pair, ok_of, then_ok, due_was, record_at-was, alone_was, file_was, read_shape-part, int64_read, int32_read}
 use Rattle.term_vectors.specs.declared.layout.DocumentPlaces.{DocumentPlaces}

@@ -1,7 +1,7 @@
 -- The vectors of a document, by their number.
-use Rattle.std.proofs.Common.{◌≡◌, ℕ, ◌<◌, List, [], length, get_or, map, Result, Ok, Err, sym, ap, subst, ◌∙◌, arith}
+use Rattle.std.proofs.Common.{◌≡◌, ℕ, ◌<◌, List, length, get_or, sym, ap, ◌∙◌, arith}
 use Rattle.std.proofs.lemmas.List.{length-map, get_or-map}
-use Rattle.lu_grammar.specs.Bytes.{Cursor, place_in}
+use Rattle.lu_grammar.specs.Bytes.{place_in}
 use Rattle.term_vectors.specs.Fields.{VectorPlace}
 use Rattle.term_vectors.specs.Vectors.{StoredVector}
 use Rattle.term_vectors.specs.InnerViews.{no_vector, no_slot, slots_here, vector_here, vectors_here, IsVectorThere, AreThere}

@@ -1,14 +1,11 @@
 -- A loop that reads so many turns of a plan: what is left of all, after some.
-use Rattle.std.proofs.Common.{◌≡◌, ℕ, zero, suc, ◌+◌, ◌-◌, ◌<◌, List, [], Result, Ok, Err, refl, sym, ap, subst, ◌∙◌, arith}
+use Rattle.std.proofs.Common.{◌≡◌, ℕ, suc, ◌+◌, ◌-◌, ◌<◌, List, [], Result, Ok, Err, sym, ap, subst, ◌∙◌, arith}
 use Rattle.lu_types.specs.declared.kind.FileKind.{FileKind}
-use Rattle.lu_types.specs.declared.fault.Spot.{Spot}
 use Rattle.lu_types.specs.declared.fault.CodecFault.{CodecFault}
-use Rattle.lu_types.specs.declared.fault.CodecFault.TheVariants as faults
-use Rattle.lu_types.specs.Judging.{IsBroken, IsBrokenSo}
+use Rattle.lu_types.specs.Judging.{IsBrokenSo}
 use Rattle.lu_grammar.specs.Bytes.{Cursor}
 use Rattle.lu_grammar.specs.Plans.{Broken}
-use Rattle.lu_grammar.proofs.Codecs.{ok_pair}
-use Rattle.term_vectors.proofs.Steps.{Continues, Continues-same, Continues-then, Continues-ok, Continues-err, Continues-broken, Continues-broken_so}
+use Rattle.term_vectors.proofs.Steps.{Continues, Continues-same, Continues-then, Continues-ok, Continues-err, Continues-broken_so}
 
 module _ {A S : Type 0} (reads : ℕ → S → Cursor → Result (List A × Cursor) Broken) (total : ℕ) (first : S) (start : Cursor) where
   -- after so many turns the others are left, from this state and place

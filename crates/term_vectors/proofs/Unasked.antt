@@ -1,16 +1,16 @@
 -- A `.tvd` that was read is read so too where nothing is asked of the fields.
-use Rattle.std.proofs.Common.{◌≡◌, ℕ, zero, suc, ◌+◌, ◌-◌, Bool, true, false, not, ◌&&◌, ltb, leb, List, [], ◌∷◌, length, Option, Some, None, Result, Ok, refl, sym, ap, subst, ◌∙◌, arith}
+use Rattle.std.proofs.Common.{◌≡◌, ℕ, zero, suc, ◌+◌, Bool, true, false, not, ◌&&◌, ltb, leb, List, [], ◌∷◌, length, None, Result, Ok, refl, sym, ap, ◌∙◌, arith}
 use Rattle.std.proofs.lemmas.Bool.{le-ltb}
 use Rattle.lu_types.specs.Tables.{TableField}
 use Rattle.lu_types.specs.declared.stored.Window.{Window}
 use Rattle.lu_grammar.specs.Bytes.{Cursor, start_of}
 use Rattle.lu_grammar.specs.Reading.{◌>>=◌, value_or}
-use Rattle.lu_grammar.specs.Records.{first_broken, record_at}
-use Rattle.lu_grammar.specs.Plans.{Plan, done, and_then, Broken, read_plan, ended, read_file}
+use Rattle.lu_grammar.specs.Records.{first_broken}
+use Rattle.lu_grammar.specs.Plans.{Broken, read_plan, ended, read_file}
 use Rattle.lu_grammar.proofs.Codecs.{ok_pair, ok_of, then_ok, due_was, record_at-was, record_at-read, read_due, read_plan-and_then, nothing_left, file_was}
 use Rattle.term_vectors.specs.declared.layout.DocumentPlaces.{DocumentPlaces}
 use Rattle.term_vectors.specs.Format.{format_shape, headed}
-use Rattle.term_vectors.specs.Fields.{TvdRecord, VectorPlace, format, format_conditions, stated, count_shape, count_conditions, has_vectors, is_among, number_shape, number_conditions, numbers_plan, further_plan, placed, document_plan, is_within, no_window, documents_plan, tvd_plan}
+use Rattle.term_vectors.specs.Fields.{VectorPlace, format, format_conditions, stated, count_shape, count_conditions, has_vectors, is_among, number_shape, number_conditions, numbers_plan, document_plan, is_within, no_window, documents_plan, tvd_plan}
 use Rattle.term_vectors.specs.Stores.{slots_in}
 use Rattle.term_vectors.proofs.Steps.{headed_was, headed-done}
 use Rattle.term_vectors.proofs.FieldLemmas.{reads_numbers, further_of, rest_of_document}

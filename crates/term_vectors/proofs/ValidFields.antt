@@ -1,37 +1,22 @@
 -- What the fields of the vectors are that `.tvd` has, where this was asked.
-use Rattle.std.proofs.Common.{◌≡◌, ◌≢◌, ℕ, zero, suc, ◌+◌, ◌-◌, ◌<◌, ◌≤◌, ◌^◌, Bool, true, false, not, ◌&&◌, ◌||◌, ltb, leb, eqb, List, [], ◌∷◌, length, take, drop, map, get_or, Option, Some, None, Result, Ok, refl, sym, ap, subst, ◌∙◌, arith}
-use Rattle.std.specs.Prelude.{All, AllPairs}
+use Rattle.std.proofs.Common.{◌≡◌, ◌≢◌, ℕ, zero, suc, ◌+◌, ◌-◌, ◌<◌, ◌≤◌, ◌^◌, Bool, true, false, not, ◌&&◌, ◌||◌, eqb, List, [], ◌∷◌, length, get_or, None, Ok, refl, sym, ap, subst, ◌∙◌, arith}
 use Rattle.std.specs.List.{AllByRecursion}
-use Rattle.std.proofs.lemmas.Bool.{eqb-false, eq-eqb, lt-ltb}
-use borrow.Author.Tests.{ltb-false}
-use Rattle.std.proofs.lemmas.List.Elements.{All-cons}
-use Rattle.std.proofs.lemmas.List.Kept.{AllPairs-cons}
-use Rattle.lu_types.specs.Tables.{TableField, bits_at}
-use Rattle.lu_types.specs.Bits as bit
-use Rattle.lu_types.specs.Bits.{has_bit}
+use Rattle.std.proofs.lemmas.Bool.{eq-eqb}
+use Rattle.lu_types.specs.Tables.{TableField}
 use Rattle.lu_types.specs.declared.stored.Window.{Window}
 use Rattle.lu_grammar.specs.Bytes.{IsBytes, Cursor}
-use Rattle.lu_grammar.specs.Parts.{byte, num}
-use Rattle.lu_grammar.specs.Reading.{◌>>=◌, read_part}
-use Rattle.lu_grammar.specs.Records.{first_broken, read_shape, record_at}
-use Rattle.lu_grammar.specs.Plans.{Plan, done, and_then, read_plan}
-use Rattle.lu_grammar.specs.declared.bad.Bad.{Bad}
-use Rattle.lu_grammar.proofs.Codecs.{ok_pair, same_pair, then_ok, due_was, record_at-was, alone_was, read_plan-and_then, read_part-place, IsBytes-after}
-use Rattle.lu_model.specs.Valid.{IsSmall, IsVector}
-use Rattle.lu_model.specs.Contents.{field_at}
+use Rattle.lu_grammar.specs.Parts.{num}
+use Rattle.lu_grammar.specs.Records.{first_broken}
+use Rattle.lu_grammar.specs.Plans.{done, read_plan}
+use Rattle.lu_grammar.proofs.Codecs.{ok_pair, same_pair, then_ok, due_was, record_at-was, alone_was, read_plan-and_then, IsBytes-after}
 use Rattle.term_vectors.specs.declared.layout.DocumentPlaces.{DocumentPlaces}
 use Rattle.term_vectors.specs.Format.{headed}
-use Rattle.term_vectors.specs.Fields.{TvdRecord, VectorPlace, count, number, stated, count_shape, count_conditions, has_vectors, is_among, number_shape, number_conditions, numbers_plan, further_plan, placed, document_plan, is_within, documents_plan}
-use Rattle.term_vectors.specs.Vectors.{TvfRecord, StoredVector, heading, count_of_heading, bits_of_heading, heading_shape, heading_conditions, terms_plan, vector_plan, vectors_plan, all_plan}
-use Rattle.term_vectors.specs.Stores.{AreVectors}
+use Rattle.term_vectors.specs.Fields.{VectorPlace, count, stated, count_shape, count_conditions, has_vectors, is_among, number_shape, number_conditions, numbers_plan, further_plan, placed, document_plan, is_within, documents_plan}
 use Rattle.term_vectors.proofs.Steps.{headed_was}
 use Rattle.term_vectors.proofs.FieldLemmas.{reads_numbers, reads_further, further_of, rest_of_document}
-use Rattle.term_vectors.proofs.DocumentLemmas.{no_places}
-use Rattle.term_vectors.proofs.TermLemmas.{reads_terms}
-use Rattle.term_vectors.proofs.VectorLemmas.{vector_of, rest_of_vector, reads_vectors, reads_all}
 use Rattle.term_vectors.proofs.WasRead.{numbers-many}
 use Rattle.term_vectors.proofs.Unasked.{numbers-unasked}
-use Rattle.term_vectors.proofs.ValidVectors.{forward, part_value, TermsAre, terms_are}
+use Rattle.term_vectors.proofs.ValidVectors.{part_value}
 use Rattle.term_vectors.proofs.ValidStores.{AreAsked}
 
 -- ---- the fields in `.tvd`

@@ -1,30 +1,17 @@
 -- What the terms of every vector that was read are.
-use Rattle.std.proofs.Common.{◌≡◌, ℕ, zero, suc, ◌+◌, ◌<◌, ◌≤◌, ◌^◌, Bool, true, false, not, ◌||◌, cond, ltb, eqb, List, [], ◌∷◌, ◌++◌, length, take, map, get_or, Option, Some, None, Result, Ok, refl, sym, ap, subst, ◌∙◌, arith}
+use Rattle.std.proofs.Common.{◌≡◌, ℕ, zero, suc, ◌<◌, ◌≤◌, ◌^◌, Bool, true, false, ◌||◌, ltb, List, [], ◌∷◌, length, None, Ok, refl, sym, ap, subst, ◌∙◌, arith}
 use Rattle.std.specs.Prelude.{All}
-use Rattle.std.specs.Option.{unwrap_or}
-use Rattle.std.specs.Ordering.{is_lt}
-use Rattle.std.specs.Str.{IsUtf8, is_utf8}
-use Rattle.std.specs.List.{AllByRecursion}
-use Rattle.std.specs.List.Sorted.{IsStrictlySortedBy, IsNonDecreasing}
-use Rattle.std.specs.declared.cmp.Ordering.{Ordering}
-use Rattle.std.specs.declared.cmp.Ordering.TheVariants.{Less, Equal, Greater}
-use Rattle.std.proofs.lemmas.Bool.{eqb-false}
+use Rattle.std.specs.List.Sorted.{IsNonDecreasing}
 use borrow.Author.Tests.{ltb-false}
-use Rattle.std.proofs.lemmas.List.{length-append, length-take, nil_from_length}
 use Rattle.std.proofs.lemmas.List.Elements.{All-cons}
-use Rattle.lu_prims.specs.Order.{text_cmp}
-use Rattle.lu_prims.proofs.Units.{text_order}
-use Rattle.lu_types.specs.Bits.{has_bit}
-use Rattle.lu_grammar.specs.Bytes.{IsBytes, Cursor}
-use Rattle.lu_grammar.specs.Parts.{num, bytes}
-use Rattle.lu_grammar.specs.Reading.{◌>>=◌, read_part}
-use Rattle.lu_grammar.specs.Records.{first_broken, read_shape, record_at}
-use Rattle.lu_grammar.specs.Plans.{Plan, done, and_then, read_plan}
-use Rattle.lu_grammar.proofs.Codecs.{ok_pair, same_pair, ok_of, then_ok, due_was, record_at-was, read_plan-and_then, IsBytes-after, reads-read_plan, read_part-place}
+use Rattle.lu_grammar.specs.Bytes.{Cursor}
+use Rattle.lu_grammar.specs.Records.{first_broken}
+use Rattle.lu_grammar.specs.Plans.{read_plan}
+use Rattle.lu_grammar.proofs.Codecs.{same_pair, due_was, record_at-was}
 use Rattle.lu_types.specs.Stores.{greatest_place}
-use Rattle.lu_model.specs.Index.{Span, VectorTerm}
-use Rattle.lu_model.specs.Valid.{IsSmall, AreAsMany, IsVectorTerm}
-use Rattle.term_vectors.specs.Format.{bit_positions, bit_offsets, headed}
+use Rattle.lu_model.specs.Index.{Span}
+use Rattle.lu_model.specs.Valid.{IsSmall}
+use Rattle.term_vectors.specs.Format.{headed}
 use Rattle.term_vectors.specs.Vectors.{TvfRecord, format, heading, term, position, pair, position_shape, position_after, position_conditions, positions_plan, pair_shape, span_after, pair_conditions, spans_plan}
 use Rattle.term_vectors.proofs.Steps.{headed_was}
 use Rattle.term_vectors.proofs.OccurrenceLemmas.{reads_positions, reads_spans}

@@ -1,5 +1,5 @@
 -- What every vector that was read is: its terms.
-use Rattle.std.proofs.Common.{◌≡◌, ℕ, zero, suc, ◌+◌, ◌<◌, ◌≤◌, ◌^◌, Bool, true, false, not, cond, ltb, eqb, List, [], ◌∷◌, ◌++◌, length, take, map, Option, Some, None, Result, Ok, refl, sym, ap, subst, ◌∙◌, arith}
+use Rattle.std.proofs.Common.{◌≡◌, ℕ, zero, suc, ◌+◌, ◌<◌, ◌≤◌, ◌^◌, Bool, true, false, not, cond, ltb, eqb, List, [], ◌∷◌, ◌++◌, length, take, map, Option, Some, None, Ok, refl, sym, ap, subst, ◌∙◌, arith}
 use Rattle.std.specs.Prelude.{All}
 use Rattle.std.specs.Option.{unwrap_or}
 use Rattle.std.specs.Ordering.{is_lt}
@@ -13,17 +13,16 @@ use Rattle.std.proofs.lemmas.List.{length-append, length-take, nil_from_length}
 use Rattle.std.proofs.lemmas.List.Elements.{All-cons}
 use Rattle.lu_prims.specs.Order.{text_cmp}
 use Rattle.lu_prims.proofs.Units.{text_order}
-use Rattle.lu_types.specs.Bits.{has_bit}
 use Rattle.lu_grammar.specs.Bytes.{IsBytes, Cursor, moved}
 use Rattle.lu_grammar.proofs.LawLemmas.{read_is_spelled}
 use Rattle.std.proofs.lemmas.Str.{IsUtf8-from_is_utf8}
 use Rattle.lu_grammar.specs.Parts.{Part, Value, IsValue, num, bytes}
-use Rattle.lu_grammar.specs.Reading.{◌>>=◌, read, read_part}
-use Rattle.lu_grammar.specs.Records.{Shape, whole, part, first_broken, read_shape, record_at}
+use Rattle.lu_grammar.specs.Reading.{read, read_part}
+use Rattle.lu_grammar.specs.Records.{Shape, whole, part, first_broken, read_shape}
 use Rattle.lu_grammar.specs.Plans.{Plan, done, read_plan}
-use Rattle.lu_grammar.proofs.Codecs.{ok_pair, same_pair, ok_of, then_ok, due_was, record_at-was, read_plan-and_then, IsBytes-after, reads-read_plan, read_part-place}
+use Rattle.lu_grammar.proofs.Codecs.{ok_pair, same_pair, then_ok, due_was, record_at-was, read_plan-and_then, IsBytes-after, reads-read_plan, read_part-place}
 use Rattle.lu_grammar.specs.declared.bad.Bad.{Bad}
-use Rattle.lu_model.specs.Index.{Span, VectorTerm}
+use Rattle.lu_model.specs.Index.{VectorTerm}
 use Rattle.lu_model.specs.Valid.{AreAsMany, IsVectorTerm}
 use Rattle.term_vectors.specs.Format.{bit_positions, bit_offsets}
 use Rattle.term_vectors.specs.Vectors.{TvfRecord, term, text_after, is_above, freq_of, prefix_of, kept_count, positions_plan, spans_plan, term_shape, term_conditions, term_plan, terms_plan}

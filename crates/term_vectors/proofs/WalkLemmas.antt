@@ -1,5 +1,5 @@
 -- `.tvf` beside `.tvd`: the vectors at the places that are read on the way.
-use Rattle.std.proofs.Common.{◌≡◌, ℕ, zero, suc, ◌+◌, ◌-◌, ◌<◌, false, Bool, List, [], ◌∷◌, length, drop, get_or, Result, Ok, Err, refl, sym, ap, subst, ◌∙◌, arith, add-one}
+use Rattle.std.proofs.Common.{◌≡◌, ℕ, suc, ◌+◌, ◌-◌, ◌<◌, false, Bool, List, [], ◌∷◌, length, drop, get_or, Result, Ok, Err, refl, sym, ap, subst, ◌∙◌, arith, add-one}
 use Rattle.std.proofs.Math.Seq.{drop-cons, drop-length}
 use Rattle.lu_types.specs.declared.kind.FileKind.{FileKind}
 use Rattle.lu_types.specs.declared.fault.CodecFault.{CodecFault}
@@ -10,7 +10,7 @@ use Rattle.lu_grammar.specs.Records.{record_at}
 use Rattle.lu_grammar.specs.Plans.{Broken, read_plan}
 use Rattle.lu_grammar.proofs.Codecs.{ok_pair, ok_of, same_pair, err_is_not_ok}
 use Rattle.term_vectors.specs.declared.layout.DocumentPlaces.{DocumentPlaces}
-use Rattle.term_vectors.specs.Fields.{TvdRecord, VectorPlace, stated, difference_shape, difference_conditions, placed, document_plan, is_within, no_window, documents_plan}
+use Rattle.term_vectors.specs.Fields.{TvdRecord, VectorPlace, stated, difference_shape, difference_conditions, placed, document_plan, no_window, documents_plan}
 use Rattle.term_vectors.specs.Vectors.{StoredVector, vector_plan}
 use Rattle.term_vectors.specs.InnerAnswers.{PassesIn}
 use Rattle.term_vectors.proofs.Steps.{Continues, Continues-same, Continues-then, Continues-ok, Continues-broken_so}

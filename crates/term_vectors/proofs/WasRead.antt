@@ -1,12 +1,12 @@
 -- What it says of `.tvd` that it was read: the parts of its documents.
-use Rattle.std.proofs.Common.{◌≡◌, ℕ, zero, suc, ◌+◌, ◌-◌, ◌<◌, ◌≤◌, Bool, true, false, not, eqb, List, [], ◌∷◌, length, Option, Some, None, Result, Ok, Err, refl, sym, ap, subst, ◌∙◌, arith}
+use Rattle.std.proofs.Common.{◌≡◌, ℕ, zero, suc, ◌+◌, ◌-◌, ◌<◌, ◌≤◌, Bool, true, false, not, eqb, List, [], ◌∷◌, length, Option, Some, None, Ok, Err, refl, sym, ap, ◌∙◌, arith}
 use Rattle.std.proofs.lemmas.List.{nil_from_length}
 use Rattle.lu_grammar.specs.declared.bad.Bad.{Bad}
 use Rattle.lu_grammar.specs.Bytes.{Cursor, start_of, moved}
 use Rattle.lu_grammar.specs.Parts.{int32, num}
-use Rattle.lu_grammar.specs.Reading.{◌>>=◌, read_part}
+use Rattle.lu_grammar.specs.Reading.{read_part}
 use Rattle.lu_grammar.specs.Records.{first_broken, rule_of, record_at}
-use Rattle.lu_grammar.specs.Plans.{Plan, done, and_then, Broken, read_plan, read_file}
+use Rattle.lu_grammar.specs.Plans.{done, read_plan, read_file}
 use Rattle.lu_grammar.proofs.Codecs.{ok_pair, same_pair, ok_of, err_is_not_ok, then_ok, due_was, read_due, record_at-was, alone_was, alone_read, alone_breaks, alone_unread, read_plan-and_then, file_was, same-of, int32_read}
 use Rattle.term_vectors.specs.declared.layout.DocumentPlaces.{DocumentPlaces}
 use Rattle.term_vectors.specs.Format.{format_shape, headed}

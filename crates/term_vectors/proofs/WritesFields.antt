@@ -1,17 +1,15 @@
 -- What the written `.tvd` is read as.
-use Rattle.std.proofs.Common.{◌≡◌, ◌≢◌, ℕ, zero, suc, ◌+◌, ◌-◌, ◌^◌, ◌<◌, ◌≤◌, Bool, true, false, not, eqb, ltb, List, [], ◌∷◌, ◌++◌, length, map, None, refl, sym, ap, subst, ◌∙◌, arith, append_assoc}
-use Rattle.std.specs.Prelude.{All, AllPairs, slice_index_or, ◌&&◌, ◌||◌}
+use Rattle.std.proofs.Common.{◌≡◌, ◌≢◌, ℕ, suc, ◌+◌, ◌-◌, ◌^◌, ◌<◌, Bool, true, false, not, eqb, ltb, List, [], ◌∷◌, ◌++◌, length, map, None, refl, sym, ap, subst, arith}
+use Rattle.std.specs.Prelude.{All, AllPairs, slice_index_or, ◌&&◌}
 use Rattle.std.specs.List.{flat_map}
 use Rattle.std.proofs.lemmas.Bool.{le-ltb, eq-eqb, ne_eqb}
 use Rattle.std.proofs.lemmas.List.{append-nil, length-append}
 use Rattle.lu_types.specs.Tables.{TableField}
 use Rattle.lu_types.specs.declared.stored.Window.{Window}
-use Rattle.lu_grammar.specs.Parts.{num, vlong, spelling}
+use Rattle.lu_grammar.specs.Parts.{num, spelling}
 use Rattle.lu_grammar.specs.Records.{first_broken}
 use Rattle.lu_grammar.specs.Plans.{Plan, done, and_then}
 use Rattle.lu_grammar.proofs.Codecs.{Writes, Writes-due, Writes-done, Writes-and_then}
-use Rattle.lu_model.specs.Valid.{IsSmall}
-use Rattle.term_vectors.specs.declared.layout.DocumentPlaces.{DocumentPlaces}
 use Rattle.lu_types.specs.Stores.{greatest_place}
 use Rattle.term_vectors.specs.Format.{vector_format, format_shape, headed}
 use Rattle.term_vectors.specs.Fields.{TvdRecord, VectorPlace, format, count, number, difference, stated, format_conditions, count_shape, count_conditions, has_vectors, is_among, number_shape, number_conditions, numbers_plan, difference_shape, difference_conditions, further_plan, placed, document_plan, is_within, documents_plan, tvd_plan}
@@ -73,7 +71,7 @@ writes-numbers asked fields (v ∷ vs) before place apart named good =
 -- ---- how far they stand apart
 
 -- the places of the vectors behind the first, which stands at this place
-further_from : ℕ → List StoredVector → List ℕ
+unfoldable pub further_from : ℕ → List StoredVector → List ℕ
 further_from place [] = []
 further_from place (v ∷ []) = []
 further_from place (v ∷ w ∷ vs) = (place + length (vector_bytes v)) ∷ further_from (place + length (vector_bytes v)) (w ∷ vs)

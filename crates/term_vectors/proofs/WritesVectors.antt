@@ -1,12 +1,11 @@
 -- What the written `.tvf` is read as.
-use Rattle.std.proofs.Common.{◌≡◌, ℕ, zero, suc, ◌+◌, ◌^◌, ◌<◌, Bool, true, false, not, eqb, ltb, List, [], ◌∷◌, ◌++◌, length, None, refl, sym, ap, subst, ◌∙◌, arith, append_assoc}
+use Rattle.std.proofs.Common.{◌≡◌, ℕ, suc, ◌+◌, ◌<◌, true, false, eqb, ltb, List, [], ◌∷◌, length, None, refl, sym, subst, arith}
 use Rattle.std.specs.Prelude.{All, FitsSigned}
 use Rattle.std.specs.List.{flat_map}
 use Rattle.std.specs.Int.{w32}
 use Rattle.std.proofs.lemmas.Bool.{le-ltb, eq-eqb}
 use Rattle.std.proofs.lemmas.List.{append-nil}
-use Rattle.lu_grammar.specs.Parts.{int32, num, byte, spelling}
-use Rattle.lu_grammar.specs.Records.{first_broken, Spells}
+use Rattle.lu_grammar.specs.Records.{first_broken}
 use Rattle.lu_grammar.specs.Plans.{Plan, done, and_then}
 use Rattle.lu_grammar.proofs.Codecs.{Writes, Writes-due, Writes-done, Writes-and_then}
 use Rattle.lu_model.specs.Index.{VectorTerm}

@@ -3,7 +3,6 @@ use Rattle.std.specs.Prelude.{◌≡◌, ◌<◌, ◌≤◌, ◌-◌, ℕ, false
 use Rattle.lu_grammar.specs.Bytes.{IsBytes, Cursor, place_in}
 use Rattle.lu_grammar.specs.Reading.{value_or}
 use Rattle.lu_grammar.specs.Plans.{read_plan}
-use Rattle.lu_model.specs.Index.{VectorTerm}
 use Rattle.term_vectors.specs.declared.document.VectorField.{VectorField}
 use Rattle.term_vectors.specs.declared.cursor.VectorStep.{VectorStep}
 use Rattle.term_vectors.specs.Fields.{VectorPlace, numbers_plan, further_plan, placed}

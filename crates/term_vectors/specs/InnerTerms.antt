@@ -1,12 +1,10 @@
 -- The parts of a term, as the code takes them from its place (format page, "Term vectors").
-use Rattle.std.specs.Prelude.{◌≡◌, ℕ, ◌≤◌, List, [], ◌++◌, length, take, Option, Some, Ok}
+use Rattle.std.specs.Prelude.{◌≡◌, ℕ, ◌≤◌, List, [], ◌++◌, length, take, Option}
 use Rattle.std.specs.Option.{unwrap_or}
 use Rattle.std.specs.Str.{IsUtf8}
 use Rattle.lu_grammar.specs.Bytes.{Cursor, place_in}
-use Rattle.lu_grammar.specs.Plans.{read_plan}
 use Rattle.lu_model.specs.Index.{VectorTerm}
 use Rattle.term_vectors.specs.declared.terms.TermParts.{TermParts}
-use Rattle.term_vectors.specs.Vectors.{term_plan}
 
 -- the term's text is so many bytes of the text before and these, it stands so often, it has these positions and pairs, and it ends at this place
 pub record HasParts (tvf : List ℕ) (before : Option (List ℕ)) (t : VectorTerm) (behind : Cursor) (parts : TermParts) : Type 0 where

@@ -1,5 +1,5 @@
 -- The text of the last term that was read, and the record of the next, as the code has them.
-use Rattle.std.specs.Prelude.{◌≡◌, ℕ, Bool, false, cond, List, [], Option, Some, None}
+use Rattle.std.specs.Prelude.{◌≡◌, ℕ, false, cond, List, [], Option, Some, None}
 use Rattle.std.specs.Str.{IsUtf8}
 use Rattle.term_vectors.specs.declared.texts.LastText.{LastText}
 use Rattle.term_vectors.specs.declared.texts.VectorTermEntry.{VectorTermEntry}

@@ -16,3 +16,4 @@ pub mod InnerViews
 pub mod InnerTerms
 pub mod InnerSlots
 pub mod InnerCursors
+pub mod WrittenChoices

@@ -1,5 +1,5 @@
 -- Lent pairs, and what they stand for (format page, "Term vectors").
-use Rattle.std.specs.Prelude.{◌≡◌, ℕ, true, false, Option, Some, None}
+use Rattle.std.specs.Prelude.{◌≡◌, ℕ, Option, Some, None}
 use Rattle.lu_grammar.specs.Records.{first_broken}
 use Rattle.lu_model.specs.Index.{Span}
 use Rattle.term_vectors.specs.declared.occurrences.OffsetPair.{OffsetPair}

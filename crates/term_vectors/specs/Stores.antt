@@ -1,11 +1,10 @@
 -- What the three files of a store stand for (format page, "Term vectors").
-use Rattle.std.specs.Prelude.{◌≡◌, ◌≢◌, ◌<◌, ◌^◌, ℕ, List, [], length, Option, Ok, All, AllPairs}
+use Rattle.std.specs.Prelude.{◌≢◌, ◌<◌, ◌^◌, ℕ, List, [], length, Option, All, AllPairs}
 use Rattle.lu_types.specs.Tables.{TableField}
 use Rattle.lu_types.specs.declared.kind.FileKind.TheVariants.{Tvx, Tvd, Tvf}
 use Rattle.lu_types.specs.declared.stored.Window.{Window}
 use Rattle.lu_types.specs.Stores.{windowed}
 use Rattle.lu_types.specs.FilePlans.{FilePlan, stands, needs}
-use Rattle.lu_grammar.specs.Bytes.{IsBytes}
 use Rattle.lu_grammar.specs.Reading.{value_or}
 use Rattle.lu_grammar.specs.Plans.{read_file}
 use Rattle.lu_model.specs.Valid.{IsVector}

@@ -1,5 +1,5 @@
 -- Vectors that can be written, and of which windows can be checked (format page, "Term vectors").
-use Rattle.std.specs.Prelude.{◌≡◌, ◌≢◌, ◌<◌, ◌≤◌, ◌+◌, ◌^◌, ℕ, true, List, length, map, All, AllPairs}
+use Rattle.std.specs.Prelude.{◌≡◌, ◌≢◌, ◌<◌, ◌≤◌, ◌+◌, ◌^◌, true, List, length, map, All, AllPairs}
 use Rattle.std.specs.List.Sorted.{IsStrictlySortedBy}
 use Rattle.lu_prims.specs.Order.{text_cmp}
 use Rattle.lu_types.specs.Tables.{TableField}

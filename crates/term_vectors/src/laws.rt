@@ -7,12 +7,13 @@ ghost use Rattle.lu_types.specs.Tables.{TableField};
 ghost use Rattle.lu_types.specs.declared.stored.Window.{Window};
 ghost use Rattle.lu_grammar.specs.Bytes.{IsBytes, Cursor};
 ghost use Rattle.lu_grammar.specs.Plans.{read_plan};
-ghost use Rattle.lu_types.specs.Stores.{header_length, greatest_place, windowed};
+ghost use Rattle.lu_types.specs.Stores.{header_length, greatest_place, windowed, whole_store};
 ghost use Rattle.lu_model.specs.Index.{Span, VectorTerm};
 ghost use Rattle.lu_model.specs.Valid.{IsVectorTerm};
 ghost use Rattle.term_vectors.specs.Format.{vector_format, document_length, start_modulus, bit_positions, bit_offsets};
 ghost use Rattle.term_vectors.specs.Stores.{AreVectors, vector_files};
 ghost use Rattle.term_vectors.specs.VectorBytes.{tvx_bytes, tvd_bytes, tvf_bytes};
+ghost use Rattle.term_vectors.specs.WrittenChoices.{MakeWrittenChoices};
 ghost use Rattle.term_vectors.specs.Writable.{AreWritableVectors, IsCheckableWindow};
 ghost use Rattle.term_vectors.specs.Vectors.{StoredVector, terms_plan};
 ghost use Rattle.term_vectors.specs.VectorWriting.{VectorWriting, IsTermWhole, no_vectors_written, with_document_begun, with_vector_begun, with_term_begun, with_position, with_span, HoldsDocuments, HoldsOpenDocument, BegunVector, HoldsOpenVector, HoldsOpenTerm, begun_vector, begun_term, with_one_position, with_one_span};
@@ -42,6 +43,26 @@ pub fn documents_are_good()
 pub fn written_is_read()
     ensures { (documents : List (List StoredVector)) (fields : List TableField) (window : Window) → All AreWritableVectors documents → IsCheckableWindow fields window documents
         → StandFor (vector_files (length documents) window fields (Some (tvx_bytes documents)) (Some (tvd_bytes documents)) (Some (tvf_bytes documents))) (windowed window documents) }
+{}
+
+/// Nothing else is read so where the choices are the writer's: three files that stand for vectors, whose texts share what they can with
+/// the text before, and whose documents without vectors stand in `.tvf` where those before them end, are what the writer gives for some
+/// documents, and stand for those of them that the window has: where it is the whole store, for these.
+pub fn only_written_is_read()
+    ensures window { (total : ℕ) (window : Window) (fields : List TableField) (tvx tvd tvf : List ℕ) (seen : List (List StoredVector))
+        (stand : StandFor (vector_files total window fields (Some tvx) (Some tvd) (Some tvf)) seen) → MakeWrittenChoices total window fields tvx tvd tvf seen stand
+        → (documents : List (List StoredVector)) × (tvx ≡ tvx_bytes documents) × (tvd ≡ tvd_bytes documents) × (tvf ≡ tvf_bytes documents) × (length documents ≡ total)
+        × (seen ≡ windowed window documents) }
+    ensures whole { (total : ℕ) (fields : List TableField) (tvx tvd tvf : List ℕ) (documents : List (List StoredVector))
+        (stand : StandFor (vector_files total (whole_store total) fields (Some tvx) (Some tvd) (Some tvf)) documents)
+        → MakeWrittenChoices total (whole_store total) fields tvx tvd tvf documents stand → (tvx ≡ tvx_bytes documents) × (tvd ≡ tvd_bytes documents) × (tvf ≡ tvf_bytes documents) }
+{}
+
+/// The writer makes these choices: whatever is read of what it gives for some documents, each with vectors that an index can have.
+pub fn writer_makes_choices()
+    ensures { (documents : List (List StoredVector)) (fields : List TableField) (window : Window) → All AreWritableVectors documents → IsCheckableWindow fields window documents
+        → (stand : StandFor (vector_files (length documents) window fields (Some (tvx_bytes documents)) (Some (tvd_bytes documents)) (Some (tvf_bytes documents))) (windowed window documents))
+        → MakeWrittenChoices (length documents) window fields (tvx_bytes documents) (tvd_bytes documents) (tvf_bytes documents) (windowed window documents) stand }
 {}
 
 /// What a writer holds. Documents: it begins with none; with a document begun it holds these and an open one without vectors; once that

@@ -1,4 +1,4 @@
-use Rattle.std.proofs.Common.{◌≡◌, ◌<◌, ◌≤◌, ◌+◌, ◌*◌, ℕ, List, [], Result, length, get_or, refl, sym, ap, subst, ◌∙◌, arith}
+use Rattle.std.proofs.Common.{◌≡◌, ◌<◌, ◌≤◌, ◌+◌, ◌*◌, List, [], Result, length, get_or, refl, sym, ap, subst, ◌∙◌, arith}
 use Rattle.lu_types.specs.declared.kind.FileKind.TheVariants.{Tvf}
 use Rattle.lu_types.specs.Judging.{IsBrokenSo}
 use Rattle.lu_grammar.specs.Bytes.{Cursor, start_of}

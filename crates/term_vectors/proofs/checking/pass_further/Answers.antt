@@ -4,7 +4,6 @@ use Rattle.lu_types.specs.Judging.{IsBrokenSo}
 use Rattle.lu_grammar.specs.Bytes.{Cursor}
 use Rattle.lu_grammar.specs.Reading.{value_or}
 use Rattle.term_vectors.specs.Fields.{placed}
-use Rattle.term_vectors.specs.Vectors.{StoredVector}
 use Rattle.term_vectors.proofs.VectorLemmas.{reads_vectors}
 use Rattle.term_vectors.proofs.WalkLemmas.{all_further, walked-none, walked-more, walked-fault, walked-no_fault, walked-end}
 use Rattle.term_vectors.proofs.checking.pass_further.Goals as goal

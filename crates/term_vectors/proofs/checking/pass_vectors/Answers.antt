@@ -1,4 +1,4 @@
-use Rattle.std.proofs.Common.{◌≡◌, ◌-◌, ◌<◌, ℕ, List, [], ap, subst, sym, ◌∙◌, arith}
+use Rattle.std.proofs.Common.{◌-◌, ◌<◌, ℕ, List, [], ap, subst, sym, ◌∙◌, arith}
 use Rattle.lu_types.specs.declared.kind.FileKind.TheVariants.{Tvf}
 use Rattle.lu_types.specs.Judging.{IsBrokenSo}
 use Rattle.lu_grammar.specs.Bytes.{Cursor}

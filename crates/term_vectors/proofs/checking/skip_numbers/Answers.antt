@@ -1,4 +1,4 @@
-use Rattle.std.proofs.Common.{◌≡◌, ℕ, List, [], ◌∷◌, false, sym, ◌∙◌, arith}
+use Rattle.std.proofs.Common.{[], ◌∷◌, false, sym, ◌∙◌, arith}
 use Rattle.lu_grammar.specs.Records.{rule_of}
 use Rattle.lu_grammar.proofs.Codecs.{same_pair}
 use Rattle.term_vectors.proofs.TurnLemmas.{none-passed, all-passed}

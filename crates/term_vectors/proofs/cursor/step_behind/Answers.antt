@@ -1,9 +1,8 @@
-use Rattle.std.proofs.Common.{◌≡◌, ◌<◌, ◌-◌, ℕ, suc, List, [], refl, sym, ap, subst, ◌∙◌, arith}
+use Rattle.std.proofs.Common.{◌≡◌, ◌<◌, ◌-◌, ℕ, suc, refl, sym, ap, ◌∙◌, arith}
 use Rattle.lu_grammar.specs.Bytes.{Cursor, place_in}
 use Rattle.lu_grammar.specs.Records.{record_at}
 use Rattle.lu_grammar.proofs.Codecs.{err_is_not_ok}
 use Rattle.term_vectors.specs.Fields.{stated, difference_shape, difference_conditions}
-use Rattle.term_vectors.specs.declared.cursor.VectorStep.{VectorStep}
 use Rattle.term_vectors.proofs.FieldLemmas.{reads_further, further-broken}
 use Rattle.term_vectors.proofs.LeftLemmas.{record_in}
 use Rattle.term_vectors.proofs.CursorLemmas.{step-none, step-more}

@@ -1,4 +1,4 @@
-use Rattle.std.proofs.Common.{◌≡◌, ◌-◌, ◌∷◌, ℕ, List, get_or, refl, sym, ap, ◌∙◌, arith}
+use Rattle.std.proofs.Common.{◌≡◌, ◌-◌, ◌∷◌, ℕ, get_or, refl, ap, ◌∙◌, arith}
 use Rattle.term_vectors.proofs.FieldLemmas.{reads_further}
 use Rattle.term_vectors.proofs.SlotLemmas.{further-many, place-next, place-no_fault}
 use Rattle.term_vectors.proofs.document.place_of_nth.Goals as goal

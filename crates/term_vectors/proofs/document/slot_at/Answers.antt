@@ -2,7 +2,7 @@ use Rattle.std.proofs.Common.{◌≡◌, ◌≤◌, ◌-◌, [], ◌∷◌, ℕ,
 use Rattle.lu_grammar.specs.Bytes.{Cursor, place_in}
 use Rattle.lu_grammar.specs.Plans.{Broken}
 use Rattle.lu_grammar.specs.Reading.{value_or}
-use Rattle.term_vectors.specs.Fields.{VectorPlace, placed}
+use Rattle.term_vectors.specs.Fields.{VectorPlace}
 use Rattle.term_vectors.specs.InnerViews.{no_slot, slots_here}
 use Rattle.term_vectors.proofs.FieldLemmas.{reads_numbers, reads_further}
 use Rattle.term_vectors.proofs.SlotLemmas.{slots_were, placed-get}

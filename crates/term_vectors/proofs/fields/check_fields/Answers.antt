@@ -1,4 +1,4 @@
-use Rattle.std.proofs.Common.{◌≡◌, ◌<◌, ◌≤◌, ◌+◌, ◌*◌, ℕ, List, Bool, length, get_or, sym, ap, subst, ◌∙◌, arith}
+use Rattle.std.proofs.Common.{◌≡◌, ◌<◌, ◌≤◌, ◌+◌, ◌*◌, List, Bool, length, get_or, sym, ap, subst, ◌∙◌, arith}
 use Rattle.lu_types.specs.declared.kind.FileKind.TheVariants.{Tvd}
 use Rattle.lu_types.specs.Judging.{IsBrokenSo}
 use Rattle.lu_grammar.specs.Bytes.{start_of}
@@ -7,12 +7,12 @@ use Rattle.lu_grammar.specs.Plans.{read_plan}
 use Rattle.lu_grammar.proofs.Codecs.{file-read}
 use Rattle.lu_types.proofs.SpotLemmas.{spot-broken}
 use Rattle.term_vectors.specs.declared.layout.DocumentPlaces.{DocumentPlaces}
-use Rattle.term_vectors.specs.Fields.{document_plan, is_within, tvd_plan}
+use Rattle.term_vectors.specs.Fields.{document_plan, tvd_plan}
 use Rattle.term_vectors.specs.Stores.{places_in}
 use Rattle.term_vectors.proofs.TurnLemmas.{none-passed, one-passed, turn-broken_so, all-passed}
 use Rattle.term_vectors.proofs.Endings.{file-broken, file-broken_so, file-trailing}
 use Rattle.term_vectors.proofs.PlaceLemmas.{IsBehindFormat}
-use Rattle.term_vectors.proofs.StatedLemmas.{AreStated, tvx_stated, stated_once}
+use Rattle.term_vectors.proofs.StatedLemmas.{tvx_stated, stated_once}
 use Rattle.term_vectors.proofs.DocumentLemmas.{no_places, reads_documents, documents-left, documents-broken, documents-done, tvd-from, tvd-broken}
 use Rattle.term_vectors.proofs.Unasked.{slots-read}
 use Rattle.term_vectors.proofs.fields.check_fields.Goals as goal

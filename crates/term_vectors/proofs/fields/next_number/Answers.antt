@@ -1,4 +1,4 @@
-use Rattle.std.proofs.Common.{◌≡◌, ◌∙◌, sym}
+use Rattle.std.proofs.Common.{◌∙◌, sym}
 use Rattle.lu_grammar.specs.Parts.{num}
 use Rattle.lu_grammar.proofs.Codecs.{alone_read, alone_breaks, alone_unread}
 use Rattle.term_vectors.specs.Fields.{number, stated, number_conditions}

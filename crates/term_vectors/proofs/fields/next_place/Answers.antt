@@ -1,4 +1,4 @@
-use Rattle.std.proofs.Common.{◌≡◌, ◌<◌, ◌≤◌, ◌+◌, ℕ, ap, arith}
+use Rattle.std.proofs.Common.{◌+◌, ℕ, ap, arith}
 use Rattle.lu_grammar.specs.Parts.{vlong}
 use Rattle.lu_grammar.proofs.Codecs.{alone_unread}
 use Rattle.term_vectors.specs.Fields.{difference, stated, difference_conditions}

@@ -1,4 +1,4 @@
-use Rattle.std.proofs.Common.{◌≡◌, false, ℕ, List, [], ◌∷◌, sym, arith}
+use Rattle.std.proofs.Common.{[], ◌∷◌, arith}
 use Rattle.std.proofs.lemmas.Grind.{common_steps}
 use Rattle.lu_types.specs.declared.kind.FileKind.TheVariants.{Tvd}
 use Rattle.lu_types.proofs.SpotLemmas.{spot-broken}

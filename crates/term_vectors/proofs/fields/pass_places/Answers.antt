@@ -1,4 +1,4 @@
-use Rattle.std.proofs.Common.{◌+◌, ℕ, suc, sym, subst, arith}
+use Rattle.std.proofs.Common.{ℕ, suc, sym, subst, arith}
 use Rattle.lu_types.specs.declared.kind.FileKind.TheVariants.{Tvd}
 use Rattle.lu_types.proofs.SpotLemmas.{spot-broken}
 use Rattle.term_vectors.proofs.Steps.{Continues}

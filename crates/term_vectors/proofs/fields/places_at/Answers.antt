@@ -1,6 +1,6 @@
-use Rattle.std.proofs.Common.{◌≡◌, ◌≤◌, ◌+◌, ◌*◌, ℕ, List, Option, length, drop, refl, sym, ap, subst, ◌∙◌, rules, arith, to_z, of_z, w64, length-drop, ℤ, Ok}
+use Rattle.std.proofs.Common.{◌≡◌, ◌≤◌, ◌+◌, ◌*◌, ℕ, Option, length, drop, sym, ap, ◌∙◌, rules, arith, to_z, of_z, w64, length-drop}
 use Rattle.std.specs.Option.{unwrap_or}
-use Rattle.lu_grammar.specs.Bytes.{Cursor, moved}
+use Rattle.lu_grammar.specs.Bytes.{Cursor}
 use Rattle.lu_grammar.specs.Parts.{int64}
 use Rattle.lu_grammar.specs.Reading.{read_part}
 use Rattle.lu_grammar.proofs.Codecs.{int64_read, int64_not_bad}

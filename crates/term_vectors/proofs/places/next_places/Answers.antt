@@ -1,9 +1,9 @@
-use Rattle.std.proofs.Common.{◌≡◌, ◌∙◌, ℕ, Option, Some, None, refl, sym, ap, rules, to_z, of_z, w64}
+use Rattle.std.proofs.Common.{◌≡◌, ◌∙◌, ℕ, Option, sym, ap, rules, to_z, of_z, w64}
 use Rattle.std.specs.Option.{unwrap_or}
 use Rattle.lu_grammar.specs.Parts.{int64}
 use Rattle.lu_grammar.specs.Records.{first_broken}
 use Rattle.term_vectors.specs.Format.{place_of_number}
-use Rattle.term_vectors.specs.Places.{TvxRecord, places, places_conditions}
+use Rattle.term_vectors.specs.Places.{places, places_conditions}
 use Rattle.term_vectors.proofs.FormatLemmas.{two_read, two_breaks, two_unread, two_half}
 use Rattle.term_vectors.proofs.places.next_places.Goals as goal
 

@@ -1,4 +1,4 @@
-use Rattle.std.proofs.Common.{◌≤◌, ◌+◌, length, arith}
+use Rattle.std.proofs.Common.{◌+◌, length, arith}
 use Rattle.term_vectors.proofs.TermWalkLemmas.{ord_max-above, longest-none, longest-next, longest-more, longest-all}
 use Rattle.term_vectors.proofs.terms.longest_text.Goals as goal
 

@@ -1,14 +1,14 @@
-use Rattle.std.proofs.Common.{◌≡◌, ◌≤◌, ◌++◌, ℕ, List, [], length, take, Option, Result, Ok, refl, sym, ap, subst, ◌∙◌, arith}
+use Rattle.std.proofs.Common.{◌≡◌, ◌++◌, ℕ, [], take, sym, ap, subst, ◌∙◌, arith}
 use Rattle.std.specs.Option.{unwrap_or}
 use Rattle.std.specs.Str.{IsUtf8}
-use Rattle.lu_grammar.specs.Bytes.{IsBytes, Cursor, place_in}
+use Rattle.lu_grammar.specs.Bytes.{Cursor, place_in}
 use Rattle.lu_grammar.specs.Records.{read_shape}
-use Rattle.lu_grammar.proofs.Codecs.{ok_pair, same_pair, err_is_not_ok}
-use Rattle.lu_model.specs.Index.{Span, VectorTerm}
+use Rattle.lu_grammar.proofs.Codecs.{same_pair, err_is_not_ok}
+use Rattle.lu_model.specs.Index.{VectorTerm}
 use Rattle.term_vectors.specs.Format.{bit_positions, bit_offsets}
-use Rattle.term_vectors.specs.Vectors.{term, kept_count, term_shape}
+use Rattle.term_vectors.specs.Vectors.{kept_count, term_shape}
 use Rattle.term_vectors.proofs.OccurrenceLemmas.{reads_positions, reads_spans}
-use Rattle.term_vectors.proofs.LeftLemmas.{settled_left, term-no_err, TermFrom, term_from, term-kept}
+use Rattle.term_vectors.proofs.LeftLemmas.{settled_left, term-no_err, term_from, term-kept}
 use Rattle.term_vectors.proofs.terms.term_at.Goals as goal
 
 pub unreachable-requires : goal.unreachable-requires

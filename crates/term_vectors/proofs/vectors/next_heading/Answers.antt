@@ -1,4 +1,4 @@
-use Rattle.std.proofs.Common.{◌≡◌, sym, ◌∙◌, arith}
+use Rattle.std.proofs.Common.{sym, ◌∙◌, arith}
 use Rattle.lu_grammar.specs.Parts.{byte, num}
 use Rattle.term_vectors.specs.Vectors.{heading, heading_conditions}
 use Rattle.term_vectors.proofs.FormatLemmas.{two_unread, two_half}

@@ -1,4 +1,4 @@
-use Rattle.std.proofs.Common.{◌≡◌, ℕ, suc, List, Option, None, refl, sym, ap, subst, ◌∙◌, arith}
+use Rattle.std.proofs.Common.{ℕ, suc, List, Option, None, sym, subst, arith}
 use Rattle.lu_types.specs.declared.kind.FileKind.TheVariants.{Tvf}
 use Rattle.lu_grammar.specs.Plans.{read_plan}
 use Rattle.lu_types.proofs.SpotLemmas.{spot-broken}

@@ -1,7 +1,5 @@
-use Rattle.std.proofs.Common.{◌≡◌, ℕ, false, [], List, refl, sym, ap, subst, ◌∙◌}
-use Rattle.lu_grammar.specs.Bytes.{Cursor, place_in}
-use Rattle.lu_grammar.proofs.Codecs.{ok_pair}
-use Rattle.term_vectors.specs.Vectors.{StoredVector}
+use Rattle.std.proofs.Common.{◌≡◌, ℕ, false, [], sym, ap, subst, ◌∙◌}
+use Rattle.lu_grammar.specs.Bytes.{Cursor}
 use Rattle.term_vectors.specs.InnerCursors.{vectors_left, AreVectorsLeft}
 use Rattle.term_vectors.proofs.FieldLemmas.{reads_numbers}
 use Rattle.term_vectors.proofs.CursorLemmas.{numbers-read, entered}

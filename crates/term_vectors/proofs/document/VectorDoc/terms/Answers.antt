@@ -1,11 +1,10 @@
-use Rattle.std.proofs.Common.{◌≡◌, ◌≤◌, ◌<◌, ℕ, IfOk, List, [], None, Result, length, get_or, refl, sym, ap, subst, ◌∙◌, arith}
+use Rattle.std.proofs.Common.{◌≡◌, ℕ, IfOk, List, [], None, get_or, sym, ap, subst, ◌∙◌, arith}
 use Rattle.lu_grammar.specs.Bytes.{Cursor, place_in}
 use Rattle.lu_grammar.specs.Records.{record_at}
 use Rattle.lu_grammar.proofs.Codecs.{err_is_not_ok}
 use Rattle.lu_model.specs.Index.{VectorTerm}
-use Rattle.term_vectors.specs.Fields.{VectorPlace}
 use Rattle.term_vectors.specs.Vectors.{StoredVector, heading_shape, heading_conditions}
-use Rattle.term_vectors.specs.Walks.{VectorTermWalk, walk_of}
+use Rattle.term_vectors.specs.Walks.{walk_of}
 use Rattle.term_vectors.specs.InnerVectors.{heading_record}
 use Rattle.term_vectors.specs.InnerViews.{no_vector, vector_here, IsVectorThere, terms_left}
 use Rattle.term_vectors.specs.InnerSlots.{slot_of}

@@ -1,5 +1,5 @@
-use Rattle.std.proofs.Common.{◌≡◌, ◌+◌, ◌-◌, ◌∷◌, [], ℕ, suc, List, refl, sym, ap, subst, ◌∙◌, arith}
-use Rattle.lu_grammar.proofs.Codecs.{ok_pair, err_is_not_ok}
+use Rattle.std.proofs.Common.{◌≡◌, ◌-◌, ◌∷◌, [], ℕ, suc, List, sym, ap, ◌∙◌, arith}
+use Rattle.lu_grammar.proofs.Codecs.{err_is_not_ok}
 use Rattle.lu_model.specs.Index.{Span}
 use Rattle.term_vectors.specs.OffsetPairs.{span_of}
 use Rattle.term_vectors.specs.InnerViews.{spans_left}

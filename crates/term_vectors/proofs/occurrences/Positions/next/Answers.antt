@@ -1,5 +1,5 @@
-use Rattle.std.proofs.Common.{◌≡◌, ◌+◌, ◌-◌, ◌∷◌, [], ℕ, suc, List, refl, sym, ap, subst, ◌∙◌, arith}
-use Rattle.lu_grammar.proofs.Codecs.{ok_pair, err_is_not_ok}
+use Rattle.std.proofs.Common.{◌≡◌, ◌-◌, ◌∷◌, [], ℕ, suc, List, sym, ap, ◌∙◌, arith}
+use Rattle.lu_grammar.proofs.Codecs.{err_is_not_ok}
 use Rattle.term_vectors.specs.InnerViews.{positions_left}
 use Rattle.term_vectors.proofs.OccurrenceLemmas.{reads_positions, positions-broken, positions-done}
 use Rattle.term_vectors.proofs.LeftLemmas.{settled_left, positions-next}

@@ -1,9 +1,7 @@
-use Rattle.std.proofs.Common.{◌≡◌, ◌++◌, ◌<◌, ◌-◌, ◌∷◌, ℕ, List, [], take, length, Option, Some, refl, sym, ap, subst, ◌∙◌, arith}
+use Rattle.std.proofs.Common.{◌≡◌, ◌++◌, ◌<◌, ◌-◌, ◌∷◌, ℕ, List, [], take, length, Option, Some, sym, ap, subst, ◌∙◌, arith}
 use Rattle.std.specs.Prelude.{vec_capacity}
-use Rattle.std.specs.Option.{unwrap_or}
 use Rattle.std.specs.Str.{IsUtf8}
 use Rattle.lu_grammar.specs.Bytes.{Cursor, place_in}
-use Rattle.lu_grammar.proofs.Codecs.{ok_pair}
 use Rattle.lu_model.specs.Index.{Span, VectorTerm}
 use Rattle.term_vectors.specs.Walks.{VectorTermWalk, has_left, walk_on}
 use Rattle.term_vectors.specs.InnerTexts.{text_before}

@@ -3,8 +3,7 @@ use Rattle.std.specs.Ordering.{is_lt}
 use Rattle.lu_prims.specs.Order.{bytes_cmp}
 use Rattle.lu_prims.proofs.TextLemmas.{text_cmp-tail}
 use Rattle.term_vectors.specs.Vectors.{is_above}
-use Rattle.term_vectors.specs.InnerTexts.{text_before}
-use Rattle.term_vectors.proofs.OrderLemmas.{text_before-some, text_before-none}
+use Rattle.term_vectors.proofs.OrderLemmas.{text_before-some}
 use Rattle.term_vectors.proofs.texts.LastText.is_below.Goals as goal
 
 pub returns : goal.returns

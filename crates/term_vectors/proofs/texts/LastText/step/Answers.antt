@@ -1,7 +1,6 @@
-use Rattle.std.proofs.Common.{◌≡◌, ◌++◌, ◌<◌, ◌≤◌, ℕ, true, List, length, take, Some, None, refl, sym, ap, subst, ◌∙◌, arith}
+use Rattle.std.proofs.Common.{◌≡◌, ◌++◌, ◌<◌, ℕ, true, List, take, Some, sym, ap, subst, ◌∙◌, arith}
 use Rattle.std.specs.Str.{IsUtf8, is_utf8}
 use Rattle.std.proofs.lemmas.Str.{IsUtf8-from_is_utf8}
-use Rattle.term_vectors.specs.InnerTexts.{text_before}
 use Rattle.term_vectors.proofs.OrderLemmas.{text_before-some}
 use Rattle.term_vectors.proofs.TermLemmas.{term-below, term-never, term-good, text-is}
 use Rattle.term_vectors.proofs.texts.LastText.step.Goals as goal

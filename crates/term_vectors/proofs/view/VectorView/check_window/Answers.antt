@@ -1,4 +1,4 @@
-use Rattle.std.proofs.Common.{◌≡◌, List, inl, inr, refl}
+use Rattle.std.proofs.Common.{List, inl, inr, refl}
 use Rattle.lu_types.specs.declared.fault.CodecFault.{CodecFault}
 use Rattle.lu_types.specs.declared.fault.CodecFault.TheVariants as faults
 use Rattle.lu_types.specs.declared.kind.FileKind.TheVariants.{Tvf}
@@ -8,7 +8,7 @@ use Rattle.lu_types.specs.FilePlans.{Judges}
 use Rattle.lu_types.specs.Judging.{IsFault}
 use Rattle.lu_grammar.specs.Meaning.{Reads}
 use Rattle.lu_grammar.proofs.Codecs.{read_file-Reads}
-use Rattle.std.proofs.Common.{ℕ, Some, Result, Err}
+use Rattle.std.proofs.Common.{ℕ, Some, Err}
 use Rattle.lu_types.specs.Stores.{windowed}
 use Rattle.term_vectors.specs.Places.{tvx_plan}
 use Rattle.term_vectors.specs.Fields.{tvd_plan}

@@ -1,15 +1,14 @@
-use Rattle.std.proofs.Common.{◌≡◌, ◌≤◌, ◌<◌, ◌+◌, ◌*◌, ℕ, List, [], length, get_or, map, refl, sym, ap, subst, ◌∙◌, arith}
+use Rattle.std.proofs.Common.{◌≡◌, ◌≤◌, ◌<◌, ◌+◌, ◌*◌, ℕ, List, [], length, get_or, map, sym, ap, subst, ◌∙◌, arith}
 use Rattle.lu_grammar.specs.Bytes.{Cursor, place_in}
 use Rattle.lu_grammar.specs.Plans.{read_plan}
 use Rattle.lu_grammar.specs.Reading.{read_part}
 use Rattle.lu_grammar.specs.Parts.{num}
-use Rattle.lu_grammar.proofs.Codecs.{ok_pair, same_pair, err_is_not_ok}
-use Rattle.lu_types.specs.Stores.{windowed}
+use Rattle.lu_grammar.proofs.Codecs.{same_pair, err_is_not_ok}
 use Rattle.term_vectors.specs.declared.layout.DocumentPlaces.{DocumentPlaces}
 use Rattle.term_vectors.specs.Fields.{VectorPlace}
 use Rattle.term_vectors.specs.Vectors.{StoredVector}
-use Rattle.term_vectors.specs.Stores.{places_in, slots_in, stored_vectors_in}
-use Rattle.term_vectors.specs.InnerViews.{slots_plan, slots_here, vector_here, AreAllThere}
+use Rattle.term_vectors.specs.Stores.{places_in, slots_in}
+use Rattle.term_vectors.specs.InnerViews.{slots_plan, vector_here, AreAllThere}
 use Rattle.term_vectors.proofs.StatedLemmas.{tvx_stated, stated_once}
 use Rattle.term_vectors.proofs.DocumentLemmas.{no_places}
 use Rattle.term_vectors.proofs.LeftLemmas.{settled_left}

@@ -15,7 +15,7 @@ use Rattle.lu_types.specs.declared.term.TermRules.{TermRules}
 use Rattle.term_dict.specs.Terms.{DictionaryTerm}
 use Rattle.term_dict.specs.Dictionary.{Dictionary}
 use Rattle.freq_skips.specs.declared.rules.RuledTerm.{RuledTerm}
-use Rattle.freq_skips.specs.Terms.{TermData, term_of}
+use Rattle.freq_skips.specs.Terms.{TermData, ruled_by}
 use Rattle.positions.specs.Occurrences.{PostedTerm}
 use Rattle.positions.specs.Terms.{posted, term_plan, posted_terms, prx_plan, IsTermFault}
 use Rattle.positions.specs.Cursors.{StandsInBoth}
@@ -43,8 +43,8 @@ one_value p from v w c d a b = (same_pair v w c d (sym (read_plan-ReadsTo (term_
 module _ (fields : List TableField) (size : ℕ) (d : Dictionary) (frq : List ℕ) (lists : List TermData) (listed : AreListed fields size d frq lists) where
   -- what the entries of the term with a number stand for
   pub entries_at : (n : ℕ) (info : TermInfo) (rules : TermRules) → option_map (λ (t : DictionaryTerm). t.info) (slice_get d.terms n) ≡ Some info → rules ≡ rules_for fields size d info
-      → (v : TermData) × (slice_get lists n ≡ Some v) × IsListed frq (term_of info rules) v
-  entries_at n info rules there is = listed.each n (term_of info rules) (ruled_at fields size d n info rules there is)
+      → (v : TermData) × (slice_get lists n ≡ Some v) × IsListed frq (ruled_by info rules) v
+  entries_at n info rules there is = listed.each n (ruled_by info rules) (ruled_at fields size d n info rules there is)
 
   module _ (prx : List ℕ) (fits : IsBytes prx) where
     pub positions-none : HavePassedPositions fields size d lists prx 0 0
@@ -54,16 +54,16 @@ module _ (fields : List TableField) (size : ℕ) (d : Dictionary) (frq : List �
     pub positions-more : (passed place end : ℕ) (info : TermInfo) (rules : TermRules) (value : TermData) (behind : Cursor) (there : option_map (λ (t : DictionaryTerm). t.info) (slice_get d.terms passed) ≡ Some info) → rules ≡ rules_for fields size d info
         → slice_get lists passed ≡ Some value → HavePassedPositions fields size d lists prx passed place
         → (occurrences : TermOccurrences) → ReadsTo (term_plan (posted info rules value)) (place_in prx place) occurrences (place_in prx end)
-        → (seen : TermOccurrences) → StandsInBoth (term_of info rules) value prx seen → (rules.omit_tf ≡ false → place ≡ info.prox) → end ≤ length prx
+        → (seen : TermOccurrences) → StandsInBoth (ruled_by info rules) value prx seen → (rules.omit_tf ≡ false → place ≡ info.prox) → end ≤ length prx
         → HavePassedPositions fields size d lists prx (passed + 1) end
     positions-more passed place end info rules value behind there is has before occurrences reads seen stands starts within =
         let p = posted info rules value in
-        let kept : rules.omit_tf ≡ false → StandsInBoth (term_of info rules) value prx occurrences = λ omit.
+        let kept : rules.omit_tf ≡ false → StandsInBoth (ruled_by info rules) value prx occurrences = λ omit.
         let here = subst (λ (n : ℕ). ReadsTo (term_plan p) (place_in prx n) occurrences (place_in prx end)) (starts omit) reads in
-        subst (StandsInBoth (term_of info rules) value prx) (one_value p (place_in prx info.prox) seen occurrences stands.end (place_in prx end) stands.reads here) stands in
+        subst (StandsInBoth (ruled_by info rules) value prx) (one_value p (place_in prx info.prox) seen occurrences stands.end (place_in prx end) stands.reads here) stands in
         let so : IsPosted prx p occurrences = record { kept = kept; seen = seen; stands = stands } in
         HavePassed-more term_plan (IsPosted prx) (listed_postings fields size d lists) prx fits passed place end p occurrences
-        (posted-at (ruled_terms fields size d) lists passed (term_of info rules) value (ruled_at fields size d passed info rules there is) has) before reads so within
+        (posted-at (ruled_terms fields size d) lists passed (ruled_by info rules) value (ruled_at fields size d passed info rules there is) has) before reads so within
 
     -- it has a fault
     pub positions-fault : (passed place offset rule : ℕ) (info : TermInfo) (rules : TermRules) (value : TermData) → option_map (λ (t : DictionaryTerm). t.info) (slice_get d.terms passed) ≡ Some info → rules ≡ rules_for fields size d info
@@ -71,7 +71,7 @@ module _ (fields : List TableField) (size : ℕ) (d : Dictionary) (frq : List �
         → FirstFault (prx_plan fields d.numbers size (infos_of d) lists) prx offset rule
     positions-fault passed place offset rule info rules value there is has before fault =
         HavePassed-fault term_plan (IsPosted prx) (listed_postings fields size d lists) prx fits passed place (posted info rules value) (record { offset = offset; rule = rule })
-        (posted-at (ruled_terms fields size d) lists passed (term_of info rules) value (ruled_at fields size d passed info rules there is) has) before
+        (posted-at (ruled_terms fields size d) lists passed (ruled_by info rules) value (ruled_at fields size d passed info rules there is) has) before
         (broken-read (term_plan (posted info rules value)) (place_in prx place) offset rule (IsBytes-drop place prx fits) fault.fault fault.unread)
 
     pub postings-length : length (listed_postings fields size d lists) ≡ length d.terms

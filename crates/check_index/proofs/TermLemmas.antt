@@ -16,7 +16,7 @@ use Rattle.lu_types.specs.declared.term.TermRules.{TermRules}
 use Rattle.term_dict.specs.Terms.{DictionaryTerm}
 use Rattle.term_dict.specs.Dictionary.{Dictionary}
 use Rattle.term_dict.specs.Facts.{IsTermOfSegment, AreGoodTerms}
-use Rattle.freq_skips.specs.Terms.{TermData, term_plan, term_of, frq_plan, IsGoodTerm, IsTermFault}
+use Rattle.freq_skips.specs.Terms.{TermData, term_plan, ruled_by, frq_plan, IsGoodTerm, IsTermFault}
 use Rattle.freq_skips.specs.Walks.{WalkState}
 use Rattle.check_index.specs.Terms.{infos_of, ruled_terms, lists_in, IsListed, HavePassedTerms, AreListed}
 use Rattle.check_index.proofs.TurnLemmas.{element, HavePassed-none, HavePassed-more, HavePassed-fault, HavePassed-trailing, HavePassed-all, broken-read}
@@ -43,11 +43,11 @@ module _ (fields : List TableField) (size : ℕ) (d : Dictionary) where
   rules_for info = term_rules d.numbers (bits_at fields info.field) size
 
   -- the term with a number, with what its entries are read by
-  pub ruled_at : (n : ℕ) (info : TermInfo) (rules : TermRules) → option_map (λ (t : DictionaryTerm). t.info) (slice_get d.terms n) ≡ Some info → rules ≡ rules_for info → slice_get (ruled_terms fields size d) n ≡ Some (term_of info rules)
+  pub ruled_at : (n : ℕ) (info : TermInfo) (rules : TermRules) → option_map (λ (t : DictionaryTerm). t.info) (slice_get d.terms n) ≡ Some info → rules ≡ rules_for info → slice_get (ruled_terms fields size d) n ≡ Some (ruled_by info rules)
   ruled_at n info rules there is =
-      slice_get-map (λ (i : TermInfo). term_of i (rules_for i)) (infos_of d) n
-      ∙ ap (option_map (λ (i : TermInfo). term_of i (rules_for i))) (slice_get-map (λ (t : DictionaryTerm). t.info) d.terms n ∙ there)
-      ∙ ap (λ (r : TermRules). Some (term_of info r)) (sym is)
+      slice_get-map (λ (i : TermInfo). ruled_by i (rules_for i)) (infos_of d) n
+      ∙ ap (option_map (λ (i : TermInfo). ruled_by i (rules_for i))) (slice_get-map (λ (t : DictionaryTerm). t.info) d.terms n ∙ there)
+      ∙ ap (λ (r : TermRules). Some (ruled_by info r)) (sym is)
 
   pub ruled-length : length (ruled_terms fields size d) ≡ length d.terms
   ruled-length = simp length-map
@@ -58,22 +58,22 @@ module _ (fields : List TableField) (size : ℕ) (d : Dictionary) where
 
     -- the next term of the dictionary stands here
     pub terms-more : (passed place end : ℕ) (info : TermInfo) (rules : TermRules) (value : TermData) → option_map (λ (t : DictionaryTerm). t.info) (slice_get d.terms passed) ≡ Some info → rules ≡ rules_for info
-        → HavePassedTerms fields size d frq passed place → ReadsTo (term_plan (term_of info rules)) (place_in frq place) value (place_in frq end) → place ≡ info.freq → IsGoodTerm info rules frq → end ≤ length frq
+        → HavePassedTerms fields size d frq passed place → ReadsTo (term_plan (ruled_by info rules)) (place_in frq place) value (place_in frq end) → place ≡ info.freq → IsGoodTerm info rules frq → end ≤ length frq
         → HavePassedTerms fields size d frq (passed + 1) end
     terms-more passed place end info rules value there is before reads begins good within =
-        let listed : IsListed frq (term_of info rules) value = record {
+        let listed : IsListed frq (ruled_by info rules) value = record {
           good = good;
           end = place_in frq end;
-          reads = subst (λ (n : ℕ). ReadsTo (term_plan (term_of info rules)) (place_in frq n) value (place_in frq end)) begins reads;
+          reads = subst (λ (n : ℕ). ReadsTo (term_plan (ruled_by info rules)) (place_in frq n) value (place_in frq end)) begins reads;
         } in
-        HavePassed-more term_plan (IsListed frq) (ruled_terms fields size d) frq fits passed place end (term_of info rules) value (ruled_at passed info rules there is) before reads listed within
+        HavePassed-more term_plan (IsListed frq) (ruled_terms fields size d) frq fits passed place end (ruled_by info rules) value (ruled_at passed info rules there is) before reads listed within
 
     -- it has a fault
     pub terms-fault : (passed place offset rule : ℕ) (info : TermInfo) (rules : TermRules) → option_map (λ (t : DictionaryTerm). t.info) (slice_get d.terms passed) ≡ Some info → rules ≡ rules_for info
-        → HavePassedTerms fields size d frq passed place → IsTermFault (term_of info rules) (place_in frq place) offset rule → FirstFault (frq_plan fields d.numbers size (infos_of d)) frq offset rule
+        → HavePassedTerms fields size d frq passed place → IsTermFault (ruled_by info rules) (place_in frq place) offset rule → FirstFault (frq_plan fields d.numbers size (infos_of d)) frq offset rule
     terms-fault passed place offset rule info rules there is before fault =
-        HavePassed-fault term_plan (IsListed frq) (ruled_terms fields size d) frq fits passed place (term_of info rules) (record { offset = offset; rule = rule }) (ruled_at passed info rules there is) before
-        (broken-read (term_plan (term_of info rules)) (place_in frq place) offset rule (IsBytes-drop place frq fits) fault.fault fault.unread)
+        HavePassed-fault term_plan (IsListed frq) (ruled_terms fields size d) frq fits passed place (ruled_by info rules) (record { offset = offset; rule = rule }) (ruled_at passed info rules there is) before
+        (broken-read (term_plan (ruled_by info rules)) (place_in frq place) offset rule (IsBytes-drop place frq fits) fault.fault fault.unread)
 
     -- bytes stand behind the last term
     pub terms-trailing : (passed place : ℕ) → length d.terms ≤ passed → HavePassedTerms fields size d frq passed place → place < length frq → FirstFault (frq_plan fields d.numbers size (infos_of d)) frq place rules.trailing
@@ -89,13 +89,13 @@ module _ (fields : List TableField) (size : ℕ) (d : Dictionary) where
   module _ (frq : List ℕ) (lists : List TermData) (listed : AreListed fields size d frq lists) (n : ℕ) (info : TermInfo) (rules : TermRules) (there : option_map (λ (t : DictionaryTerm). t.info) (slice_get d.terms n) ≡ Some info) (is : rules ≡ rules_for info) where
     -- a term of the dictionary is good in the file
     pub good_at : IsGoodTerm info rules frq
-    good_at = (listed.each n (term_of info rules) (ruled_at n info rules there is)).2.good
+    good_at = (listed.each n (ruled_by info rules) (ruled_at n info rules there is)).2.good
 
     -- and a walk over its entries is one over those that the file stands for
-    pub walk_at : (default : TermData) (w : WalkState) → ((value : TermData) (end : Cursor) → ReadsTo (term_plan (term_of info rules)) (place_in frq info.freq) value end → w ≡ record { term = term_of info rules; value = value; passed = 0 })
-        → w ≡ record { term = term_of info (rules_for info); value = slice_index_or lists n default; passed = 0 }
+    pub walk_at : (default : TermData) (w : WalkState) → ((value : TermData) (end : Cursor) → ReadsTo (term_plan (ruled_by info rules)) (place_in frq info.freq) value end → w ≡ record { term = ruled_by info rules; value = value; passed = 0 })
+        → w ≡ record { term = ruled_by info (rules_for info); value = slice_index_or lists n default; passed = 0 }
     walk_at default w answers =
-        let held = listed.each n (term_of info rules) (ruled_at n info rules there is) in
+        let held = listed.each n (ruled_by info rules) (ruled_at n info rules there is) in
         answers held.0 held.2.end held.2.reads
-        ∙ ap (λ (v : TermData). record { term = term_of info rules; value = v; passed = 0 }) (sym (get_or_from_slice_get lists n held.0 default held.1))
-        ∙ ap (λ (r : TermRules). record { term = term_of info r; value = slice_index_or lists n default; passed = 0 }) is
+        ∙ ap (λ (v : TermData). record { term = ruled_by info rules; value = v; passed = 0 }) (sym (get_or_from_slice_get lists n held.0 default held.1))
+        ∙ ap (λ (r : TermRules). record { term = ruled_by info r; value = slice_index_or lists n default; passed = 0 }) is

@@ -19,7 +19,7 @@ use Rattle.term_dict.specs.Terms.{DictionaryTerm}
 use Rattle.term_dict.specs.Facts.{IsTermOfSegment}
 use Rattle.freq_skips.specs.declared.rules.RuledTerm.{RuledTerm}
 use Rattle.freq_skips.specs.Entries.{Posting, no_posting}
-use Rattle.freq_skips.specs.Terms.{TermData, term_plan, term_of}
+use Rattle.freq_skips.specs.Terms.{TermData, term_plan, ruled_by}
 use Rattle.freq_skips.specs.Sound.{IsSoundTermData}
 use Rattle.freq_skips.proofs.TermLemmas.{TermParts-ReadsTo}
 use Rattle.freq_skips.proofs.WalkLemmas.{entries-start}
@@ -40,7 +40,7 @@ use Rattle.check_index.proofs.ValidOccurrences.{AllFit, all-fit, IsGoodEntry, en
 module _ (fields : List TableField) (size : ℕ) (numbers : TermNumbers) where
   -- the term, with what its entries are read by
   abbrev pub ruled : DictionaryTerm → RuledTerm
-  ruled t = term_of t.info (term_rules numbers (bits_at fields t.info.field) size)
+  ruled t = ruled_by t.info (term_rules numbers (bits_at fields t.info.field) size)
 
   -- the occurrences of a term in a field that keeps them, entry by entry
   abbrev pub AreKept : DictionaryTerm → TermData → TermOccurrences → Type 0

@@ -11,7 +11,7 @@ use Rattle.lu_grammar.specs.Meaning.{Spelled, AreGood, due_after, ReadsTo}
 use Rattle.lu_grammar.proofs.Codecs.{reads-read_plan}
 use Rattle.freq_skips.specs.declared.rules.RuledTerm.{RuledTerm}
 use Rattle.freq_skips.specs.Records.{Record, alone, entry, stated_of, states_frequency, entry_shape}
-use Rattle.freq_skips.specs.Entries.{Posting, EntriesSoFar, no_entry, frequency, posting_of, with_posting, entry_kind, entries, read_postings}
+use Rattle.freq_skips.specs.Entries.{Posting, EntriesSoFar, no_entry, stated_or_one, posting_of, with_posting, entry_kind, entries, read_postings}
 use Rattle.freq_skips.specs.Terms.{TermData, term_plan}
 use Rattle.freq_skips.proofs.TermLemmas.{TermParts-ReadsTo}
 
@@ -20,12 +20,12 @@ abbrev pub IsFew : Posting → Type 0
 IsFew p = p.freq < 2 ^ 31
 
 module _ (t : RuledTerm) where
-  stated-few : (r : Record) (front : List ℕ) → Spells (entry_shape t) r front → frequency (stated_of r) < 2 ^ 31
+  stated-few : (r : Record) (front : List ℕ) → Spells (entry_shape t) r front → stated_or_one (stated_of r) < 2 ^ 31
   stated-few r front (delta, back, fits, is, rest) = go (states_frequency t delta) rest
     where
-      go : (b : Bool) → Spells (optional b (alone num) (λ stated. whole (entry delta stated))) r back → frequency (stated_of r) < 2 ^ 31
-      go true (n, behind, few, same, (made, none)) = subst (λ (x : Record). frequency (stated_of x) < 2 ^ 31) made few
-      go false (made, none) = subst (λ (x : Record). frequency (stated_of x) < 2 ^ 31) made (omega arith)
+      go : (b : Bool) → Spells (optional b (alone num) (λ stated. whole (entry delta stated))) r back → stated_or_one (stated_of r) < 2 ^ 31
+      go true (n, behind, few, same, (made, none)) = subst (λ (x : Record). stated_or_one (stated_of x) < 2 ^ 31) made few
+      go false (made, none) = subst (λ (x : Record). stated_or_one (stated_of x) < 2 ^ 31) made (omega arith)
 
   -- what a plan stands for where nothing more is due, and whether that is so
   abbrev value_or : EntriesSoFar → Plan EntriesSoFar Record → EntriesSoFar

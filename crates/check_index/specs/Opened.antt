@@ -8,7 +8,7 @@ use Rattle.lu_types.specs.Tables.{bits_at}
 use Rattle.lu_types.specs.Occurrences.{Occurrence}
 use Rattle.lu_types.specs.Terms.{term_rules}
 use Rattle.freq_skips.specs.declared.rules.RuledTerm.{RuledTerm}
-use Rattle.freq_skips.specs.Terms.{TermData, term_of}
+use Rattle.freq_skips.specs.Terms.{TermData, ruled_by}
 use Rattle.freq_skips.specs.Walks.{WalkState}
 use Rattle.freq_skips.specs.Points.{KnownTerm, IsPoint}
 use Rattle.freq_skips.specs.declared.skip_point.SkipPoint.{SkipPoint}
@@ -56,7 +56,7 @@ no_data = record { postings = []; levels = [] }
 
 -- a term by what the dictionary says of it, with what its entries are read by
 abbrev pub ruled_term : SegmentValue → TermInfo → RuledTerm
-ruled_term s info = term_of info (term_rules s.dictionary.numbers (bits_at s.index.fields info.field) s.index.size)
+ruled_term s info = ruled_by info (term_rules s.dictionary.numbers (bits_at s.index.fields info.field) s.index.size)
 
 -- what stands in `.frq` of the term with a number
 abbrev pub data_of : SegmentValue → ℕ → TermData

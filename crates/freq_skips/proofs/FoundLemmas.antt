@@ -12,7 +12,7 @@ use Rattle.freq_skips.specs.Levels.{level_count, stride, data_count}
 use Rattle.freq_skips.specs.Terms.{TermData}
 use Rattle.freq_skips.specs.Walks.{start_in, value_from, point_at, HasDatum}
 use Rattle.freq_skips.specs.ProxPlaces.{HasProxPlaces}
-use Rattle.freq_skips.specs.Points.{KnownTerm, entry_behind, point_after, IsLastBelow, data_below}
+use Rattle.freq_skips.specs.Points.{KnownTerm, entry_behind, skip_point_behind, IsLastBelow, data_below}
 use Rattle.freq_skips.specs.Finding.{CanSearch, HasPassedData}
 use Rattle.freq_skips.proofs.Powers.{power-pos}
 use Rattle.freq_skips.proofs.TermLemmas.{TermParts-ReadsTo}
@@ -67,7 +67,7 @@ same-point : (a b c d e f g h : ℕ) → a ≡ e → b ≡ f → c ≡ g → d �
 same-point a b c d e f g h p q r s =
     ap (λ (x : ℕ). point_of_parts x b c d) p ∙ ap (λ (x : ℕ). point_of_parts e x c d) q ∙ ap (λ (x : ℕ). point_of_parts e f x d) r ∙ ap (λ (x : ℕ). point_of_parts e f g x) s
 
-pub reached-is : (t : RuledTerm) (frq : List ℕ) (count : ℕ) (last : Point) → CanSearch t frq → HasPassedData t frq 0 count last → reached t count last ≡ point_after t (value_from t (start_in t frq)) count
+pub reached-is : (t : RuledTerm) (frq : List ℕ) (count : ℕ) (last : Point) → CanSearch t frq → HasPassedData t frq 0 count last → reached t count last ≡ skip_point_behind t (value_from t (start_in t frq)) count
 reached-is t frq zero last can h = refl
 reached-is t frq (suc m) last can h = elim h.level_within [
   | inl none ↦ absurd (omega arith)

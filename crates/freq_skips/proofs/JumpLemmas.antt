@@ -10,7 +10,7 @@ use Rattle.freq_skips.specs.Entries.{Posting, no_posting, no_entry, entry_kind, 
 use Rattle.freq_skips.specs.Levels.{level_count, stride, data_count}
 use Rattle.freq_skips.specs.Terms.{TermData}
 use Rattle.freq_skips.specs.Walks.{start_in}
-use Rattle.freq_skips.specs.Points.{entry_behind, point_after, IsPoint}
+use Rattle.freq_skips.specs.Points.{entry_behind, skip_point_behind, IsPoint}
 use Rattle.freq_skips.proofs.EntryLemmas.{IsBehindEntries-none, IsBehindEntries-upto}
 use Rattle.freq_skips.proofs.WantedLemmas.{posting-at}
 use Rattle.freq_skips.proofs.PointLemmas.{entry-within}
@@ -22,17 +22,17 @@ pub record StandsAt (t : RuledTerm) (frq : List ℕ) (p : SkipPoint) : Type 0 wh
   pub within : p.passed ≤ t.info.doc_freq
 
 after-stands : (t : RuledTerm) (frq : List ℕ) (v : TermData) (n : ℕ) → IsBytes frq → 2 ≤ t.rules.skip_interval → t.info.freq ≤ length frq → AreGoodFrom t (start_in t frq) → v.postings ≡ postings_from t (start_in t frq)
-    → (n ≡ 0) ⊎ ((0 < level_count t) × (n ≤ data_count t 0)) → StandsAt t frq (point_after t v n)
+    → (n ≡ 0) ⊎ ((0 < level_count t) × (n ≤ data_count t 0)) → StandsAt t frq (skip_point_behind t v n)
 after-stands t frq v zero fits two le good same exists = record { stands = IsBehindEntries-none t (start_in t frq); place_within = le; within = omega arith }
 after-stands t frq v (suc m) fits two le good same exists = elim exists [
   | inl none ↦ absurd (omega arith)
   | inr some ↦ go (entry-within t 0 m two (omega (arith, some.1)))
 ]
   where
-    go : (suc m * stride t 0 ≤ t.info.doc_freq) × (0 < suc m * stride t 0) → StandsAt t frq (point_after t v (suc m))
+    go : (suc m * stride t 0 ≤ t.info.doc_freq) × (0 < suc m * stride t 0) → StandsAt t frq (skip_point_behind t v (suc m))
     go (below, pos) = at (IsBehindEntries-upto t (start_in t frq) good.0 (entry_behind t m) good.1 (omega arith))
       where
-        at : ((d : ℕ) × (here : Cursor) × IsBehindEntries t (start_in t frq) (entry_behind t m) d here) → StandsAt t frq (point_after t v (suc m))
+        at : ((d : ℕ) × (here : Cursor) × IsBehindEntries t (start_in t frq) (entry_behind t m) d here) → StandsAt t frq (skip_point_behind t v (suc m))
         at (d, here, h) =
             let k = entry_behind t m in
             let is = posting-at t (start_in t frq) good.0 k d here good.1 h (omega arith) in

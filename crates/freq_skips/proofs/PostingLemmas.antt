@@ -9,7 +9,7 @@ use Rattle.lu_grammar.proofs.Parts.{IsBytes-drop}
 use Rattle.lu_grammar.proofs.Codecs.{same_pair, record_at-kept, all_unbroken, place_in-after}
 use Rattle.freq_skips.specs.declared.rules.RuledTerm.{RuledTerm}
 use Rattle.freq_skips.specs.Records.{stated_of, delta_of, entry_shape}
-use Rattle.freq_skips.specs.Entries.{Posting, no_posting, no_entry, gap, frequency, is_low, posting_of, entry_conditions, entry_kind, postings_from, AreEntries, IsBehindEntries}
+use Rattle.freq_skips.specs.Entries.{Posting, no_posting, no_entry, gap, stated_or_one, is_low, posting_of, entry_conditions, entry_kind, postings_from, AreEntries, IsBehindEntries}
 use Rattle.freq_skips.proofs.EntryLemmas.{IsBehindEntries-none, IsBehindEntries-more, IsBehindEntries-again, IsBehindEntries-upto, posting-is}
 use Rattle.freq_skips.proofs.WantedLemmas.{posting-at}
 use Rattle.freq_skips.proofs.AgainLemmas.{read_plan-on}
@@ -21,7 +21,7 @@ IsBehindEntries-same t start index d e here there a b =
     (sym a.last ∙ ap (λ (p : _). p.doc) same.0 ∙ b.last, same.1)
 
 -- what the conditions say of an entry that is not broken
-not-low : (o : Option ℕ) → is_low o ≡ false → 1 ≤ frequency o
+not-low : (o : Option ℕ) → is_low o ≡ false → 1 ≤ stated_or_one o
 not-low None e = omega arith
 not-low (Some n) e = low n e
   where
@@ -70,7 +70,7 @@ posting-good t start end index all lt = go (IsBehindEntries-upto t start end ind
         let kept = all_unbroken (entry_conditions t (index == 0) d here.place r) (record_at-kept (entry_shape t) (entry_conditions t (index == 0) d here.place) here r again.1 again.2) in
         let doc : (nth t start index).doc ≡ d + gap t (delta_of r) = ap (λ (p : Posting). p.doc) is in
         let before : (nth t start index).before ≡ d = ap (λ (p : Posting). p.before) is in
-        let freq : (nth t start index).freq ≡ frequency (stated_of r) = ap (λ (p : Posting). p.freq) is in
+        let freq : (nth t start index).freq ≡ stated_or_one (stated_of r) = ap (λ (p : Posting). p.freq) is in
         record {
           below = subst (λ (n : ℕ). n < t.rules.documents) (sym doc) (within-range t.rules.documents (d + gap t (delta_of r)) kept.1.1.0);
           some = subst (λ (n : ℕ). 1 ≤ n) (sym freq) (not-low (stated_of r) kept.1.1.1.0);

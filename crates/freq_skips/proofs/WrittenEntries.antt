@@ -10,7 +10,7 @@ use Rattle.lu_grammar.specs.Plans.{done, one, each, times}
 use Rattle.lu_grammar.proofs.Writers.{Writes, Writes-due, Writes-done, Writes-and_then}
 use Rattle.freq_skips.specs.declared.rules.RuledTerm.{RuledTerm}
 use Rattle.freq_skips.specs.Records.{Record, entry, alone, entry_shape, states_frequency}
-use Rattle.freq_skips.specs.Entries.{Posting, EntriesSoFar, with_posting, posting_of, entry_conditions, entry_kind, gap, frequency, is_low}
+use Rattle.freq_skips.specs.Entries.{Posting, EntriesSoFar, with_posting, posting_of, entry_conditions, entry_kind, gap, stated_or_one, is_low}
 use Rattle.freq_skips.specs.Written.{Handed, optional_bytes, canonical_parts, entry_parts_bytes, entry_bytes, entries_bytes, last_doc, written_postings, AreInOrder}
 
 -- the value stands exactly where the test holds, and is one of the part
@@ -32,7 +32,7 @@ pub record IsCanonical (t : RuledTerm) (distance freq : ℕ) (x : ℕ × Option 
   pub leads : gap t x.0 ≡ distance
   pub states : Stated num (states_frequency t x.0) x.1
   pub high : is_low x.1 ≡ false
-  pub tells : frequency x.1 ≡ (if t.rules.omit_tf then 1 else freq)
+  pub tells : stated_or_one x.1 ≡ (if t.rules.omit_tf then 1 else freq)
 
 pub even : (n : ℕ) → 2 * n % 2 ≡ 0
 even n = omega arith
@@ -129,7 +129,7 @@ one-written t s place h at order below small some few =
     let up : s.doc ≤ h.doc = up_to (length s.postings == 0) order in
     let leads : s.doc + gap t x.0 ≡ h.doc = omega (arith, c.leads) in
     let is : posting_of t s.doc place (entry x.0 x.1) ≡ handed_posting t s.doc place h =
-    ap (λ (d : ℕ). made_posting d (frequency x.1) s.doc place) leads ∙ ap (λ (f : ℕ). made_posting h.doc f s.doc place) c.tells in
+    ap (λ (d : ℕ). made_posting d (stated_or_one x.1) s.doc place) leads ∙ ap (λ (f : ℕ). made_posting h.doc f s.doc place) c.tells in
     let after = subst (λ (q : Posting). Writes {R = Record} (done (with_posting s (posting_of t s.doc place (entry x.0 x.1)))) (place + length (entry_bytes t.rules.omit_tf s.doc h)) [] (with_posting s q)) is
     (Writes-done (place + length (entry_bytes t.rules.omit_tf s.doc h)) (with_posting s (posting_of t s.doc place (entry x.0 x.1)))) in
     subst (λ (b : List ℕ). Writes (one (entry_kind t) s) place b (with_posting s (handed_posting t s.doc place h))) (append-nil (entry_bytes t.rules.omit_tf s.doc h))

@@ -33,13 +33,13 @@ abbrev pub gap : RuledTerm → ℕ → ℕ
 gap t delta = if t.rules.omit_tf then delta else delta / 2
 
 -- the stated frequency, or else 1
-abbrev pub frequency : Option ℕ → ℕ
-frequency None = 1
-frequency (Some n) = n
+abbrev pub stated_or_one : Option ℕ → ℕ
+stated_or_one None = 1
+stated_or_one (Some n) = n
 
 -- the posting of an entry that stands at a place, after a document
 abbrev pub posting_of : RuledTerm → ℕ → ℕ → Record → Posting
-posting_of t last place r = record { doc = last + gap t (delta_of r); freq = frequency (stated_of r); before = last; place = place }
+posting_of t last place r = record { doc = last + gap t (delta_of r); freq = stated_or_one (stated_of r); before = last; place = place }
 
 -- a frequency is stated and below 2
 abbrev pub is_low : Option ℕ → Bool

@@ -9,7 +9,7 @@ use Rattle.freq_skips.specs.declared.rules.RuledTerm.{RuledTerm}
 use Rattle.freq_skips.specs.declared.skip_point.SkipPoint.{SkipPoint}
 use Rattle.freq_skips.specs.Entries.{no_posting}
 use Rattle.freq_skips.specs.Levels.{level_count, stride, data_count}
-use Rattle.freq_skips.specs.Terms.{TermData, term_of, term_plan}
+use Rattle.freq_skips.specs.Terms.{TermData, ruled_by, term_plan}
 use Rattle.freq_skips.specs.Walks.{point_at, HasDatum}
 use Rattle.freq_skips.specs.ProxPlaces.{HasProxPlaces}
 
@@ -22,18 +22,18 @@ pub record KnownTerm : Type 0 where
 pub record HasKnownPlaces (info : TermInfo) (rules : TermRules) (frq : List ℕ) : Type 0 where
   pub value : TermData
   pub end : Cursor
-  pub reads : ReadsTo (term_plan (term_of info rules)) (place_in frq info.freq) value end
+  pub reads : ReadsTo (term_plan (ruled_by info rules)) (place_in frq info.freq) value end
   pub prox : ℕ → ℕ
-  pub places : HasProxPlaces (term_of info rules) value prox
+  pub places : HasProxPlaces (ruled_by info rules) value prox
 
 -- the index of the entry that a datum of the lowest level belongs to which follows so many
 abbrev pub entry_behind : RuledTerm → ℕ → ℕ
 entry_behind t m = suc m * stride t 0 - 1
 
 -- the point behind so many data of the lowest level: the start of the term; or the entries before the one that the last datum belongs to, the document of the last of them, and the places where that entry and its positions start
-abbrev pub point_after : RuledTerm → TermData → ℕ → SkipPoint
-point_after t v zero = record { passed = 0; doc = 0; freq = t.info.freq; prox = t.info.prox }
-point_after t v (suc m) = record {
+abbrev pub skip_point_behind : RuledTerm → TermData → ℕ → SkipPoint
+skip_point_behind t v zero = record { passed = 0; doc = 0; freq = t.info.freq; prox = t.info.prox }
+skip_point_behind t v (suc m) = record {
   passed = entry_behind t m;
   doc = (slice_index_or v.postings (entry_behind t m) no_posting).before;
   freq = (slice_index_or v.postings (entry_behind t m) no_posting).place;
@@ -44,7 +44,7 @@ point_after t v (suc m) = record {
 pub record IsPoint (t : RuledTerm) (v : TermData) (p : SkipPoint) : Type 0 where
   pub number : ℕ
   pub exists : (number ≡ 0) ⊎ ((0 < level_count t) × (number ≤ data_count t 0))
-  pub point : p ≡ point_after t v number
+  pub point : p ≡ skip_point_behind t v number
 
 -- the last point of the term whose document is below the target, or the start of the term where there is none
 pub record IsLastBelow (k : KnownTerm) (target : ℕ) (p : SkipPoint) : Type 0 where

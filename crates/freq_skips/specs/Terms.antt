@@ -24,12 +24,12 @@ abbrev pub term_plan : RuledTerm → Plan TermData Record
 term_plan t = and_then (entries t) (λ s. and_then (levels t s.postings (level_count t) []) (λ points. done (record { postings = s.postings; levels = points })))
 
 -- a term by the line of the dictionary and the rules
-abbrev pub term_of : TermInfo → TermRules → RuledTerm
-term_of info rules = record { info = info; rules = rules }
+abbrev pub ruled_by : TermInfo → TermRules → RuledTerm
+ruled_by info rules = record { info = info; rules = rules }
 
 -- the terms of a dictionary with these numbers, in a segment with these fields and so many documents
 abbrev pub terms_of : List TableField → TermNumbers → ℕ → List TermInfo → List RuledTerm
-terms_of fields numbers documents infos = map (λ info. term_of info (term_rules numbers (bits_at fields info.field) documents)) infos
+terms_of fields numbers documents infos = map (λ info. ruled_by info (term_rules numbers (bits_at fields info.field) documents)) infos
 
 -- some terms in turn
 abbrev pub terms_plan : List RuledTerm → Plan (List TermData) Record
@@ -45,7 +45,7 @@ pub record IsGoodTerm (info : TermInfo) (rules : TermRules) (frq : List ℕ) : T
   pub within : info.freq ≤ length frq
   pub value : TermData
   pub end : Cursor
-  pub reads : ReadsTo (term_plan (term_of info rules)) (place_in frq info.freq) value end
+  pub reads : ReadsTo (term_plan (ruled_by info rules)) (place_in frq info.freq) value end
 
 -- the records of the term do not all stand there: the first that is not good is at this offset, and breaks this rule first
 pub record IsTermFault (t : RuledTerm) (from : Cursor) (offset rule : ℕ) : Type 0 where

@@ -3,7 +3,7 @@ ghost use Rattle.lu_grammar.specs.Bytes.{place_in};
 ghost use Rattle.std.specs.Prelude.{◌≡◌, ℕ, ◌<◌, ◌≤◌, length, IfOk, MatchResult, Ok, Err};
 ghost use Rattle.lu_grammar.specs.Meaning.{ReadsTo};
 ghost use Rattle.lu_types.specs.declared.kind.FileKind.TheVariants.{Frq};
-ghost use Rattle.freq_skips.specs.Terms.{TermData, IsGoodTerm, IsTermFault, term_of, term_plan};
+ghost use Rattle.freq_skips.specs.Terms.{TermData, IsGoodTerm, IsTermFault, ruled_by, term_plan};
 
 use crate::levels::check_levels;
 use crate::passing::{CheckedEntries, check_entries};
@@ -18,8 +18,8 @@ pub fn check_term(frq: &[u8], at: usize, info: &TermInfo, rules: &TermRules) -> 
     requires interval { 2 ≤ rules.now.skip_interval }
     requires at_within { at ≤ length frq.now }
     ensures term { MatchResult result
-        (λ end. (value : TermData) × ReadsTo (term_plan (term_of info.now rules.now)) (place_in frq.now at) value (place_in frq.now end))
-        (λ spot. (spot.kind ≡ Frq) × IsTermFault (term_of info.now rules.now) (place_in frq.now at) spot.offset spot.rule) }
+        (λ end. (value : TermData) × ReadsTo (term_plan (ruled_by info.now rules.now)) (place_in frq.now at) value (place_in frq.now end))
+        (λ spot. (spot.kind ≡ Frq) × IsTermFault (ruled_by info.now rules.now) (place_in frq.now at) spot.offset spot.rule) }
     ensures good { 0 < info.now.doc_freq → IfOk result (λ _. (at ≡ info.now.freq) × IsGoodTerm info.now rules.now frq.now) }
     ensures within { IfOk result (λ end. end ≤ length frq.now) }
 {

@@ -3,7 +3,7 @@ ghost use Rattle.std.specs.Prelude.{◌≡◌, ◌+◌, ◌<◌, ◌≤◌, leng
 ghost use Rattle.lu_grammar.specs.Bytes.{Cursor, place_in};
 ghost use Rattle.lu_grammar.specs.Meaning.{ReadsTo};
 ghost use Rattle.freq_skips.specs.Entries.{entry_of, no_posting};
-ghost use Rattle.freq_skips.specs.Terms.{TermData, IsGoodTerm, term_of, term_plan};
+ghost use Rattle.freq_skips.specs.Terms.{TermData, IsGoodTerm, ruled_by, term_plan};
 ghost use Rattle.freq_skips.specs.Points.{IsPoint};
 
 use crate::entry::Entry;
@@ -48,8 +48,8 @@ impl<'a> Entries<'a> {
     /// The entries of a term of the dictionary, from the first on.
     pub fn at(frq: &'a [u8], info: &TermInfo, rules: &TermRules) -> Entries<'a>
         requires { IsGoodTerm info.now rules.now frq.now }
-        ensures { (value : TermData) (end : Cursor) → ReadsTo (term_plan (term_of info.now rules.now)) (place_in frq.entry.now info.now.freq) value end
-            → result ≡ record { term = term_of info.now rules.now; value = value; passed = 0 } }
+        ensures { (value : TermData) (end : Cursor) → ReadsTo (term_plan (ruled_by info.now rules.now)) (place_in frq.entry.now info.now.freq) value end
+            → result ≡ record { term = ruled_by info.now rules.now; value = value; passed = 0 } }
     {
         let term = RuledTerm {
             info: *info,

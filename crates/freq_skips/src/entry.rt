@@ -5,7 +5,7 @@ ghost use Rattle.lu_grammar.specs.Answers.{Gives};
 ghost use Rattle.lu_grammar.specs.Parts.{num};
 ghost use Rattle.lu_grammar.specs.Records.{read_shape, record_at, first_broken};
 ghost use Rattle.freq_skips.specs.Records.{Record, GivesPart, optional_length, entry, entry_shape, states_frequency, is_odd as is_odd_number};
-ghost use Rattle.freq_skips.specs.Entries.{entry_conditions, gap as gap_of, posting_of, frequency, is_low};
+ghost use Rattle.freq_skips.specs.Entries.{entry_conditions, gap as gap_of, posting_of, stated_or_one, is_low};
 
 use crate::rules::RuledTerm;
 use lu_prims::{Bad, Cur};
@@ -72,7 +72,7 @@ fn gap(term: &RuledTerm, delta: u32) -> u32
 
 /// The stated frequency, or else 1.
 fn frequency_or_one(stated: Option<u32>) -> u32
-    ensures { result ≡ frequency stated }
+    ensures { result ≡ stated_or_one stated }
 {
     match stated {
         None => 1,

@@ -3,7 +3,7 @@ ghost use Rattle.std.specs.Prelude.{◌≡◌, ◌+◌, ◌-◌, ◌*◌, ◌^�
 ghost use Rattle.lu_grammar.specs.Bytes.{Cursor, place_in};
 ghost use Rattle.lu_grammar.specs.Meaning.{ReadsTo};
 ghost use Rattle.freq_skips.specs.Levels.{level_count as level_count_of};
-ghost use Rattle.freq_skips.specs.Terms.{TermData, IsGoodTerm, term_of, term_plan};
+ghost use Rattle.freq_skips.specs.Terms.{TermData, IsGoodTerm, ruled_by, term_plan};
 ghost use Rattle.freq_skips.specs.ProxPlaces.{HasProxPlaces};
 ghost use Rattle.lu_prims.specs.Steps.{ticked};
 ghost use Rattle.freq_skips.specs.Points.{HasKnownPlaces, IsLastBelow, find_steps, most_steps};
@@ -51,8 +51,8 @@ impl<'a> Skips<'a> {
         requires good { IsGoodTerm info.now rules.now frq.now }
         requires places { HasKnownPlaces info.now rules.now frq.now }
         requires small { length frq.now < 2 ^ 32 }
-        ensures { (value : TermData) (end : Cursor) → ReadsTo (term_plan (term_of info.now rules.now)) (place_in frq.entry.now info.now.freq) value end
-            → result ≡ record { term = term_of info.now rules.now; value = value } }
+        ensures { (value : TermData) (end : Cursor) → ReadsTo (term_plan (ruled_by info.now rules.now)) (place_in frq.entry.now info.now.freq) value end
+            → result ≡ record { term = ruled_by info.now rules.now; value = value } }
     {
         let term = RuledTerm {
             info: *info,

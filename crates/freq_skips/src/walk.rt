@@ -5,7 +5,7 @@ ghost use Rattle.lu_grammar.specs.Plans.{read_plan};
 ghost use Rattle.lu_grammar.specs.Meaning.{ReadsTo};
 ghost use Rattle.freq_skips.specs.Entries.{Posting, postings_from};
 ghost use Rattle.freq_skips.specs.Levels.{Along, level_of, level_count as count_of_levels, level_plan, stride as stride_of, data_count, AreData};
-ghost use Rattle.freq_skips.specs.Terms.{TermData, IsGoodTerm, term_of, term_plan};
+ghost use Rattle.freq_skips.specs.Terms.{TermData, IsGoodTerm, ruled_by, term_plan};
 ghost use Rattle.freq_skips.specs.Walks.{WalkState, walked_at, IsDatumFor, IsOnLevel, IsDatumOfLast, AreOnLevels, no_level_place, start_in, points_in};
 
 use crate::datum::Point;
@@ -233,8 +233,8 @@ impl<'a> Walk<'a> {
     pub fn at(frq: &'a [u8], info: &TermInfo, rules: &TermRules) -> Walk<'a>
         requires good { IsGoodTerm info.now rules.now frq.now }
         requires small { length frq.now < 2 ^ 32 }
-        ensures { (value : TermData) (end : Cursor) → ReadsTo (term_plan (term_of info.now rules.now)) (place_in frq.entry.now info.now.freq) value end
-            → result ≡ record { term = term_of info.now rules.now; value = value; passed = 0 } }
+        ensures { (value : TermData) (end : Cursor) → ReadsTo (term_plan (ruled_by info.now rules.now)) (place_in frq.entry.now info.now.freq) value end
+            → result ≡ record { term = ruled_by info.now rules.now; value = value; passed = 0 } }
     {
         let term = RuledTerm {
             info: *info,

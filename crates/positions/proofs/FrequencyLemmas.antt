@@ -11,7 +11,7 @@ use Rattle.lu_grammar.specs.Meaning.{ReadsTo}
 use Rattle.lu_grammar.proofs.Codecs.{all_unbroken, record_at-kept, times-keeps}
 use Rattle.freq_skips.specs.declared.rules.RuledTerm.{RuledTerm}
 use Rattle.freq_skips.specs.Records.{Record, stated_of}
-use Rattle.freq_skips.specs.Entries.{Posting, no_posting, EntriesSoFar, no_entry, frequency, is_low, posting_of, entry_conditions, entry_kind, postings_from}
+use Rattle.freq_skips.specs.Entries.{Posting, no_posting, EntriesSoFar, no_entry, stated_or_one, is_low, posting_of, entry_conditions, entry_kind, postings_from}
 use Rattle.freq_skips.specs.Terms.{TermData, term_plan}
 use Rattle.positions.specs.Occurrences.{PostedTerm, count_at}
 use Rattle.freq_skips.proofs.EntryLemmas.{postings_from-is, postings_from-length}
@@ -21,7 +21,7 @@ use Rattle.freq_skips.proofs.TermLemmas.{TermParts-ReadsTo}
 pub record AreFrequent (postings : List Posting) : Type 0 where
   pub some : (k : ℕ) → k < length postings → 0 < (slice_index_or postings k no_posting).freq
 
-frequency-some : (stated : Option ℕ) → is_low stated ≡ false → 0 < frequency stated
+frequency-some : (stated : Option ℕ) → is_low stated ≡ false → 0 < stated_or_one stated
 frequency-some None e = omega arith
 frequency-some (Some n) e = elim (cases_lt n 2) [
   | inl low ↦ let t : nat_lt n 2 ≡ true = grind (arith, nat_tests) in absurd (cc)

@@ -14,7 +14,7 @@ use Rattle.freq_skips.specs.declared.rules.RuledTerm.{RuledTerm}
 use Rattle.freq_skips.specs.declared.skip_point.SkipPoint.{SkipPoint}
 use Rattle.freq_skips.specs.Levels.{level_count, stride, data_count}
 use Rattle.freq_skips.specs.Terms.{TermData}
-use Rattle.freq_skips.specs.Points.{IsPoint, point_after}
+use Rattle.freq_skips.specs.Points.{IsPoint, skip_point_behind}
 use Rattle.freq_skips.specs.Walks.{point_at}
 use Rattle.freq_skips.proofs.Powers.{power-pos}
 use Rattle.positions.specs.Records.{OccurrenceRecord, occurrence_shape}
@@ -92,7 +92,7 @@ record IsLedTo (t : RuledTerm) (value : TermData) (point : SkipPoint) : Type 0 w
 point-kind : (t : RuledTerm) (value : TermData) (point : SkipPoint) → IsPoint t value point → IsStart t point ⊎ IsLedTo t value point
 point-kind t value point h = go h.number h.exists h.point
   where
-    go : (n : ℕ) → (n ≡ 0) ⊎ ((0 < level_count t) × (n ≤ data_count t 0)) → point ≡ point_after t value n → IsStart t point ⊎ IsLedTo t value point
+    go : (n : ℕ) → (n ≡ 0) ⊎ ((0 < level_count t) × (n ≤ data_count t 0)) → point ≡ skip_point_behind t value n → IsStart t point ⊎ IsLedTo t value point
     go zero exists is = inl (record { passed = ap (λ (x : SkipPoint). x.passed) is; prox = ap (λ (x : SkipPoint). x.prox) is })
     go (suc m) (inl none) is = absurd (omega arith)
     go (suc m) (inr (some, le)) is = inr (record { number = m; some = some; number_below = omega arith; passed = ap (λ (x : SkipPoint). x.passed) is; prox = ap (λ (x : SkipPoint). x.prox) is })

@@ -9,7 +9,7 @@ use Rattle.lu_grammar.specs.Plans.{Plan, done, and_then, in_turn}
 use Rattle.lu_grammar.specs.Meaning.{ReadsTo, FaultFrom}
 use Rattle.lu_types.specs.Occurrences.{Occurrence}
 use Rattle.freq_skips.specs.declared.rules.RuledTerm.{RuledTerm}
-use Rattle.freq_skips.specs.Terms.{TermData, term_of, terms_of}
+use Rattle.freq_skips.specs.Terms.{TermData, ruled_by, terms_of}
 use Rattle.positions.specs.Records.{OccurrenceRecord}
 use Rattle.positions.specs.Occurrences.{PostedTerm, entries_plan}
 
@@ -19,7 +19,7 @@ term_plan p = and_then (entries_plan p p.term.info.doc_freq) (λ s. done s.befor
 
 -- a term by the line of the dictionary, the rules, and what its part of `.frq` stands for
 abbrev pub posted : TermInfo → TermRules → TermData → PostedTerm
-posted info rules value = record { term = term_of info rules; value = value }
+posted info rules value = record { term = ruled_by info rules; value = value }
 
 -- some terms, each with what its part of `.frq` stands for
 abbrev pub posted_terms : List RuledTerm → List TermData → List PostedTerm

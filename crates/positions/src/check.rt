@@ -6,7 +6,7 @@ ghost use Rattle.lu_grammar.specs.Meaning.{ReadsTo};
 ghost use Rattle.lu_types.specs.declared.kind.FileKind.TheVariants.{Prx};
 ghost use Rattle.lu_types.specs.Judging.{IsBroken};
 ghost use Rattle.lu_types.specs.Occurrences.{Occurrence};
-ghost use Rattle.freq_skips.specs.Terms.{TermData, IsGoodTerm, term_of, term_plan as frq_term_plan};
+ghost use Rattle.freq_skips.specs.Terms.{TermData, IsGoodTerm, ruled_by, term_plan as frq_term_plan};
 ghost use Rattle.positions.specs.Occurrences.{count_at};
 ghost use Rattle.positions.specs.Terms.{IsTermFault, posted, term_plan};
 ghost use Rattle.positions.specs.Standing.{StandsIn};
@@ -59,13 +59,13 @@ pub fn check_term(
     requires good { IsGoodTerm info.now rules.now frq.now }
     requires small { length frq.now < 2 ^ 32 }
     requires at_within { at ≤ length prx.now }
-    ensures term { (value : TermData) (behind : Cursor) → ReadsTo (frq_term_plan (term_of info.now rules.now)) (place_in frq.now info.now.freq) value behind
+    ensures term { (value : TermData) (behind : Cursor) → ReadsTo (frq_term_plan (ruled_by info.now rules.now)) (place_in frq.now info.now.freq) value behind
         → MatchResult result
         (λ end. (occurrences : List (List Occurrence)) × ReadsTo (term_plan (posted info.now rules.now value)) (place_in prx.now at) occurrences (place_in prx.now end))
         (λ spot. (spot.kind ≡ Prx) × IsTermFault (posted info.now rules.now value) (place_in prx.now at) spot.offset spot.rule) }
     ensures within { IfOk result (λ end. end ≤ length prx.now) }
-    ensures stands { 0 < info.now.doc_freq → (value : TermData) (behind : Cursor) → ReadsTo (frq_term_plan (term_of info.now rules.now)) (place_in frq.now info.now.freq) value behind
-        → IfOk result (λ _. (occurrences : List (List Occurrence)) × StandsInBoth (term_of info.now rules.now) value prx.now occurrences) }
+    ensures stands { 0 < info.now.doc_freq → (value : TermData) (behind : Cursor) → ReadsTo (frq_term_plan (ruled_by info.now rules.now)) (place_in frq.now info.now.freq) value behind
+        → IfOk result (λ _. (occurrences : List (List Occurrence)) × StandsInBoth (ruled_by info.now rules.now) value prx.now occurrences) }
     ensures starts { rules.now.omit_tf ≡ false → 0 < info.now.doc_freq → IfOk result (λ _. at ≡ info.now.prox) }
 {
     if rules.omit_tf {

@@ -1,7 +1,7 @@
 //! The occurrences of a term, document by document.
 ghost use Rattle.std.specs.Prelude.{◌≡◌, ◌≤◌, ◌<◌, ◌+◌, ℕ, false, List, [], ◌∷◌, length, slice_index_or, MatchOption};
 ghost use Rattle.lu_types.specs.Occurrences.{Occurrence};
-ghost use Rattle.freq_skips.specs.Terms.{TermData, term_of};
+ghost use Rattle.freq_skips.specs.Terms.{TermData, ruled_by};
 ghost use Rattle.freq_skips.specs.Points.{IsPoint};
 ghost use Rattle.positions.specs.Occurrences.{count_at};
 ghost use Rattle.positions.specs.Standing.{count_before};
@@ -63,9 +63,9 @@ impl<'a> Occurrences<'a> {
         rules: &TermRules,
         point: &SkipPoint,
     ) -> Occurrences<'a>
-        requires { IsPointIn (term_of info.now rules.now) prx.now point.now }
-        ensures { (value : TermData) (occurrences : List (List Occurrence)) → StandsInBoth (term_of info.now rules.now) value prx.entry.now occurrences → IsPoint (term_of info.now rules.now) value point.now
-            → IsAmong (term_of info.now rules.now) value occurrences point.now.passed [] result }
+        requires { IsPointIn (ruled_by info.now rules.now) prx.now point.now }
+        ensures { (value : TermData) (occurrences : List (List Occurrence)) → StandsInBoth (ruled_by info.now rules.now) value prx.entry.now occurrences → IsPoint (ruled_by info.now rules.now) value point.now
+            → IsAmong (ruled_by info.now rules.now) value occurrences point.now.passed [] result }
     {
         let term = RuledTerm {
             info: *info,

@@ -17,7 +17,7 @@ use Rattle.lu_types.specs.declared.document.Document.{Document}
 use Rattle.lu_types.specs.declared.document.IndexedField.{IndexedField}
 use Rattle.lu_model.specs.Contents.{name_of}
 use Rattle.seg_writer.specs.declared.columns.Appearance.{Appearance}
-use Rattle.seg_writer.specs.Appearing.{Appeared, appeared, appeared_in, is_field_named, found_in, indexed_names, AreFieldColumns, AreEmpty, AreFirst, HaveMore, IsPushed, column_from}
+use Rattle.seg_writer.specs.Appearing.{Appeared, appeared, appeared_in, is_field_named, found_in, names_of_indexed, AreFieldColumns, AreEmpty, AreFirst, HaveMore, IsPushed, column_from}
 
 -- a test that does not hold
 pub not-true : (b : Bool) → (b ≡ true → ⊥) → b ≡ false
@@ -112,16 +112,16 @@ columns-begun table doc fields old = (refl, λ n d within. sym (append-nil (map 
 
 -- ---- fields with names apart: a name is found at most once
 
-none-named : (name : List ℕ) (fields : List IndexedField) → AllByRecursion (λ other. name ≢ other) (indexed_names fields) → filter (is_field_named name) fields ≡ []
+none-named : (name : List ℕ) (fields : List IndexedField) → AllByRecursion (λ other. name ≢ other) (names_of_indexed fields) → filter (is_field_named name) fields ≡ []
 none-named name [] apart = refl
 none-named name (f ∷ fields) apart =
     ap (λ b. cond b (f ∷ filter (is_field_named name) fields) (filter (is_field_named name) fields)) (not-true (is_field_named name f) (λ named. apart.0 ((bytes_decides name f.field).0 named)))
     ∙ none-named name fields apart.1
 
-once : (name : List ℕ) (fields : List IndexedField) → AreApart (indexed_names fields) → filter (is_field_named name) fields ≡ option_to_list (find (is_field_named name) fields)
+once : (name : List ℕ) (fields : List IndexedField) → AreApart (names_of_indexed fields) → filter (is_field_named name) fields ≡ option_to_list (find (is_field_named name) fields)
 once name [] apart = refl
 once name (f ∷ fields) apart = elim (is_field_named name f) as (λ b. is_field_named name f ≡ b → cond b (f ∷ filter (is_field_named name) fields) (filter (is_field_named name) fields) ≡ option_to_list (cond b (Some f) (find (is_field_named name) fields))) [
-  | true ↦ λ named. ap (λ w. f ∷ w) (none-named name fields (subst (λ n. AllByRecursion (λ other. n ≢ other) (indexed_names fields)) (sym ((bytes_decides name f.field).0 named)) apart.0))
+  | true ↦ λ named. ap (λ w. f ∷ w) (none-named name fields (subst (λ n. AllByRecursion (λ other. n ≢ other) (names_of_indexed fields)) (sym ((bytes_decides name f.field).0 named)) apart.0))
   | false ↦ λ other. once name fields apart.1
 ] refl
 
@@ -129,7 +129,7 @@ map-option : {X Y : Type 0} (f : X → Y) (o : Option X) → map f (option_to_li
 map-option f None = refl
 map-option f (Some x) = refl
 
-pub columns-end : (table : List TableField) (doc : ℕ) (fields : List IndexedField) (i : ℕ) (old columns : List (Vec Appearance Global)) → AreApart (indexed_names fields) → length fields ≤ i → HaveMore (so_far table doc fields i) old columns
+pub columns-end : (table : List TableField) (doc : ℕ) (fields : List IndexedField) (i : ℕ) (old columns : List (Vec Appearance Global)) → AreApart (names_of_indexed fields) → length fields ≤ i → HaveMore (so_far table doc fields i) old columns
     → HaveMore (λ n. found_in (name_of table n) doc fields) old columns
 columns-end table doc fields i old columns apart le (same, each) = (
   same,

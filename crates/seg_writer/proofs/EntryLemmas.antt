@@ -18,7 +18,7 @@ use Rattle.segment_files.specs.Postings.{KeptTerm, kept_term}
 use Rattle.seg_writer.specs.Terms.{kept_in, term_in}
 use Rattle.lu_model.specs.Contents.{Content, bits_of, content_of, field_number, given_if_any, indexed_term, tokens_for, tokens_with}
 use Rattle.seg_writer.specs.declared.columns.Appearance.{Appearance}
-use Rattle.seg_writer.specs.Appearing.{Appeared, appeared, appeared_in, column_from, found_in, is_field_named, indexed_names, HasApartFields}
+use Rattle.seg_writer.specs.Appearing.{Appeared, appeared, appeared_in, column_from, found_in, is_field_named, names_of_indexed, HasApartFields}
 use Rattle.seg_writer.specs.Entries.{entry_if_any, entries_of_text}
 use Rattle.seg_writer.proofs.ColumnLemmas.{not-true}
 
@@ -42,18 +42,18 @@ abbrev found_tokens : Term → Option IndexedField → List Token
 found_tokens term None = []
 found_tokens term (Some field) = tokens_with term.text field.tokens
 
-no-tokens : (term : Term) (fields : List IndexedField) → AllByRecursion (λ other. term.field ≢ other) (indexed_names fields) → flat_map (tokens_for term) fields ≡ []
+no-tokens : (term : Term) (fields : List IndexedField) → AllByRecursion (λ other. term.field ≢ other) (names_of_indexed fields) → flat_map (tokens_for term) fields ≡ []
 no-tokens term [] apart = refl
 no-tokens term (f ∷ fields) apart =
     ap (λ b. cond b (tokens_with term.text f.tokens) [] ++ flat_map (tokens_for term) fields) (not-true (bytes_eq term.field f.field) (λ named. apart.0 ((bytes_decides term.field f.field).0 named)))
     ∙ no-tokens term fields apart.1
 
 -- the tokens of a term in a document are those of the one field with its name
-tokens-found : (term : Term) (fields : List IndexedField) → AreApart (indexed_names fields) → flat_map (tokens_for term) fields ≡ found_tokens term (find (is_field_named term.field) fields)
+tokens-found : (term : Term) (fields : List IndexedField) → AreApart (names_of_indexed fields) → flat_map (tokens_for term) fields ≡ found_tokens term (find (is_field_named term.field) fields)
 tokens-found term [] apart = refl
 tokens-found term (f ∷ fields) apart = elim (bytes_eq term.field f.field) as (λ b. bytes_eq term.field f.field ≡ b → cond b (tokens_with term.text f.tokens) [] ++ flat_map (tokens_for term) fields ≡ found_tokens term (cond b (Some f) (find (is_field_named term.field) fields))) [
   | true ↦ λ named.
-      ap (λ w. tokens_with term.text f.tokens ++ w) (no-tokens term fields (subst (λ name. AllByRecursion (λ other. name ≢ other) (indexed_names fields)) (sym ((bytes_decides term.field f.field).0 named)) apart.0))
+      ap (λ w. tokens_with term.text f.tokens ++ w) (no-tokens term fields (subst (λ name. AllByRecursion (λ other. name ≢ other) (names_of_indexed fields)) (sym ((bytes_decides term.field f.field).0 named)) apart.0))
       ∙ append-nil (tokens_with term.text f.tokens)
   | false ↦ λ other. tokens-found term fields apart.1
 ] refl

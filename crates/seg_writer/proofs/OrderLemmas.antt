@@ -26,7 +26,7 @@ use Rattle.lu_model.proofs.Each.{all_at}
 use Rattle.lu_model.proofs.Merges.{terms_are_texts}
 use Rattle.lu_model.proofs.Tables.{find_in}
 use Rattle.seg_writer.specs.declared.columns.Appearance.{Appearance}
-use Rattle.seg_writer.specs.Appearing.{Appeared, appeared, appeared_in, column_from, found_in, is_field_named, indexed_names, HasApartFields}
+use Rattle.seg_writer.specs.Appearing.{Appeared, appeared, appeared_in, column_from, found_in, is_field_named, names_of_indexed, HasApartFields}
 use Rattle.seg_writer.specs.Columns.{tokens_in_field}
 use Rattle.seg_writer.specs.Texts.{column_texts, texts_of}
 use Rattle.seg_writer.specs.Orders.{NamedColumn, terms_of_column, terms_of_columns, AreAllColumns}
@@ -107,12 +107,12 @@ origin name n (doc ∷ docs) s h = elim (in_either s (found_in name n doc.indexe
 ]
 
 -- a field is the one that is found by its name
-unnamed : (name : List ℕ) (fields : List IndexedField) (field : IndexedField) → AllByRecursion (λ other. name ≢ other) (indexed_names fields) → IsIn field fields → name ≡ field.field → ⊥
+unnamed : (name : List ℕ) (fields : List IndexedField) (field : IndexedField) → AllByRecursion (λ other. name ≢ other) (names_of_indexed fields) → IsIn field fields → name ≡ field.field → ⊥
 unnamed name [] field apart h is = h
 unnamed name (f ∷ fields) field apart (inl same) is = apart.0 (is ∙ ap (λ (g : IndexedField). g.field) same)
 unnamed name (f ∷ fields) field apart (inr h) is = unnamed name fields field apart.1 h is
 
-finds-field : (name : List ℕ) (fields : List IndexedField) (field : IndexedField) → AreApart (indexed_names fields) → IsIn field fields → name ≡ field.field → find (is_field_named name) fields ≡ Some field
+finds-field : (name : List ℕ) (fields : List IndexedField) (field : IndexedField) → AreApart (names_of_indexed fields) → IsIn field fields → name ≡ field.field → find (is_field_named name) fields ≡ Some field
 finds-field name [] field apart h is = absurd h
 finds-field name (f ∷ fields) field apart (inl same) is =
     ap (λ b. cond b (Some f) (find (is_field_named name) fields)) ((bytes_decides name f.field).1 (is ∙ ap (λ (g : IndexedField). g.field) same)) ∙ ap Some (sym same)

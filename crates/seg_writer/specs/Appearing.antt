@@ -38,12 +38,12 @@ column_from name number [] = []
 column_from name number (doc ∷ docs) = found_in name number doc.indexed ++ column_from name (suc number) docs
 
 -- the names of fields
-abbrev pub indexed_names : List IndexedField → List (List ℕ)
-indexed_names fields = map (λ field. field.field) fields
+abbrev pub names_of_indexed : List IndexedField → List (List ℕ)
+names_of_indexed fields = map (λ field. field.field) fields
 
 -- no two of the indexed fields of a document have one name
 abbrev pub HasApartFields : Document → Type 0
-HasApartFields doc = AreApart (indexed_names doc.indexed)
+HasApartFields doc = AreApart (names_of_indexed doc.indexed)
 
 -- each field of the table is the first with its name
 abbrev pub AreFirst : List TableField → Type 0

@@ -2,7 +2,7 @@
 ghost use Rattle.std.specs.Prelude.{◌≡◌, ◌<◌, ◌^◌, [], length, All, IfOk, OnOk};
 ghost use Rattle.lu_types.specs.DocFaults.{AreApart};
 ghost use Rattle.lu_model.specs.Contents.{name_of};
-ghost use Rattle.seg_writer.specs.Appearing.{AreFieldColumns, AreEmpty, AreFirst, HasApartFields, HaveMore, IsPushed, appeared_in, found_in, indexed_names};
+ghost use Rattle.seg_writer.specs.Appearing.{AreFieldColumns, AreEmpty, AreFirst, HasApartFields, HaveMore, IsPushed, appeared_in, found_in, names_of_indexed};
 
 use lu_prims::OutOfMemory;
 use lu_types::{Document, IndexedField, JoinedTable};
@@ -56,7 +56,7 @@ fn add_fields<'a>(
 ) -> Result<(), OutOfMemory>
     requires count { length columns.old.items ≡ length table.now }
     requires first { AreFirst table.now }
-    requires apart { AreApart (indexed_names fields.now) }
+    requires apart { AreApart (names_of_indexed fields.now) }
     ensures { OnOk result (HaveMore (λ n. found_in (name_of table.now n) doc fields.entry.now) columns.old.items columns.new.items) }
 {
     for field in fields {

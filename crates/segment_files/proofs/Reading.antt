@@ -15,7 +15,7 @@ use Rattle.lu_model.proofs.Words.{Each}
 use Rattle.freq_skips.specs.declared.rules.RuledTerm.{RuledTerm}
 use Rattle.freq_skips.specs.declared.writer.Handed.{Handed}
 use Rattle.freq_skips.specs.Written.{entry_bytes, written_postings}
-use Rattle.freq_skips.specs.Terms.{TermData, term_of, term_plan}
+use Rattle.freq_skips.specs.Terms.{TermData, ruled_by, term_plan}
 use Rattle.positions.specs.Terms.{term_plan as prx_term_plan}
 use Rattle.positions.specs.Written.{document_occurrence_bytes}
 use Rattle.positions.specs.Cursors.{posted_term}
@@ -78,7 +78,7 @@ module _ (fields : List TableField) (size : ℕ) (o : PostingIntervals) (count :
   line_here f t = dictionary_line o f (kept_here t)
 
   abbrev pub ruled_here : PostingParts → IndexedTerm → RuledTerm
-  ruled_here f t = term_of (line_here f t).info (term_rules (numbers_for o count) (bits_at fields t.field) size)
+  ruled_here f t = ruled_by (line_here f t).info (term_rules (numbers_for o count) (bits_at fields t.field) size)
 
   abbrev pub parts_behind : PostingParts → IndexedTerm → PostingParts
   parts_behind f t = with_postings o f (kept_here t)

@@ -5,7 +5,7 @@ use Rattle.lu_grammar.specs.Meaning.{ReadsTo}
 use Rattle.lu_grammar.proofs.Parts.{IsBytes-drop}
 use Rattle.lu_grammar.proofs.Codecs.{reads-read_plan}
 use Rattle.freq_skips.specs.declared.rules.RuledTerm.{RuledTerm}
-use Rattle.freq_skips.specs.Terms.{TermData, term_of}
+use Rattle.freq_skips.specs.Terms.{TermData, ruled_by}
 use Rattle.freq_skips.specs.Walks.{WalkState, start_in}
 use Rattle.positions.specs.Occurrences.{PostedTerm, count_at}
 use Rattle.positions.specs.Terms.{posted, term_plan}
@@ -29,7 +29,7 @@ returns-then-rules-clause-term c = λ value behind h.
 
 pub loop-walked-init : goal.loop-walked-init
 loop-walked-init c =
-    let t = term_of c.args.info.now c.args.rules.now in
+    let t = ruled_by c.args.info.now c.args.rules.now in
     let good = c.requires.good in
     let w = c.at-walk.result in
     let is = c.at-walk.ensures good.value good.end good.reads in
@@ -54,7 +54,7 @@ check_entry-requires c =
     let i = c.loop-walked.invariant in
     let w = c.loop-walked.walk in
     let n = c.next.new.self in
-    let t = term_of c.args.info.now c.args.rules.now in
+    let t = ruled_by c.args.info.now c.args.rules.now in
     let step = c.in-Some.ensures.2 in
     let answer = answered w n c.in-Some.walked step c.in-Some.ensures.1 c.in-Some.ensures.0 i.count (kept w t i.term c.if-rules.false) in
     let term : n.term ≡ t = ap (λ (x : WalkState). x.term) step ∙ i.term in
@@ -73,7 +73,7 @@ returns-in-Err-clause-term c = λ value behind h.
     let w = c.loop-walked.walk in
     let n = c.next.new.self in
     let r = c.loop-walked.reading in
-    let t = term_of c.args.info.now c.args.rules.now in
+    let t = ruled_by c.args.info.now c.args.rules.now in
     let p = posted c.args.info.now c.args.rules.now value in
     let start = place_in c.args.prx.now c.args.at in
     let spot = c.in-Err.spot in
@@ -100,7 +100,7 @@ loop-walked-preserved c =
     let w = c.loop-walked.walk in
     let n = c.next.new.self in
     let r = c.loop-walked.reading in
-    let t = term_of c.args.info.now c.args.rules.now in
+    let t = ruled_by c.args.info.now c.args.rules.now in
     let start = place_in c.args.prx.now c.args.at in
     let step = c.in-Some.ensures.2 in
     let answer = answered w n c.in-Some.walked step c.in-Some.ensures.1 c.in-Some.ensures.0 i.count (kept w t i.term c.if-rules.false) in
@@ -121,7 +121,7 @@ returns-clause-term c = λ value behind h.
     let i = c.loop-walked.invariant in
     let w = c.loop-walked.walk in
     let r = c.loop-walked.reading in
-    let t = term_of c.args.info.now c.args.rules.now in
+    let t = ruled_by c.args.info.now c.args.rules.now in
     let p = posted c.args.info.now c.args.rules.now value in
     let start = place_in c.args.prx.now c.args.at in
     let all = Stands-all (posted_by w) start w.passed r.force 0 r.cur i.stands (c.in_default.ensures.0 ∙ i.count) in
@@ -143,7 +143,7 @@ returns-clause-starts c = λ omit some.
     let i = c.loop-walked.invariant in
     let w = c.loop-walked.walk in
     let r = c.loop-walked.reading in
-    let t = term_of c.args.info.now c.args.rules.now in
+    let t = ruled_by c.args.info.now c.args.rules.now in
     let good = c.requires.good in
     let p = posted c.args.info.now c.args.rules.now good.value in
     let start = place_in c.args.prx.now c.args.at in
@@ -156,7 +156,7 @@ returns-clause-starts c = λ omit some.
 
 pub returns-then-rules-clause-stands : goal.returns-then-rules-clause-stands
 returns-then-rules-clause-stands c = λ some value behind h.
-    let t = term_of c.args.info.now c.args.rules.now in
+    let t = ruled_by c.args.info.now c.args.rules.now in
     let start = place_in c.args.prx.now t.info.prox in
     let p = posted c.args.info.now c.args.rules.now value in
     let read = omitted-read p start c.if-rules.true in (
@@ -177,7 +177,7 @@ returns-clause-stands c = λ some value behind h.
     let i = c.loop-walked.invariant in
     let w = c.loop-walked.walk in
     let r = c.loop-walked.reading in
-    let t = term_of c.args.info.now c.args.rules.now in
+    let t = ruled_by c.args.info.now c.args.rules.now in
     let p = posted c.args.info.now c.args.rules.now value in
     let prx = c.args.prx.now in
     let start = place_in prx c.args.at in

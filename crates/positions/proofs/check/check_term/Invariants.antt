@@ -1,13 +1,13 @@
 use Rattle.std.proofs.Common.{◌≡◌, ◌-◌, ◌≤◌, length}
 use Rattle.lu_grammar.specs.Bytes.{place_in}
-use Rattle.freq_skips.specs.Terms.{term_of}
+use Rattle.freq_skips.specs.Terms.{ruled_by}
 use Rattle.positions.specs.Standing.{StandsIn}
 use Rattle.positions.specs.Walked.{posted_by}
 use Rattle.positions.proofs.check.check_term.Given as goal
 
 abbrev pub invariant-loop-walked : goal.invariant-loop-walked
 invariant-loop-walked l = record {
-  term : l.walk.term ≡ term_of l.info l.rules;
+  term : l.walk.term ≡ ruled_by l.info l.rules;
   value : l.walk.value ≡ l.initial.walk.value;
   count : length l.walk.value.postings ≡ l.walk.term.info.doc_freq;
   within : l.walk.passed ≤ length l.walk.value.postings;

@@ -1,14 +1,14 @@
 use Rattle.std.proofs.Common.{ℕ, inl, refl, sym, subst, arith}
 use Rattle.freq_skips.specs.declared.rules.RuledTerm.{RuledTerm}
 use Rattle.freq_skips.specs.Points.{KnownTerm, IsPoint}
-use Rattle.freq_skips.specs.Terms.{term_of}
+use Rattle.freq_skips.specs.Terms.{ruled_by}
 use Rattle.positions.specs.Cursors.{IsPointIn}
 use Rattle.positions.proofs.KnownPlaces.{known_places}
 use Rattle.positions.proofs.tests.occurrences_from.Goals as goal
 
 pub at-skips-requires-clause-places : goal.at-skips-requires-clause-places
 at-skips-requires-clause-places c =
-    let t = term_of c.args.info.now c.args.rules.now in
+    let t = ruled_by c.args.info.now c.args.rules.now in
     let good = (c.in-Ok.ensures.good c.requires.some).1 in
     let stands = c.in-Ok-check_term.ensures.stands c.requires.some good.value good.end good.reads in
     let known = known_places t good.value c.args.prx.now stands.0 (λ i. (c.type_inv.prx i).fits) stands.1 (omega arith) c.requires.prx_small in
@@ -22,7 +22,7 @@ at-occurrences-requires c =
 
 pub jump-requires : goal.jump-requires
 jump-requires c =
-    let t = term_of c.args.info.now c.args.rules.now in
+    let t = ruled_by c.args.info.now c.args.rules.now in
     let good = (c.in-Ok.ensures.good c.requires.some).1 in
     let stands = c.in-Ok-check_term.ensures.stands c.requires.some good.value good.end good.reads in
     let o = c.at-occurrences.result in

@@ -1,14 +1,14 @@
 use Rattle.std.proofs.Common.{ap, sym, subst, arith}
 use Rattle.freq_skips.specs.ProxPlaces.{HasProxPlaces}
 use Rattle.freq_skips.specs.Points.{KnownTerm}
-use Rattle.freq_skips.specs.Terms.{TermData, term_of}
+use Rattle.freq_skips.specs.Terms.{TermData, ruled_by}
 use Rattle.freq_skips.specs.Walks.{start_in}
 use Rattle.freq_skips.proofs.WalkLemmas.{value_from-is}
 use Rattle.freq_skips.proofs.skips.Skips.at.Goals as goal
 
 pub invariant_of-result : goal.invariant_of-result
 invariant_of-result c =
-    let t = term_of c.args.info.now c.args.rules.now in
+    let t = ruled_by c.args.info.now c.args.rules.now in
     let frq = c.args.frq.now in
     let places = c.requires.places in
     record {
@@ -29,6 +29,6 @@ invariant_of-result c =
 
 pub returns : goal.returns
 returns c = λ value end h.
-    let t = term_of c.args.info.now c.args.rules.now in
+    let t = ruled_by c.args.info.now c.args.rules.now in
     let state : TermData → KnownTerm = λ v. record { term = t; value = v } in
     ap state (value_from-is t (start_in t c.args.frq.now) value end h)

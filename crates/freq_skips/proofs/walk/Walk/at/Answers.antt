@@ -1,7 +1,7 @@
 use Rattle.std.proofs.Common.{inl, refl, ap, sym, subst, ◌∙◌, arith}
 use Rattle.lu_grammar.specs.Bytes.{Cursor}
 use Rattle.freq_skips.specs.Entries.{IsBehindEntries}
-use Rattle.freq_skips.specs.Terms.{TermData, term_of}
+use Rattle.freq_skips.specs.Terms.{TermData, ruled_by}
 use Rattle.freq_skips.specs.Walks.{WalkState, start_in}
 use Rattle.freq_skips.proofs.EntryLemmas.{IsBehindEntries-none}
 use Rattle.freq_skips.proofs.TermLemmas.{TermParts-ReadsTo}
@@ -10,7 +10,7 @@ use Rattle.freq_skips.proofs.walk.Walk.at.Goals as goal
 
 pub invariant_of-result : goal.invariant_of-result
 invariant_of-result c =
-    let t = term_of c.args.info.now c.args.rules.now in
+    let t = ruled_by c.args.info.now c.args.rules.now in
     let frq = c.args.frq.now in
     let good = c.requires.good in
     let parts = TermParts-ReadsTo t (start_in t frq) good.value good.end good.reads in
@@ -35,6 +35,6 @@ invariant_of-result c =
 
 pub returns : goal.returns
 returns c = λ value end h.
-    let t = term_of c.args.info.now c.args.rules.now in
+    let t = ruled_by c.args.info.now c.args.rules.now in
     let state : TermData → WalkState = λ v. record { term = t; value = v; passed = 0 } in
     ap state (value_from-is t (start_in t c.args.frq.now) value end h)

@@ -5,6 +5,7 @@ pub mod EntryLemmas
 pub mod FaultLemmas
 pub mod FnmLemmas
 pub mod InvertedLemmas
+pub mod KeptColumnLemmas
 pub mod NormFileLemmas
 pub mod NormLemmas
 pub mod OccurrenceLemmas
@@ -14,6 +15,8 @@ pub mod PostedLemmas
 pub mod RunLemmas
 pub mod SoundColumns
 pub mod StoreLemmas
+pub mod TermFileLemmas
 pub mod TextLemmas
 pub mod TokenLemmas
+pub mod UnwrittenLemmas
 pub mod UsesLemmas

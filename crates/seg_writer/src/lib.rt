@@ -2,6 +2,7 @@
 //! their indexed fields are gathered in columns, and the terms of a column are written.
 #![tactic(auto)]
 
+mod all_terms;
 mod columns;
 mod documents;
 mod fault;

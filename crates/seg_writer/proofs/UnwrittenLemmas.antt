@@ -87,7 +87,7 @@ positions-unwritten i docs lacks =
     let table = table_of docs in
     let keys = flat_map (λ (content : Content). content.terms) (map content_of docs) in
     parts-unwritten i (kept_terms table (map (indexed_term table (map content_of docs)) (in_order term_cmp keys))) no_parts refl (terms-unwritten table docs (in_order term_cmp keys) (λ t k.
-        let content = from_flat_map (λ (x : Content). x.terms) t (map content_of docs) (from_in_order term_cmp term_order t keys k) in
-        let doc = from_map content_of content.0 docs content.1 in
-        let s = stands_in doc.0 t (subst (λ (w : Content). IsIn t w.terms) doc.2 content.2) in
-        subst (λ name. has_bit bit.omit_tf (bits_of name table) ≡ true) (sym s.name) (documents-omit docs doc.0 s.field lacks doc.1 s.inside)))
+    let content = from_flat_map (λ (x : Content). x.terms) t (map content_of docs) (from_in_order term_cmp term_order t keys k) in
+    let doc = from_map content_of content.0 docs content.1 in
+    let s = stands_in doc.0 t (subst (λ (w : Content). IsIn t w.terms) doc.2 content.2) in
+    subst (λ name. has_bit bit.omit_tf (bits_of name table) ≡ true) (sym s.name) (documents-omit docs doc.0 s.field lacks doc.1 s.inside)))

@@ -35,7 +35,11 @@ fn kept_column<'a>(number: usize, field: Field<'a>, column: &'a [Appearance<'a>]
         omit_tf: has_bit(OMIT_TF, field.bits),
         payloads: has_bit(PAYLOADS, field.bits),
     };
-    KeptColumn { name: field.name, kept, column }
+    KeptColumn {
+        name: field.name,
+        kept,
+        column,
+    }
 }
 
 // The columns of the fields of a table, by number.

@@ -10,6 +10,7 @@ mod fields;
 mod inverted;
 pub mod laws;
 mod norms;
+mod packing;
 mod stored;
 mod table;
 mod terms;

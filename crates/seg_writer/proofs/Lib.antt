@@ -10,6 +10,7 @@ pub mod NormFileLemmas
 pub mod NormLemmas
 pub mod OccurrenceLemmas
 pub mod OrderLemmas
+pub mod PackingLemmas
 pub mod PartlyLemmas
 pub mod PostedLemmas
 pub mod RunLemmas

@@ -1,8 +1,9 @@
 -- The parts of a segment that were written, in the order in which files are checked.
-use Rattle.std.specs.Prelude.{Bool, cond, List, [], ◌∷◌, ◌++◌, Option, None, Some, option_map}
+use Rattle.std.specs.Prelude.{◌≡◌, Bool, cond, List, [], ◌∷◌, ◌++◌, Option, None, Some, option_map}
 use Rattle.lu_types.specs.declared.kind.FileKind.TheVariants.{Tis, Tii, Frq, Prx, Tvx, Tvd, Tvf}
 use Rattle.lu_types.specs.declared.named_file.NamedFile.{NamedFile}
 use Rattle.check_index.specs.Files.{PartFiles}
+use Rattle.segment_files.specs.Written.{checked_in_order}
 use Rattle.posting_files.specs.States.{named}
 use Rattle.posting_files.specs.declared.writer.PostingFiles.{PostingFiles}
 use Rattle.term_vectors.specs.declared.writer.VectorFiles.{VectorFiles}
@@ -35,3 +36,7 @@ part_files p = record {
     tvf = option_map (λ (v : VectorFiles). v.tvf) p.vectors;
   };
 }
+
+-- these are the parts of a segment in the order in which they are checked
+abbrev pub AreChecked : List NamedFile → Type 0
+AreChecked files = (parts : PartFiles) × (files ≡ checked_in_order parts)

@@ -1,5 +1,5 @@
 -- The columns of the fields of a table with what is kept of their terms, in the order of names.
-use Rattle.std.proofs.Common.{◌≡◌, ◌≢◌, refl, ap, sym, ◌∙◌, subst, ℕ, suc, ◌+◌, ◌<◌, ◌≤◌, ◌^◌, ◌++◌, List, [], ◌∷◌, length, map, take, get_or, Bool, true, false, Option, None, Some, All, AllPairs, Contains, IsUtf8, IsPermutation, IsSortedByKey, is_lt, inl, inr, arith}
+use Rattle.std.proofs.Common.{◌≡◌, ◌≢◌, refl, ap, sym, ◌∙◌, subst, ℕ, ◌+◌, ◌<◌, ◌≤◌, ◌^◌, ◌++◌, List, [], ◌∷◌, length, map, take, get_or, false, Option, None, Some, All, AllPairs, Contains, IsUtf8, IsPermutation, IsSortedByKey, inl, inr, arith}
 use Rattle.std.specs.Prelude.{IsSome, slice_get}
 use Rattle.std.proofs.lemmas.Option.{slice_get-get_or}
 use Rattle.std.specs.Global.{Global}
@@ -10,7 +10,7 @@ use Rattle.std.specs.Cmp.Lexicographic.{bytes_decides}
 use Rattle.std.specs.declared.cmp.Ordering.TheVariants.{Less}
 use Rattle.std.specs.declared.vec.Vec.{Vec}
 use Rattle.std.proofs.lemmas.Bool.{false≢true}
-use Rattle.std.proofs.lemmas.List.{get_or-map, length-map, get_or_default, map-append, take_more}
+use Rattle.std.proofs.lemmas.List.{get_or-map, length-map, map-append, take_more}
 use Rattle.std.proofs.lemmas.List.Elements.{All-push}
 use Rattle.std.proofs.lemmas.List.Quantifiers.{position-Some}
 use Rattle.std.proofs.lemmas.List.Sums.{position_or_len_is}
@@ -22,7 +22,6 @@ use Rattle.lu_prims.specs.Order.{text_cmp}
 use Rattle.lu_prims.proofs.Units.{text_order}
 use Rattle.lu_types.specs.Tables.{TableField, number_of}
 use Rattle.lu_types.specs.declared.document.Document.{Document}
-use Rattle.lu_types.specs.declared.document.IndexedField.{IndexedField}
 use Rattle.lu_model.specs.Contents.{field_at, field_number, name_of, under}
 use Rattle.lu_model.proofs.Words.{IsIn}
 use Rattle.lu_model.proofs.Among.{from_map, in-from_contains}

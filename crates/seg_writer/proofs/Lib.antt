@@ -16,6 +16,7 @@ pub mod PostedLemmas
 pub mod RunLemmas
 pub mod SoundColumns
 pub mod StoreLemmas
+pub mod TableLemmas
 pub mod TermFileLemmas
 pub mod TextLemmas
 pub mod TokenLemmas

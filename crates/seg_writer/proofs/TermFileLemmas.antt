@@ -1,6 +1,5 @@
 -- The files of all terms are written, or the first of them that passes the limit is told.
-use Rattle.std.proofs.Common.{◌≡◌, ap, sym, ◌∙◌, subst, ℕ, ◌<◌, ◌++◌, List, [], ◌∷◌, length, cond, Some, Result, Ok, Err}
-use Rattle.std.specs.List.{flat_map}
+use Rattle.std.proofs.Common.{◌≡◌, ap, sym, ◌∙◌, subst, ℕ, List, [], ◌∷◌, length, cond, Some, Ok, Err}
 use Rattle.std.proofs.lemmas.Bool.{lt-ltb}
 use Rattle.lu_types.specs.declared.named_file.NamedFile.{NamedFile}
 use Rattle.lu_types.specs.declared.kind.FileKind.TheVariants.{Prx, Frq, Tis, Tii}

@@ -11,7 +11,7 @@ use Rattle.lu_types.specs.Tables.{TableField, bits_at}
 use Rattle.lu_types.specs.declared.document.Document.{Document}
 use Rattle.lu_types.specs.declared.document.IndexedField.{IndexedField}
 use Rattle.lu_model.specs.Index.{IndexedEntry, KeptOccurrences, Term, in_order, omitted, term_cmp}
-use Rattle.lu_model.specs.Contents.{Content, bits_of, content_of, field_number, index_of, index_of_documents, indexed_term, kept, under}
+use Rattle.lu_model.specs.Contents.{Content, bits_of, content_of, field_number, index_of, index_of_documents, indexed_term, kept}
 use Rattle.lu_model.proofs.Words.{Each, IsIn, entry_of}
 use Rattle.lu_model.proofs.Alike.{term_order}
 use Rattle.lu_model.proofs.Among.{from_flat_map, from_map, in_flat_map, in_map, in_right}

@@ -1,5 +1,5 @@
 -- The parts of a segment that were written, in the order in which files are checked.
-use Rattle.std.specs.Prelude.{◌≡◌, Bool, cond, List, [], ◌∷◌, ◌++◌, Option, None, Some, option_map}
+use Rattle.std.specs.Prelude.{◌≡◌, Bool, cond, List, [], ◌∷◌, None, Some, option_map}
 use Rattle.lu_types.specs.declared.kind.FileKind.TheVariants.{Tis, Tii, Frq, Prx, Tvx, Tvd, Tvf}
 use Rattle.lu_types.specs.declared.named_file.NamedFile.{NamedFile}
 use Rattle.check_index.specs.Files.{PartFiles}

@@ -1,5 +1,5 @@
 //! A segment written from documents, piece by piece: documents are judged; their field table, stored values and norms are written;
-//! their indexed fields are gathered in columns, and the terms of a column are written.
+//! their indexed fields are gathered in columns, and the terms of all columns are written; the parts are packed where that is asked for.
 #![tactic(auto)]
 
 mod all_terms;

@@ -1,4 +1,4 @@
-use Rattle.std.proofs.Common.{◌≡◌, List, map, take}
+use Rattle.std.proofs.Common.{◌≡◌, map, take}
 use Rattle.lu_types.specs.Tables.{TableField}
 use Rattle.seg_writer.specs.declared.terms.KeptColumn.{KeptColumn}
 use Rattle.seg_writer.specs.Orders.{AreKeptColumns}

@@ -1,5 +1,4 @@
-use Rattle.seg_writer.proofs.PackingLemmas.{checked-apart, checked-parts, packed-past, packed-within}
-use Rattle.std.proofs.Common.{◌∙◌}
+use Rattle.seg_writer.proofs.PackingLemmas.{checked-apart, checked-parts}
 use Rattle.seg_writer.proofs.packing.packed_bytes.Goals as goal
 
 pub pack-requires-clause-parts : goal.pack-requires-clause-parts

@@ -50,7 +50,7 @@ own-name table field k found =
 same-number : (table : List TableField) (field : IndexedField) (n : ℕ) → AreFirst table → n < length table → is_field_named (name_of table n) field ≡ true → number_of field.field table ≡ Some n
 same-number table field n first lt named = ap (λ name. number_of name table) (sym ((bytes_decides (name_of table n) field.field).0 named)) ∙ first n lt
 
-the-same : (m n : ℕ) → Some m ≡ Some n → m ≡ n
+pub the-same : (m n : ℕ) → Some m ≡ Some n → m ≡ n
 the-same m n e = ap (value 0) e
   where
     value : ℕ → Option ℕ → ℕ

@@ -39,7 +39,7 @@ key_eq x y = bytes_eq x.now y.now
 bytes_refl : (s : List ℕ) → bytes_eq s s ≡ true
 bytes_refl s = (bytes_eq-Decides s s).1 refl
 
-bytes_symm : (s t : List ℕ) → bytes_eq s t ≡ bytes_eq t s
+pub bytes_symm : (s t : List ℕ) → bytes_eq s t ≡ bytes_eq t s
 bytes_symm s t = same_from_decides (bytes_eq s t) (bytes_eq t s) (bytes_eq-Decides s t) (λ e. sym ((bytes_eq-Decides t s).0 e), λ e. (bytes_eq-Decides t s).1 (sym e))
 
 key_laws : IsEquivalence key_eq
@@ -56,7 +56,7 @@ above Equal h k = absurd (k refl)
 above Greater h k = refl
 
 -- texts_in that are sorted and differ rise
-rise_next : (s t : List ℕ) → IsUtf8 s → IsUtf8 t → is_lt (text_cmp t s) ≡ false → bytes_eq s t ≡ false → text_cmp s t ≡ Less
+pub rise_next : (s t : List ℕ) → IsUtf8 s → IsUtf8 t → is_lt (text_cmp t s) ≡ false → bytes_eq s t ≡ false → text_cmp s t ≡ Less
 rise_next s t us ut sorted apart =
     text_order.antisymm s t ∙ ap ordering_reverse (above (text_cmp t s) sorted (λ e. false≢true (sym apart ∙ (bytes_eq-Decides s t).1 (sym (level_same t s ut us e)))))
 

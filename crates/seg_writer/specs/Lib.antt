@@ -5,6 +5,7 @@ pub mod Entries
 pub mod Groups
 pub mod NormColumns
 pub mod Orders
+pub mod PartsGathered
 pub mod Stores
 pub mod Terms
 pub mod Texts

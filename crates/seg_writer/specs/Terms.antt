@@ -19,9 +19,13 @@ term_in kept column text = record {
   term = record { field = kept.field; text = text; entries = entries_of_text kept.omit_tf text column };
 }
 
--- what is kept of the terms of the field with a name
+-- what is kept of the terms of the field with a number and bits
+abbrev pub kept_at : ℕ → ℕ → Kept
+kept_at number bits = record { field = number; omit_tf = has_bit bit.omit_tf bits; payloads = has_bit bit.payloads bits }
+
+-- what is kept of those of the field with a name
 abbrev pub kept_in : List TableField → List ℕ → Kept
-kept_in table name = record { field = field_number name table; omit_tf = has_bit bit.omit_tf (bits_of name table); payloads = has_bit bit.payloads (bits_of name table) }
+kept_in table name = kept_at (field_number name table) (bits_of name table)
 
 -- those of texts
 abbrev pub terms_in_columns : Kept → List Appearance → List (List ℕ) → List KeptTerm

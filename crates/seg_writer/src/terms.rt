@@ -99,9 +99,10 @@ pub(crate) fn write_column(
     write_inverted(writer, kept, column, terms.as_slice())
 }
 
-/// The column of a field, with what is kept of its terms.
+/// The column of a field, with the field's name and what is kept of its terms.
 #[derive(Clone, Copy, Debug)]
 pub(crate) struct KeptColumn<'a> {
+    pub(crate) name: &'a str,
     pub(crate) kept: Kept,
     pub(crate) column: &'a [Appearance<'a>],
 }

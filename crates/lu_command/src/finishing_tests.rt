@@ -1,3 +1,6 @@
+ghost use Rattle.std.specs.Prelude.{IfOk};
+ghost use Rattle.lu_command.specs.Outcomes.{IsAnswer};
+
 use crate::check_tests::NONE;
 use crate::finishing::finish;
 use crate::tests::words_of;
@@ -23,7 +26,9 @@ fn folder(alloc: Global) -> Result<MemDir, Fail> {
 }
 
 // The outcome of a commit of generation 2, which leaves that file without use.
-fn outcome(alloc: Global) -> Result<Outcome, Fail> {
+fn outcome(alloc: Global) -> Result<Outcome, Fail>
+    ensures { IfOk result (λ outcome. IsAnswer outcome.status) }
+{
     let mut removable = Vec::new(alloc);
     removable.push(String::from_str(alloc, "_9.fdx")?)?;
     let change = Change::new(alloc, Vec::new(alloc), 2, read(alloc, NONE)?, removable)?;

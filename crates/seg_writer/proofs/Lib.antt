@@ -12,8 +12,12 @@ pub mod OccurrenceLemmas
 pub mod OrderLemmas
 pub mod PackingLemmas
 pub mod PartlyLemmas
+pub mod PastLemmas
 pub mod PostedLemmas
 pub mod RunLemmas
+pub mod SegmentDocumentLemmas
+pub mod SegmentLemmas
+pub mod SegmentPartLemmas
 pub mod SoundColumns
 pub mod StoreLemmas
 pub mod TableLemmas
@@ -22,3 +26,9 @@ pub mod TextLemmas
 pub mod TokenLemmas
 pub mod UnwrittenLemmas
 pub mod UsesLemmas
+pub mod VectorFieldLemmas
+pub mod VectorFileLemmas
+pub mod VectorHeldLemmas
+pub mod VectorLoopLemmas
+pub mod VectorStepLemmas
+pub mod VectorTermLemmas

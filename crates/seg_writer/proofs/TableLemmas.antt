@@ -36,7 +36,7 @@ some-more : (o : Option ℕ) → is_some o ≡ true → is_some (option_map suc 
 some-more None some = some
 some-more (Some n) some = refl
 
-numbered : (name : List ℕ) (table : List TableField) (f : TableField) → find (λ (g : TableField). bytes_eq name g.name) table ≡ Some f → is_some (number_of name table) ≡ true
+pub numbered : (name : List ℕ) (table : List TableField) (f : TableField) → find (λ (g : TableField). bytes_eq name g.name) table ≡ Some f → is_some (number_of name table) ≡ true
 numbered name [] f e = cc
 numbered name (g ∷ table) f e =
     elim (bytes_eq name g.name) as (λ b. bytes_eq name g.name ≡ b → cond b (Some g) (find (λ (x : TableField). bytes_eq name x.name) table) ≡ Some f → is_some (number_of name (g ∷ table)) ≡ true) [

@@ -6,6 +6,9 @@ pub mod Groups
 pub mod NormColumns
 pub mod Orders
 pub mod PartsGathered
+pub mod SegmentSteps
 pub mod Stores
 pub mod Terms
 pub mod Texts
+pub mod VectorSteps
+pub mod VectorsDue

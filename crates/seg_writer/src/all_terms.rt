@@ -24,7 +24,11 @@ use segment_files::WriteOptions;
 use std::alloc::Global;
 
 // The column of the field with a number.
-fn kept_column<'a>(number: usize, field: Field<'a>, column: &'a [Appearance<'a>]) -> KeptColumn<'a>
+fn kept_column<'c, 'd>(
+    number: usize,
+    field: Field<'d>,
+    column: &'c [Appearance<'d>],
+) -> KeptColumn<'c, 'd>
     requires { number < 2 ^ 31 }
     ensures column { named_column result ≡ record { name = (table_field field.entry).name; column = column.entry.now } }
     ensures kept { result.kept ≡ kept_at number (table_field field.entry).bits }
@@ -43,11 +47,11 @@ fn kept_column<'a>(number: usize, field: Field<'a>, column: &'a [Appearance<'a>]
 }
 
 // The columns of the fields of a table, by number.
-fn kept_columns<'a>(
+fn kept_columns<'c, 'd>(
     alloc: Global,
-    table: &JoinedTable<'a>,
-    columns: &'a [Vec<Appearance<'a>>],
-) -> Result<Vec<KeptColumn<'a>>, OutOfMemory>
+    table: &JoinedTable<'d>,
+    columns: &'c [Vec<Appearance<'d>>],
+) -> Result<Vec<KeptColumn<'c, 'd>>, OutOfMemory>
     requires few { length table.now < 2 ^ 31 }
     requires first { AreFirst table.now }
     requires count { length columns.now ≡ length table.now }
@@ -68,7 +72,7 @@ fn kept_columns<'a>(
 }
 
 // Sorts columns by the names of their fields, in UTF-16 order.
-fn sort_columns(kept: &mut Vec<KeptColumn<'_>>)
+fn sort_columns(kept: &mut Vec<KeptColumn<'_, '_>>)
     ensures permutation { IsPermutation kept.old.items kept.new.items }
     ensures sorted { IsSortedByKey (λ (c : KeptColumn). c.name.now) text_cmp kept.new.items }
 {
@@ -76,11 +80,11 @@ fn sort_columns(kept: &mut Vec<KeptColumn<'_>>)
 }
 
 // The columns of the fields of a table, in the order of their names.
-fn columns_in_order<'a>(
+fn columns_in_order<'c, 'd>(
     alloc: Global,
-    table: &JoinedTable<'a>,
-    columns: &'a [Vec<Appearance<'a>>],
-) -> Result<Vec<KeptColumn<'a>>, OutOfMemory>
+    table: &JoinedTable<'d>,
+    columns: &'c [Vec<Appearance<'d>>],
+) -> Result<Vec<KeptColumn<'c, 'd>>, OutOfMemory>
     requires few { length table.now < 2 ^ 31 }
     requires first { AreFirst table.now }
     requires count { length columns.now ≡ length table.now }
@@ -95,11 +99,11 @@ fn columns_in_order<'a>(
 
 /// The files of the terms of all columns, which are those of the fields of the table by number; or which of them is the first that
 /// passes the limit.
-pub(crate) fn write_terms<'a>(
+pub(crate) fn write_terms<'d>(
     alloc: Global,
     options: &WriteOptions,
-    table: &JoinedTable<'a>,
-    columns: &'a [Vec<Appearance<'a>>],
+    table: &JoinedTable<'d>,
+    columns: &[Vec<Appearance<'d>>],
 ) -> Result<PostingFiles, WriteFault>
     requires few { length table.now < 2 ^ 31 }
     requires first { AreFirst table.now }

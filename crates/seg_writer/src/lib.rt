@@ -1,4 +1,4 @@
-//! A segment written from documents, piece by piece: documents are judged; their field table, stored values and norms are written;
+//! A segment written from documents: they are judged; their field table, stored values, terms, norms and vectors are written;
 //! their indexed fields are gathered in columns, and the terms of all columns are written; the parts are packed where that is asked for.
 #![tactic(auto)]
 
@@ -11,10 +11,16 @@ mod inverted;
 pub mod laws;
 mod norms;
 mod packing;
+mod segment;
 mod stored;
 mod table;
 mod terms;
 mod uses;
+mod vectors;
 
 pub use fault::WriteFault;
+pub use segment::write_segment;
 pub use segment_files::{SegmentFiles, WriteOptions};
+
+#[cfg(test)]
+mod tests;

@@ -101,17 +101,17 @@ pub(crate) fn write_column(
 
 /// The column of a field, with the field's name and what is kept of its terms.
 #[derive(Clone, Copy, Debug)]
-pub(crate) struct KeptColumn<'a> {
-    pub(crate) name: &'a str,
+pub(crate) struct KeptColumn<'c, 'd> {
+    pub(crate) name: &'d str,
     pub(crate) kept: Kept,
-    pub(crate) column: &'a [Appearance<'a>],
+    pub(crate) column: &'c [Appearance<'d>],
 }
 
 /// Writes the terms of columns in turn, those of each as `write_column` does.
 pub(crate) fn write_columns(
     alloc: Global,
     writer: &mut PostingWriter,
-    columns: &[KeptColumn<'_>],
+    columns: &[KeptColumn<'_, '_>],
 ) -> Result<(), WriteFault>
     requires columns { All (λ c. IsColumn c.column.now × (c.kept.field < 2 ^ 31)) columns.now }
     requires between { IsBetweenTerms writer.old }

@@ -1,5 +1,5 @@
 -- Answers of calls that finish an outcome.
-use Rattle.std.proofs.Common.{◌≡◌, ◌≢◌, ℕ, List, Option, Some, None, Result, Ok, OnOk, refl, sym, subst, ◌∙◌, ap, inl, inr}
+use Rattle.std.proofs.Common.{◌≡◌, ◌≢◌, ◌⊎◌, ℕ, List, Option, Some, None, Result, Ok, OnOk, refl, sym, subst, ◌∙◌, ap, inl, inr}
 use Rattle.std.specs.Option.{option_map}
 use Rattle.lu_dir.specs.Files.{Files}
 use Rattle.lu_dir.specs.declared.fail.DirFail.{DirFail}
@@ -79,9 +79,31 @@ module _ (P Q : Outcome → Type 0) (wider : (outcome : Outcome) → P outcome �
   Answers-wider before after answer (stopped outcome due left is same) = stopped outcome (wider outcome due) left is same
   Answers-wider before after answer (nothing is files taken) = nothing is files taken
 
+given_up-not_ok : (answer : Status) → IsGivenUp answer ⊎ (answer ≡ statuses.Device things.Source) → answer ≡ statuses.Ok → ⊥
+given_up-not_ok answer (inl (inl dir)) ok = let no : statuses.Device things.Dir ≡ statuses.Ok = sym dir ∙ ok in cc
+given_up-not_ok answer (inl (inr memory)) ok = let no : statuses.NoMemory ≡ statuses.Ok = sym memory ∙ ok in cc
+given_up-not_ok answer (inr source) ok = let no : statuses.Device things.Source ≡ statuses.Ok = sym source ∙ ok in cc
+
+Ends-ok : (outcome : Outcome) (Failed : Type 0) (old new : Option Files) (status : Status) (text : List ℕ) → Ends outcome Failed old new status text → status ≡ statuses.Ok → outcome.status ≡ statuses.Ok
+Ends-ok outcome Failed old new status text (done is same made) ok = sym is ∙ ok
+Ends-ok outcome Failed old new status text (behind is same left rose) ok = let no : statuses.LeftBehind ≡ statuses.Ok = sym is ∙ ok in absurd (cc)
+
+-- a call that answers `Ok` by one outcome answers what this says
+pub Answers-ok : (one : Outcome) (Failed : Type 0) (before after : Scene) (answer : Status) → Answers (λ due. due ≡ one) Failed before after answer → answer ≡ statuses.Ok → one.status ≡ statuses.Ok
+Answers-ok one Failed before after answer (told outcome text due ends took) ok = ap (λ (o : Outcome). o.status) (sym due) ∙ Ends-ok outcome Failed before.files after.files answer text ends ok
+Answers-ok one Failed before after answer (output_failed outcome status text count due ends is less took) ok = let no : statuses.Device things.Sink ≡ statuses.Ok = sym is ∙ ok in absurd (cc)
+Answers-ok one Failed before after answer (printing_ended outcome status text count due ends is took) ok = let no : statuses.NoMemory ≡ statuses.Ok = sym is ∙ ok in absurd (cc)
+Answers-ok one Failed before after answer (removing_ended outcome due left is same) ok = let no : statuses.NoMemory ≡ statuses.Ok = sym is ∙ ok in absurd (cc)
+Answers-ok one Failed before after answer (stopped outcome due left is same) ok = absurd (given_up-not_ok answer (inl is) ok)
+Answers-ok one Failed before after answer (nothing is files taken) ok = absurd (given_up-not_ok answer is ok)
+
 given_up : (answer : Status) → IsGivenUp answer → GaveUp answer
 given_up answer (inl dir) = inr (inl dir)
 given_up answer (inr memory) = inl memory
+
+given_up-before : (answer : Status) → IsGivenUp answer ⊎ (answer ≡ statuses.Device things.Source) → GaveUp answer
+given_up-before answer (inl is) = given_up answer is
+given_up-before answer (inr source) = inr (inr (inl source))
 
 -- the answer and the text of an outcome that ended are its own
 pub Ends-answer : (outcome : Outcome) (Failed : Type 0) (old new : Option Files) (status : Status) (text : List ℕ) → Ends outcome Failed old new status text → IsAnswerOf outcome status × IsTextOf outcome text
@@ -91,11 +113,11 @@ Ends-answer outcome Failed old new status text (behind is same left rose) = let 
 -- an answer is that of an outcome that is due, or the call gave up
 pub IsAnswered-answers : (IsDue : Outcome → Type 0) (Failed : Type 0) (before after : Scene) (answer : Status) → Answers IsDue Failed before after answer → IsAnswered IsDue answer
 IsAnswered-answers IsDue Failed before after answer (told outcome text due ends took) = inl (outcome, due, (Ends-answer outcome Failed before.files after.files answer text ends).0)
-IsAnswered-answers IsDue Failed before after answer (output_failed outcome status text count due ends is less took) = inr (inr (inr is))
+IsAnswered-answers IsDue Failed before after answer (output_failed outcome status text count due ends is less took) = inr (inr (inr (inr is)))
 IsAnswered-answers IsDue Failed before after answer (printing_ended outcome status text count due ends is took) = inr (inl is)
 IsAnswered-answers IsDue Failed before after answer (removing_ended outcome due left is same) = inr (inl is)
 IsAnswered-answers IsDue Failed before after answer (stopped outcome due left is same) = inr (given_up answer is)
-IsAnswered-answers IsDue Failed before after answer (nothing is files taken) = inr (given_up answer is)
+IsAnswered-answers IsDue Failed before after answer (nothing is files taken) = inr (given_up-before answer is)
 
 -- an outcome without an effect that ended leaves the folder as before
 Ends-same : (outcome : Outcome) (Failed : Type 0) (old new : Option Files) (status : Status) (text : List ℕ) → outcome.effect ≡ Nothing → Ends outcome Failed old new status text → new ≡ old

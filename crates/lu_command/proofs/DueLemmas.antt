@@ -1,5 +1,5 @@
 -- The outcome that is due is one and proper, and it is answered where nothing failed.
-use Rattle.std.proofs.Common.{◌≡◌, ℕ, false, List, [], ◌∷◌, map, All, cond, Option, Some, None, refl, sym, subst, ap, ◌∙◌, inl, inr, ◌⊎◌, arith}
+use Rattle.std.proofs.Common.{◌≡◌, ℕ, Bool, false, List, [], ◌∷◌, map, All, cond, Option, Some, None, IsSome, refl, sym, subst, ap, ◌∙◌, inl, inr, ◌⊎◌, arith}
 use Rattle.std.proofs.lemmas.List.Elements.{All-head, All-tail}
 use Rattle.lu_dir.specs.Files.{Files, contents}
 use Rattle.lu_dir.specs.Loading.{IsLoadable, is_over}
@@ -7,18 +7,21 @@ use Rattle.lu_types.specs.Names.{part_name}
 use Rattle.lu_types.specs.declared.kind.FileKind.{FileKind}
 use Rattle.lu_command.specs.declared.status.Status.{Status}
 use Rattle.lu_command.specs.declared.outcome.Outcome.{Outcome}
-use Rattle.lu_command.specs.Commands.{Meaning, docs, fields, check}
+use Rattle.lu_command.specs.Commands.{Meaning, docs, fields, check, build}
 use Rattle.lu_folder.specs.Limits.{file_limit}
 use Rattle.check_index.specs.Files.{file_at}
 use Rattle.lu_command.specs.Files.{first_too_long, part_names, AreFound}
 use Rattle.lu_command.specs.Needs.{fields_kinds, docs_kinds, table_files, document_files}
 use Rattle.lu_command.specs.Texts.{field_lines, doc_lines}
 use Rattle.lu_command.specs.Outcomes.{too_large_outcome, IsProper, IsAnswerOf}
+use Rattle.lu_command.specs.Building.{BuildDue}
 use Rattle.lu_command.specs.Due.{FieldsSay, DocsSay, FilesDue, MeaningDue, Due}
 use Rattle.lu_command.specs.Answers.{Scene, Answers}
-use Rattle.lu_command.specs.Asking.{GaveUp, IsAnswered, Completes}
+use Rattle.lu_command.specs.Asking.{GaveUp, IsAnswered, Completes, ReadsInput, MakesCommit, AskFor}
 use Rattle.lu_command.proofs.AnswerLemmas.{IsAnswered-answers}
-use Rattle.lu_command.proofs.MeaningLemmas.{only_meaning}
+use Rattle.lu_command.proofs.MeaningLemmas.{only_meaning, asks-not}
+use Rattle.lu_command.proofs.BuildOne.{build-one}
+use Rattle.lu_command.proofs.BuildProper.{build-proper}
 use Rattle.lu_command.proofs.FilesSayLemmas.{FieldsSay-one, DocsSay-one}
 use Rattle.lu_command.proofs.CheckLemmas.{CheckDue-one, CheckDue-idle}
 use Rattle.lu_command.proofs.IdleLemmas.{IsIdle, idle-proper, idle-without_effect, FilesSay-idle}
@@ -57,21 +60,29 @@ FilesDue-one told segment kinds Say one other alone (inr a) (inr b) =
     let same : b.0 ≡ a.0 = b.1.told told refl ∙ sym (a.1.told told refl) in
     alone a.0 a.1.each a.2 (subst (λ (found : List (Option (List ℕ))). Say found other) same b.2)
 
-module _ (files : Files) where
-  -- the outcome of a meaning that is due is one
-  MeaningDue-one : (meaning another : Meaning) → meaning ≡ another → (one other : Outcome) → MeaningDue meaning (Some files) one → MeaningDue another (Some files) other → one ≡ other
-  MeaningDue-one (docs dir segment) another same one other first second =
-      FilesDue-one files segment docs_kinds (DocsSay segment) one other (λ found. DocsSay-one segment found one other) first (subst (λ m. MeaningDue m (Some files) other) (sym same) second)
-  MeaningDue-one (fields dir segment) another same one other first second =
-      FilesDue-one files segment fields_kinds (FieldsSay segment) one other (λ found. FieldsSay-one segment found one other) first (subst (λ m. MeaningDue m (Some files) other) (sym same) second)
-  MeaningDue-one (check dir) another same one other first second = CheckDue-one files one other first (subst (λ m. MeaningDue m (Some files) other) (sym same) second)
+-- the outcome of `build` that is due is one, where the input tells what it holds
+BuildDue-one : (files : Files) (compound : Bool) (input : Option (List ℕ)) → IsSome input → (one other : Outcome) → BuildDue compound (Some files) input one → BuildDue compound (Some files) input other → one ≡ other
+BuildDue-one files compound (Some left) tells one other first second = build-one files left compound one other first second
+BuildDue-one files compound None tells one other first second = absurd (cc)
 
-  -- the outcome that is due is one
-  pub Due-one : (words : List (List ℕ)) (one other : Outcome) → Due words (Some files) one → Due words (Some files) other → one ≡ other
-  Due-one words one other (inl a) (inl b) = a.1 ∙ sym b.1
-  Due-one words one other (inl a) (inr b) = absurd (a.0 b.0 b.1)
-  Due-one words one other (inr a) (inl b) = absurd (b.0 a.0 a.1)
-  Due-one words one other (inr a) (inr b) = MeaningDue-one a.0 b.0 (only_meaning words a.0 b.0 a.1 b.1) one other a.2 b.2
+module _ (files : Files) (input : Option (List ℕ)) where
+  -- the outcome of a meaning that is due is one, where the input tells what it holds if it is read
+  MeaningDue-one : (meaning another : Meaning) → meaning ≡ another → (ReadsInput meaning → IsSome input) → (one other : Outcome)
+      → MeaningDue meaning (Some files) input one → MeaningDue another (Some files) input other → one ≡ other
+  MeaningDue-one (docs dir segment) another same tells one other first second =
+      FilesDue-one files segment docs_kinds (DocsSay segment) one other (λ found. DocsSay-one segment found one other) first (subst (λ m. MeaningDue m (Some files) input other) (sym same) second)
+  MeaningDue-one (fields dir segment) another same tells one other first second =
+      FilesDue-one files segment fields_kinds (FieldsSay segment) one other (λ found. FieldsSay-one segment found one other) first (subst (λ m. MeaningDue m (Some files) input other) (sym same) second)
+  MeaningDue-one (check dir) another same tells one other first second = CheckDue-one files one other first (subst (λ m. MeaningDue m (Some files) input other) (sym same) second)
+  MeaningDue-one (build dir compound) another same tells one other first second =
+      BuildDue-one files compound input (tells tt) one other first (subst (λ m. MeaningDue m (Some files) input other) (sym same) second)
+
+  -- the outcome that is due is one, where the input tells what it holds if the words ask for reading it
+  pub Due-one : (words : List (List ℕ)) → (AskFor ReadsInput words → IsSome input) → (one other : Outcome) → Due words (Some files) input one → Due words (Some files) input other → one ≡ other
+  Due-one words tells one other (inl a) (inl b) = a.1 ∙ sym b.1
+  Due-one words tells one other (inl a) (inr b) = absurd (a.0 b.0 b.1)
+  Due-one words tells one other (inr a) (inl b) = absurd (b.0 a.0 a.1)
+  Due-one words tells one other (inr a) (inr b) = MeaningDue-one a.0 b.0 (only_meaning words a.0 b.0 a.1 b.1) (λ reads. tells (a.0, a.1, reads)) one other a.2 b.2
 
 -- what is due of files changes nothing
 FilesDue-idle : (segment : List ℕ) (kinds : List FileKind) (Say : List (Option (List ℕ)) → Outcome → Type 0) (files : Option Files) (outcome : Outcome) → ((found : List (Option (List ℕ))) → Say found outcome → IsIdle outcome)
@@ -79,26 +90,37 @@ FilesDue-idle : (segment : List ℕ) (kinds : List FileKind) (Say : List (Option
 FilesDue-idle segment kinds Say files outcome idle (inl a) = subst IsIdle (sym a.2) (idle-without_effect _ _ tt)
 FilesDue-idle segment kinds Say files outcome idle (inr a) = idle a.0 a.2
 
--- nor does what is due of a meaning
-pub MeaningDue-idle : (meaning : Meaning) (files : Option Files) (outcome : Outcome) → MeaningDue meaning files outcome → IsIdle outcome
-MeaningDue-idle (fields dir segment) files outcome due = FilesDue-idle segment fields_kinds (FieldsSay segment) files outcome (λ found. FilesSay-idle segment (table_files (file_at found 0)) (field_lines 0) outcome) due
-MeaningDue-idle (docs dir segment) files outcome due = FilesDue-idle segment docs_kinds (DocsSay segment) files outcome (λ found. FilesSay-idle segment (document_files (file_at found 0) (file_at found 1) (file_at found 2)) (doc_lines 0) outcome) due
-MeaningDue-idle (check dir) files outcome due = CheckDue-idle files outcome due
+module _ (files : Option Files) (input : Option (List ℕ)) (outcome : Outcome) where
+  -- nor does what is due of a meaning that makes no commit
+  MeaningDue-idle : (meaning : Meaning) → ¬ MakesCommit meaning → MeaningDue meaning files input outcome → IsIdle outcome
+  MeaningDue-idle (fields dir segment) makes_none due = FilesDue-idle segment fields_kinds (FieldsSay segment) files outcome (λ found. FilesSay-idle segment (table_files (file_at found 0)) (field_lines 0) outcome) due
+  MeaningDue-idle (docs dir segment) makes_none due = FilesDue-idle segment docs_kinds (DocsSay segment) files outcome (λ found. FilesSay-idle segment (document_files (file_at found 0) (file_at found 1) (file_at found 2)) (doc_lines 0) outcome) due
+  MeaningDue-idle (check dir) makes_none due = CheckDue-idle files outcome due
+  MeaningDue-idle (build dir compound) makes_none due = absurd (makes_none tt)
 
--- nor does what is due of words
-pub Due-idle : (words : List (List ℕ)) (files : Option Files) (outcome : Outcome) → Due words files outcome → IsIdle outcome
-Due-idle words files outcome (inl a) = subst IsIdle (sym a.1) (idle-without_effect _ _ tt)
-Due-idle words files outcome (inr a) = MeaningDue-idle a.0 files outcome a.2
+  -- nor does what is due of words that ask for no commit
+  pub Due-idle : (words : List (List ℕ)) → ¬ AskFor MakesCommit words → Due words files input outcome → IsIdle outcome
+  Due-idle words ask_none (inl a) = subst IsIdle (sym a.1) (idle-without_effect _ _ tt)
+  Due-idle words ask_none (inr a) = MeaningDue-idle a.0 (asks-not MakesCommit words a.0 a.1 ask_none) a.2
 
--- what is due of words is proper
-pub Due-proper : (words : List (List ℕ)) (files : Option Files) (outcome : Outcome) → Due words files outcome → IsProper files outcome
-Due-proper words files outcome due = idle-proper files outcome (Due-idle words files outcome due)
+  -- what is due of a meaning is proper
+  pub MeaningDue-proper : (meaning : Meaning) → MeaningDue meaning files input outcome → IsProper files outcome
+  MeaningDue-proper (fields dir segment) due = idle-proper files outcome (MeaningDue-idle (fields dir segment) (λ no. no) due)
+  MeaningDue-proper (docs dir segment) due = idle-proper files outcome (MeaningDue-idle (docs dir segment) (λ no. no) due)
+  MeaningDue-proper (check dir) due = idle-proper files outcome (MeaningDue-idle (check dir) (λ no. no) due)
+  MeaningDue-proper (build dir compound) due = build-proper files input compound outcome due
+
+  -- and so is what is due of words
+  pub Due-proper : (words : List (List ℕ)) → Due words files input outcome → IsProper files outcome
+  Due-proper words (inl a) = idle-proper files outcome (subst IsIdle (sym a.1) (idle-without_effect _ _ tt))
+  Due-proper words (inr a) = MeaningDue-proper a.0 a.2
 
 -- a call that answers by what is due answers it, where it did not give up
-pub Completes-answers : (words : List (List ℕ)) (files : Option Files) (Failed : Type 0) (before after : Scene) (answer : Status) → Answers (Due words files) Failed before after answer → Completes words files answer
-Completes-answers words files Failed before after answer answers told tells outcome due =
-    judge (IsAnswered-answers (Due words files) Failed before after answer answers)
+pub Completes-answers : (words : List (List ℕ)) (files : Option Files) (input : Option (List ℕ)) (Failed : Type 0) (before after : Scene) (answer : Status) → Answers (Due words files input) Failed before after answer
+    → Completes words files input answer
+Completes-answers words files input Failed before after answer answers told is tells outcome due =
+    judge (IsAnswered-answers (Due words files input) Failed before after answer answers)
   where
-    judge : IsAnswered (Due words files) answer → IsAnswerOf outcome answer ⊎ GaveUp answer
-    judge (inl a) = inl (subst (λ (o : Outcome). IsAnswerOf o answer) (Due-one told words a.0 outcome (subst (λ o. Due words o a.0) tells a.1) due) a.2)
+    judge : IsAnswered (Due words files input) answer → IsAnswerOf outcome answer ⊎ GaveUp answer
+    judge (inl a) = inl (subst (λ (o : Outcome). IsAnswerOf o answer) (Due-one told input words tells a.0 outcome (subst (λ o. Due words o input a.0) is a.1) due) a.2)
     judge (inr gave) = inr gave

@@ -1,7 +1,8 @@
 -- Meanings of words.
-use Rattle.std.proofs.Common.{◌≡◌, ◌≢◌, ℕ, List, [], ◌∷◌, codes, sym, ◌∙◌, ap, subst}
-use Rattle.lu_command.specs.Words.{HasDir, HasDirAndSegment, arguments_in}
-use Rattle.lu_command.specs.Commands.{Meaning, fields, docs, check, Means}
+use Rattle.std.proofs.Common.{◌≡◌, ◌≢◌, ℕ, Bool, true, false, List, [], ◌∷◌, get_or, codes, refl, sym, ◌∙◌, ap, arith}
+use Rattle.lu_command.specs.Words.{HasDirAndSegment, options_in, options_asking, arguments_in}
+use Rattle.lu_command.specs.Asking.{AskFor}
+use Rattle.lu_command.specs.Commands.{Meaning, fields, docs, check, build, Means}
 
 -- the words after the first are what they are
 same_rest : {X : Type 0} (x y : X) (words xs ys : List X) → words ≡ x ∷ xs → words ≡ y ∷ ys → ys ≡ xs
@@ -9,30 +10,36 @@ same_rest x y words xs ys here there =
     let both : x ∷ xs ≡ y ∷ ys = sym here ∙ there in
     cc
 
--- words whose first is not `check` and whose rest is no folder and segment mean nothing
-pub without_dir_and_segment : (words rest : List (List ℕ)) (name : List ℕ) → name ≢ codes "check" → words ≡ name ∷ rest → ((dir segment : List ℕ) → HasDirAndSegment rest dir segment → ⊥) → (meaning : Meaning) → Means words meaning → ⊥
-without_dir_and_segment words rest name other split none (fields dir segment) means = none dir segment (subst (λ ws. HasDirAndSegment ws dir segment) (same_rest _ _ words rest means.0 split means.1) means.2)
-without_dir_and_segment words rest name other split none (docs dir segment) means = none dir segment (subst (λ ws. HasDirAndSegment ws dir segment) (same_rest _ _ words rest means.0 split means.1) means.2)
-without_dir_and_segment words rest name other split none (check dir) means =
-    let both : name ∷ rest ≡ codes "check" ∷ means.0 = sym split ∙ means.1 in
-    let same : name ≡ codes "check" = cc in
-    absurd (other same)
+-- and so is the first
+same_first : (x y : List ℕ) (words xs ys : List (List ℕ)) → words ≡ x ∷ xs → words ≡ y ∷ ys → x ≡ y
+same_first x y words xs ys here there =
+    let both : x ∷ xs ≡ y ∷ ys = sym here ∙ there in
+    cc
 
--- words whose first is `check` and whose rest is no folder mean nothing
-pub without_dir : (words rest : List (List ℕ)) (name : List ℕ) → name ≡ codes "check" → words ≡ name ∷ rest → ((dir : List ℕ) → HasDir rest dir → ⊥) → (meaning : Meaning) → Means words meaning → ⊥
-without_dir words rest name is split none (fields dir segment) means =
-    let both = sym split ∙ means.1 in
-    absurd (cc)
-without_dir words rest name is split none (docs dir segment) means =
-    let both = sym split ∙ means.1 in
-    absurd (cc)
-without_dir words rest name is split none (check dir) means = none dir (subst (λ ws. HasDir ws dir) (same_rest _ _ words rest means.0 split means.1) means.2)
+-- `check` and `build` are two words
+check-not_build : codes "check" ≢ codes "build"
+check-not_build same =
+    let first : 99 ≡ 98 = ap (λ (name : List ℕ). get_or name 0 0) same in
+    absurd (omega (arith, first))
+
+-- a folder is the only one
+only_dir : (words words' : List (List ℕ)) (dir dir' : List ℕ) → words' ≡ words → arguments_in words ≡ dir ∷ [] → arguments_in words' ≡ dir' ∷ [] → dir ≡ dir'
+only_dir words words' dir dir' same one other =
+    let both : dir ∷ [] ≡ dir' ∷ [] = sym one ∙ ap arguments_in (sym same) ∙ other in
+    cc
 
 -- a folder and a segment are the only ones
 only_pair : (words words' : List (List ℕ)) (dir segment dir' segment' : List ℕ) → words' ≡ words → HasDirAndSegment words dir segment → HasDirAndSegment words' dir' segment' → (dir ≡ dir') × (segment ≡ segment')
 only_pair words words' dir segment dir' segment' same one other =
     let both : dir ∷ segment ∷ [] ≡ dir' ∷ segment' ∷ [] = sym one.arguments ∙ ap arguments_in (sym same) ∙ other.arguments in
     (cc, cc)
+
+-- options ask for one thing
+only_asked : (compound compound' : Bool) → options_asking compound ≡ options_asking compound' → compound ≡ compound'
+only_asked true true same = refl
+only_asked true false same = absurd (cc)
+only_asked false true same = absurd (cc)
+only_asked false false same = refl
 
 -- words have one meaning at most
 pub only_meaning : (words : List (List ℕ)) (one other : Meaning) → Means words one → Means words other → one ≡ other
@@ -42,26 +49,24 @@ only_meaning words (fields dir segment) (fields dir' segment') one other =
 only_meaning words (docs dir segment) (docs dir' segment') one other =
     let pair = only_pair one.0 other.0 dir segment dir' segment' (same_rest _ _ words one.0 other.0 one.1 other.1) one.2 other.2 in
     ap (λ d. docs d segment) pair.0 ∙ ap (docs dir') pair.1
-only_meaning words (fields dir segment) (docs dir' segment') one other =
-    let both = sym one.1 ∙ other.1 in
-    absurd (cc)
-only_meaning words (docs dir segment) (fields dir' segment') one other =
-    let both = sym one.1 ∙ other.1 in
-    absurd (cc)
-only_meaning words (check dir) (check dir') one other =
+only_meaning words (check dir) (check dir') one other = ap check (only_dir one.0 other.0 dir dir' (same_rest _ _ words one.0 other.0 one.1 other.1) one.2.arguments other.2.arguments)
+only_meaning words (build dir compound) (build dir' compound') one other =
     let rest = same_rest _ _ words one.0 other.0 one.1 other.1 in
-    let both : dir ∷ [] ≡ dir' ∷ [] = sym one.2.arguments ∙ ap arguments_in (sym rest) ∙ other.2.arguments in
-    let same : dir ≡ dir' = cc in
-    ap check same
-only_meaning words (check dir) (fields dir' segment') one other =
-    let both = sym one.1 ∙ other.1 in
-    absurd (cc)
-only_meaning words (check dir) (docs dir' segment') one other =
-    let both = sym one.1 ∙ other.1 in
-    absurd (cc)
-only_meaning words (fields dir segment) (check dir') one other =
-    let both = sym one.1 ∙ other.1 in
-    absurd (cc)
-only_meaning words (docs dir segment) (check dir') one other =
-    let both = sym one.1 ∙ other.1 in
-    absurd (cc)
+    ap (λ d. build d compound) (only_dir one.0 other.0 dir dir' rest one.2.arguments other.2.arguments)
+    ∙ ap (build dir') (only_asked compound compound' (sym one.2.options ∙ ap options_in (sym rest) ∙ other.2.options))
+only_meaning words (fields dir segment) (docs dir' segment') one other = let both = sym one.1 ∙ other.1 in absurd (cc)
+only_meaning words (fields dir segment) (check dir') one other = let both = sym one.1 ∙ other.1 in absurd (cc)
+only_meaning words (fields dir segment) (build dir' compound') one other = let both = sym one.1 ∙ other.1 in absurd (cc)
+only_meaning words (docs dir segment) (fields dir' segment') one other = let both = sym one.1 ∙ other.1 in absurd (cc)
+only_meaning words (docs dir segment) (check dir') one other = let both = sym one.1 ∙ other.1 in absurd (cc)
+only_meaning words (docs dir segment) (build dir' compound') one other = let both = sym one.1 ∙ other.1 in absurd (cc)
+only_meaning words (check dir) (fields dir' segment') one other = let both = sym one.1 ∙ other.1 in absurd (cc)
+only_meaning words (check dir) (docs dir' segment') one other = let both = sym one.1 ∙ other.1 in absurd (cc)
+only_meaning words (check dir) (build dir' compound') one other = absurd (check-not_build (same_first _ _ words one.0 other.0 one.1 other.1))
+only_meaning words (build dir compound) (fields dir' segment') one other = let both = sym one.1 ∙ other.1 in absurd (cc)
+only_meaning words (build dir compound) (docs dir' segment') one other = let both = sym one.1 ∙ other.1 in absurd (cc)
+only_meaning words (build dir compound) (check dir') one other = absurd (check-not_build (same_first _ _ words other.0 one.0 other.1 one.1))
+
+-- words with a meaning that is not of a kind do not ask for one of it
+pub asks-not : (IsOfKind : Meaning → Type 0) (words : List (List ℕ)) (meaning : Meaning) → Means words meaning → ¬ AskFor IsOfKind words → ¬ IsOfKind meaning
+asks-not IsOfKind words meaning means not is = not (meaning, means, is)

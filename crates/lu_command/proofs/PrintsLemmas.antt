@@ -1,5 +1,5 @@
 -- What is printed with each answer of a call.
-use Rattle.std.proofs.Common.{◌≡◌, ℕ, List, Option, sym, subst, inl, inr, refl}
+use Rattle.std.proofs.Common.{◌≡◌, ◌⊎◌, ℕ, List, Option, sym, subst, inl, inr, refl}
 use Rattle.lu_dir.specs.Files.{Files}
 use Rattle.lu_command.specs.declared.status.Status.{Status}
 use Rattle.lu_command.specs.declared.status.Status.TheVariants as statuses
@@ -30,6 +30,10 @@ module _ (IsDue : Outcome → Type 0) (files : Option Files) (proper : (outcome 
   nothing_printed answer (inl dir) same = by_answer answer (statuses.Device things.Dir) dir same
   nothing_printed answer (inr memory) same = by_answer answer statuses.NoMemory memory (inl same)
 
+  unread_printed : (answer : Status) → IsGivenUp answer ⊎ (answer ≡ statuses.Device things.Source) → after ≡ before → Prints IsDue answer before after
+  unread_printed answer (inl is) same = nothing_printed answer is same
+  unread_printed answer (inr source) same = by_answer answer (statuses.Device things.Source) source same
+
   told_whole : (outcome : Outcome) (Failed : Type 0) (old new : Option Files) (answer : Status) (text : List ℕ) → IsDue outcome → Ends outcome Failed old new answer text → Took text before after → Prints IsDue answer before after
   told_whole outcome Failed old new answer text due (done is same made) took =
       by_answer answer outcome.status is (whole_text outcome due (subst (λ (t : List ℕ). Took t before after) same took) outcome.status refl (proper outcome due).answer)
@@ -46,4 +50,4 @@ Prints-answers IsDue Failed files proper before after answer (printing_ended out
     by_answer IsDue files proper before.taken after.taken answer statuses.NoMemory is (inr (outcome, due, (text, (Ends-answer outcome Failed before.files after.files status text ends).1, (count, took))))
 Prints-answers IsDue Failed files proper before after answer (removing_ended outcome due left is same) = by_answer IsDue files proper before.taken after.taken answer statuses.NoMemory is (inl same)
 Prints-answers IsDue Failed files proper before after answer (stopped outcome due left is same) = nothing_printed IsDue files proper before.taken after.taken answer is same
-Prints-answers IsDue Failed files proper before after answer (nothing is files_same taken) = nothing_printed IsDue files proper before.taken after.taken answer is taken
+Prints-answers IsDue Failed files proper before after answer (nothing is files_same taken) = unread_printed IsDue files proper before.taken after.taken answer is taken

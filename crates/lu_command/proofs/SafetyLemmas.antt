@@ -1,5 +1,5 @@
 -- Whatever a call answers, the folder is safe.
-use Rattle.std.proofs.Common.{◌≡◌, ◌≢◌, ℕ, List, Option, Some, refl, sym, subst, ap, ◌∙◌, inl, inr}
+use Rattle.std.proofs.Common.{◌≡◌, ◌≢◌, ◌⊎◌, ℕ, List, Option, Some, refl, sym, subst, ap, ◌∙◌, inl, inr}
 use Rattle.lu_dir.specs.Files.{Files, Leaves}
 use Rattle.lu_command.specs.declared.status.Status.{Status}
 use Rattle.lu_command.specs.declared.status.Status.TheVariants as statuses
@@ -91,9 +91,10 @@ module _ (IsDue : Outcome → Type 0) (Failed : Type 0) (old : Files) (proper : 
   stopped-safe outcome after answer due then (inl dir) = by_answer after answer (statuses.Device things.Dir) dir (then.0, then.1, inr (outcome, due, then.2))
   stopped-safe outcome after answer due then (inr memory) = by_answer after answer statuses.NoMemory memory (then.0, then.1, inr (outcome, due, inl then.2))
 
-  nothing-safe : (after : Option Files) (answer : Status) → IsGivenUp answer → after ≡ Some old → Safe after answer
-  nothing-safe after answer (inl dir) same = by_answer after answer (statuses.Device things.Dir) dir (old, same, inl refl)
-  nothing-safe after answer (inr memory) same = by_answer after answer statuses.NoMemory memory (old, same, inl refl)
+  nothing-safe : (after : Option Files) (answer : Status) → IsGivenUp answer ⊎ (answer ≡ statuses.Device things.Source) → after ≡ Some old → Safe after answer
+  nothing-safe after answer (inl (inl dir)) same = by_answer after answer (statuses.Device things.Dir) dir (old, same, inl refl)
+  nothing-safe after answer (inl (inr memory)) same = by_answer after answer statuses.NoMemory memory (old, same, inl refl)
+  nothing-safe after answer (inr source) same = by_answer after answer (statuses.Device things.Source) source (old, same, refl)
 
   -- the folder is safe, whatever is answered
   pub Safe-answers : (taken : Option (List ℕ)) (after : Scene) (answer : Status) → Answers IsDue Failed (record { files = Some old; taken = taken }) after answer → Safe after.files answer

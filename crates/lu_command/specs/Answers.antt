@@ -4,7 +4,7 @@ use Rattle.std.specs.Option.{option_map}
 use Rattle.lu_dir.specs.Files.{Files}
 use Rattle.lu_command.specs.declared.status.Status.{Status}
 use Rattle.lu_command.specs.declared.status.Status.TheVariants.{Device, NoMemory, LeftBehind}
-use Rattle.lu_command.specs.declared.status.Which.TheVariants.{Dir, Sink}
+use Rattle.lu_command.specs.declared.status.Which.TheVariants.{Dir, Source, Sink}
 use Rattle.lu_command.specs.declared.outcome.Outcome.{Outcome}
 use Rattle.lu_command.specs.Effects.{standing, IsStoppedEffect, IsMadeEffect}
 use Rattle.lu_command.specs.Texts.{left_behind_text}
@@ -53,5 +53,6 @@ pub data Answers (IsDue : Outcome → Type 0) (Failed : Type 0) (before after : 
   -- its effect is stopped on the way, and nothing is printed
   stopped : (outcome : Outcome) → IsDue outcome → IsStoppedEffect outcome.effect before.files after.files → IsGivenUp answer
       → after.taken ≡ before.taken → Answers IsDue Failed before after answer
-  -- nothing is done and nothing printed: the folder failed, or memory ended
-  nothing : IsGivenUp answer → after.files ≡ before.files → after.taken ≡ before.taken → Answers IsDue Failed before after answer
+  -- nothing is done and nothing printed: the folder or the input failed, or memory ended
+  nothing : IsGivenUp answer ⊎ (answer ≡ Device Source) → after.files ≡ before.files → after.taken ≡ before.taken
+      → Answers IsDue Failed before after answer

@@ -6,12 +6,13 @@ use Rattle.lu_types.specs.FilePlans.{FilePlan, StandFor, IsFaultAmong}
 use Rattle.lu_types.specs.declared.kind.FileKind.{FileKind}
 use Rattle.lu_types.specs.declared.fault.Spot.{Spot}
 use Rattle.lu_command.specs.declared.outcome.Outcome.{Outcome}
-use Rattle.lu_command.specs.Commands.{Meaning, fields, docs, check, Means}
+use Rattle.lu_command.specs.Commands.{Meaning, fields, docs, check, build, Means}
 use Rattle.check_index.specs.Files.{file_at}
 use Rattle.lu_command.specs.Files.{AreFound, first_too_long}
 use Rattle.lu_command.specs.Needs.{fields_kinds, docs_kinds, table_files, document_files}
 use Rattle.lu_command.specs.Texts.{field_lines, doc_lines}
 use Rattle.lu_command.specs.Checking.{CheckDue}
+use Rattle.lu_command.specs.Building.{BuildDue}
 use Rattle.lu_command.specs.Outcomes.{printing, usage_outcome, faulty_outcome, too_large_outcome}
 
 -- what a command comes to by the segment's files that it needs: the lines of what they stand for, or their first fault
@@ -34,13 +35,14 @@ FilesDue segment kinds Say files outcome =
     ((kind : FileKind) × ForSome files (λ told. first_too_long told segment kinds ≡ Some kind) × (outcome ≡ too_large_outcome kind))
     ⊎ ((found : List (Option (List ℕ))) × AreFound files segment kinds found × Say found outcome)
 
--- the outcome of a meaning that is due
-abbrev pub MeaningDue : Meaning → Option Files → Outcome → Type 0
-MeaningDue (fields dir segment) files outcome = FilesDue segment fields_kinds (FieldsSay segment) files outcome
-MeaningDue (docs dir segment) files outcome = FilesDue segment docs_kinds (DocsSay segment) files outcome
-MeaningDue (check dir) files outcome = CheckDue files outcome
+-- the outcome of a meaning that is due, over these files and what the input has left
+abbrev pub MeaningDue : Meaning → Option Files → Option (List ℕ) → Outcome → Type 0
+MeaningDue (fields dir segment) files input outcome = FilesDue segment fields_kinds (FieldsSay segment) files outcome
+MeaningDue (docs dir segment) files input outcome = FilesDue segment docs_kinds (DocsSay segment) files outcome
+MeaningDue (check dir) files input outcome = CheckDue files outcome
+MeaningDue (build dir compound) files input outcome = BuildDue compound files input outcome
 
--- the outcome of words that is due
-abbrev pub Due : List (List ℕ) → Option Files → Outcome → Type 0
-Due words files outcome = (((meaning : Meaning) → ¬ Means words meaning) × (outcome ≡ usage_outcome))
-    ⊎ ((meaning : Meaning) × Means words meaning × MeaningDue meaning files outcome)
+-- the outcome of words that is due, over these files and what the input has left
+abbrev pub Due : List (List ℕ) → Option Files → Option (List ℕ) → Outcome → Type 0
+Due words files input outcome = (((meaning : Meaning) → ¬ Means words meaning) × (outcome ≡ usage_outcome))
+    ⊎ ((meaning : Meaning) × Means words meaning × MeaningDue meaning files input outcome)

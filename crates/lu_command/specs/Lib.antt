@@ -1,5 +1,7 @@
 pub mod Answers
 pub mod Asking
+pub mod Basis
+pub mod Building
 pub mod Checking
 pub mod Codes
 pub mod Commands
@@ -7,12 +9,15 @@ pub mod Due
 pub mod Effects
 pub mod Files
 pub mod Finding
+pub mod Inputs
 pub mod Meanings
 pub mod Naming
 pub mod Needs
 pub mod Outcomes
 pub mod Printing
+pub mod Refusing
 pub mod Safety
+pub mod Standing
 pub mod Telling
 pub mod Texts
 pub mod Words

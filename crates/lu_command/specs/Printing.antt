@@ -13,8 +13,8 @@ use Rattle.lu_command.specs.Telling.{Took}
 abbrev pub Prints : (Outcome → Type 0) → Status → Option (List ℕ) → Option (List ℕ) → Type 0
 -- nothing where the folder failed
 Prints IsDue (Device Dir) before after = after ≡ before
--- that the input failed is never answered
-Prints IsDue (Device Source) before after = ⊥
+-- nor where the input failed
+Prints IsDue (Device Source) before after = after ≡ before
 -- a strict prefix of the text that is due where the output failed
 Prints IsDue (Device Sink) before after = (outcome : Outcome) × IsDue outcome
     × ((text : List ℕ) × IsTextOf outcome text × ((count : ℕ) × (count < length text) × Took (take count text) before after))

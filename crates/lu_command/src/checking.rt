@@ -42,7 +42,7 @@ fn commit_fault(alloc: Global, generation: u64, fault: Fault) -> Result<Outcome,
 }
 
 /// The outcome of what was said of the folder, or of a file of it.
-fn refusal(alloc: Global, fault: FolderFault) -> Result<Outcome, DirFail>
+pub fn refusal(alloc: Global, fault: FolderFault) -> Result<Outcome, DirFail>
     ensures refused { IfOk result (λ outcome. Refuses fault outcome) }
     ensures failed { IsErrOf result DirFail.Failed → fault ≡ FolderFault.Failed }
 {
@@ -141,7 +141,7 @@ fn segments_say<D: Dir>(
 }
 
 /// How many documents the segments have, and how many of them are deleted.
-fn totals(segments: &[SegInfo]) -> (u64, u64)
+pub fn totals(segments: &[SegInfo]) -> (u64, u64)
     requires documents { total_size segments.now < 2 ^ 31 }
     requires deleted { total_deleted segments.now < 2 ^ 31 }
     ensures documents { result.0 ≡ total_size segments.now }

@@ -5,7 +5,7 @@ ghost use Rattle.lu_command.specs.Commands.{Meaning, Means};
 ghost use Rattle.lu_command.specs.Asking.{folder_meant};
 ghost use Rattle.lu_command.specs.Meanings.{meaning_of};
 
-use crate::words::{dir_alone, dir_and_segment};
+use crate::words::{dir_alone, dir_and_compound, dir_and_segment};
 
 /// What the words of a call ask for.
 #[derive(Clone, Copy, Debug, PartialEq, Eq)]
@@ -16,6 +16,8 @@ pub enum Command<'a> {
     Docs { dir: &'a str, segment: &'a str },
     /// Say whether the newest commit of the folder stands.
     Check { dir: &'a str },
+    /// Add a segment of the documents of the input to the folder, as one file where that is asked for.
+    Build { dir: &'a str, compound: bool },
 }
 
 impl<'a> Command<'a> {
@@ -29,6 +31,10 @@ impl<'a> Command<'a> {
         if name.as_str() == "check" {
             let dir = dir_alone(rest)?;
             return Some(Command::Check { dir });
+        }
+        if name.as_str() == "build" {
+            let (dir, compound) = dir_and_compound(rest)?;
+            return Some(Command::Build { dir, compound });
         }
         let (dir, segment) = dir_and_segment(rest)?;
         match name.as_str() {
@@ -46,6 +52,7 @@ impl<'a> Command<'a> {
             Command::Fields { dir, .. } => dir,
             Command::Docs { dir, .. } => dir,
             Command::Check { dir } => dir,
+            Command::Build { dir, .. } => dir,
         }
     }
 }

@@ -1,10 +1,11 @@
 //! The end of every command: its effect, and then its text.
-ghost use Rattle.std.specs.Prelude.{◌≡◌};
+ghost use Rattle.std.specs.Prelude.{◌≡◌, ◌≢◌};
 ghost use Rattle.lu_dir.specs.Faults.{Rose, IsCaused};
 ghost use Rattle.lu_command.specs.Outcomes.{IsAnswer};
 ghost use Rattle.lu_command.specs.Answers.{IsGivenUp, IsDirFault, Answers};
-ghost use Rattle.lu_command.specs.Asking.{status_of};
+ghost use Rattle.lu_command.specs.Asking.{status_of, status_halted};
 
+use crate::building::Halt;
 use crate::outcome::{Effect, Outcome};
 use crate::status::{Status, Which};
 use crate::telling::{tell, tell_left_behind};
@@ -22,6 +23,17 @@ pub fn given_up(fail: DirFail) -> Status
     }
 }
 
+/// The answer of a command that came to no outcome.
+pub fn halted(halt: Halt) -> Status
+    ensures { result ≡ status_halted halt }
+{
+    match halt {
+        Halt::Folder => Status::Device(Which::Dir),
+        Halt::Input => Status::Device(Which::Source),
+        Halt::OutOfMemory => Status::NoMemory,
+    }
+}
+
 /// Makes the commit of an outcome, and prints its text. What memory the commit needs of its own was taken before.
 fn finish_commit<D: Dir, K: Sink>(
     alloc: Global,
@@ -36,6 +48,7 @@ fn finish_commit<D: Dir, K: Sink>(
         (record { files = D.files dir.old; taken = K.taken out.old }) (record { files = D.files dir.new; taken = K.taken out.new }) result }
     ensures asked { D.asked dir.new ≡ D.asked dir.old }
     ensures folder { IsCaused (D.faults dir.old) (D.faults dir.new) (IsDirFault result) }
+    ensures input { result ≢ Status.Device Which.Source }
     ensures output { IsCaused (K.faults out.old) (K.faults out.new) (result ≡ Status.Device Which.Sink) }
 {
     match commit(alloc, dir, change) {
@@ -53,6 +66,7 @@ pub fn finish<D: Dir, K: Sink>(alloc: Global, outcome: &Outcome, dir: &mut D, ou
         (record { files = D.files dir.old; taken = K.taken out.old }) (record { files = D.files dir.new; taken = K.taken out.new }) result }
     ensures asked { D.asked dir.new ≡ D.asked dir.old }
     ensures folder { IsCaused (D.faults dir.old) (D.faults dir.new) (IsDirFault result) }
+    ensures input { result ≢ Status.Device Which.Source }
     ensures output { IsCaused (K.faults out.old) (K.faults out.new) (result ≡ Status.Device Which.Sink) }
 {
     match &outcome.effect {

@@ -7,6 +7,7 @@ ghost use Rattle.lu_command.specs.Commands.{Meaning, Means};
 ghost use Rattle.lu_command.specs.Outcomes.{IsProper};
 ghost use Rattle.lu_command.specs.Due.{Due};
 ghost use Rattle.lu_command.specs.Answers.{Scene, Answers};
+ghost use Rattle.lu_command.specs.Asking.{AskFor, MakesCommit};
 ghost use Rattle.lu_command.specs.Printing.{Prints};
 
 use crate::outcome::Effect;
@@ -17,25 +18,29 @@ pub fn one_meaning()
     ensures { (words : List (List ℕ)) (one other : Meaning) → Means words one → Means words other → one ≡ other }
 {}
 
-/// Words and the files of a folder that tells them determine the outcome: its answer, its text, and its effect.
+/// Words, the files of a folder that tells them, and the bytes of an input that tells them determine the outcome: its
+/// answer, its text, and its effect.
 pub fn one_outcome()
-    ensures { (words : List (List ℕ)) (files : Files) (one other : Outcome)
-        → Due words (Some files) one → Due words (Some files) other → one ≡ other }
+    ensures { (words : List (List ℕ)) (files : Files) (input : List ℕ) (one other : Outcome)
+        → Due words (Some files) (Some input) one → Due words (Some files) (Some input) other → one ≡ other }
 {}
 
-/// An outcome that is due has an answer that says neither that something failed nor that memory ended, and no outcome
-/// changes the folder.
+/// An outcome that is due has an answer that says neither that something failed nor that memory ended; only one with `Ok`
+/// changes the folder, and it loses nothing; and none does but of words that ask for a commit.
 pub fn outcomes_are_proper()
-    ensures proper { (words : List (List ℕ)) (files : Option Files) (outcome : Outcome) → Due words files outcome → IsProper files outcome }
-    ensures unchanged { (words : List (List ℕ)) (files : Option Files) (outcome : Outcome)
-        → Due words files outcome → outcome.effect ≡ Effect.Nothing }
+    ensures proper { (words : List (List ℕ)) (files : Option Files) (input : Option (List ℕ)) (outcome : Outcome)
+        → Due words files input outcome → IsProper files outcome }
+    ensures unchanged { (words : List (List ℕ)) (files : Option Files) (input : Option (List ℕ)) (outcome : Outcome)
+        → ¬ AskFor MakesCommit words → Due words files input outcome → outcome.effect ≡ Effect.Nothing }
 {}
 
 /// What is printed with each answer of a call, where the folder's count of faults was the first of two numbers before and is the
-/// last after it; and that the files of the folder are as before, whatever is answered.
+/// last after it; and that the files of the folder are as before, whatever is answered, where the words ask for no commit.
 pub fn what_answers_leave()
-    ensures printed { (words : List (List ℕ)) (files : Option Files) (first last : ℕ) (before after : Scene) (answer : Status)
-        → Answers (Due words files) (Rose first last) before after answer → Prints (Due words files) answer before.taken after.taken }
-    ensures files { (words : List (List ℕ)) (files : Option Files) (first last : ℕ) (before after : Scene) (answer : Status)
-        → Answers (Due words files) (Rose first last) before after answer → after.files ≡ before.files }
+    ensures printed { (words : List (List ℕ)) (files : Option Files) (input : Option (List ℕ)) (first last : ℕ)
+        (before after : Scene) (answer : Status)
+        → Answers (Due words files input) (Rose first last) before after answer → Prints (Due words files input) answer before.taken after.taken }
+    ensures files { (words : List (List ℕ)) (files : Option Files) (input : Option (List ℕ)) (first last : ℕ)
+        (before after : Scene) (answer : Status)
+        → ¬ AskFor MakesCommit words → Answers (Due words files input) (Rose first last) before after answer → after.files ≡ before.files }
 {}

@@ -2,6 +2,7 @@
 ghost use Rattle.std.specs.Prelude.{◌≡◌};
 ghost use Rattle.lu_command.specs.Codes.{code_of};
 
+use lu_input::LineFault;
 use lu_types::{Fault, FileKind};
 
 /// A thing of the outside that failed.
@@ -20,6 +21,20 @@ pub enum Which {
 pub enum Refusal {
     /// This is the first file that the command came to read and that has over 2^31 - 1 bytes.
     FileTooLarge(FileKind),
+    /// This line of the input, counted from 1, is the first faulty one, with its fault.
+    Line(u32, LineFault),
+    /// The input has more than 2^31 - 1 bytes.
+    InputTooLarge,
+    /// This is the first file of the new segment that would have over 2^31 - 1 bytes.
+    TooLarge(FileKind),
+    /// All segments together would have over 2^31 - 2 documents.
+    TooMany,
+    /// The greatest generation of a commit in the folder is 2^63 - 1.
+    GenerationFull,
+    /// The version of the commit is 2^63 - 1.
+    VersionFull,
+    /// The number of the new segment would be over 2^31 - 2.
+    CounterFull,
 }
 
 /// What a call answers.

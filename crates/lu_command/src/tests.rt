@@ -31,6 +31,14 @@ fn words_have_their_meaning(rt: HostRuntime) -> Result<(), Fail> {
         ("check d _0", None),
         ("check", None),
         ("check --x", None),
+        ("build d", Some("d")),
+        ("build d --compound", Some("d")),
+        ("build --compound -- --x", Some("--x")),
+        ("build d --compound --compound", None),
+        ("build d --compact", None),
+        ("build d _0", None),
+        ("build --compound", None),
+        ("build", None),
         ("doc d _0", None),
         ("fields d _01", None),
         ("fields d", None),
@@ -52,10 +60,30 @@ fn words_have_their_meaning(rt: HostRuntime) -> Result<(), Fail> {
             Some(Command::Docs { dir, .. }) => Some(dir),
             Some(Command::Fields { dir, .. }) => Some(dir),
             Some(Command::Check { dir }) => Some(dir),
+            Some(Command::Build { dir, .. }) => Some(dir),
             None => None,
         };
         assert_eq!(rt; found, dir, "{line}");
     }
     assert!(rt; Command::of(&[]).is_none());
+    Ok(())
+}
+
+#[test]
+fn one_file_is_built_where_it_is_asked_for(rt: HostRuntime) -> Result<(), Fail> {
+    let lines = [
+        ("build d", false),
+        ("build --compound d", true),
+        ("build d --compound", true),
+        ("build d --", false),
+    ];
+    for (line, compound) in lines {
+        let words = words_of(rt.alloc(), line)?;
+        let found = match Command::of(words.as_slice()) {
+            Some(Command::Build { compound, .. }) => Some(compound),
+            _ => None,
+        };
+        assert_eq!(rt; found, Some(compound), "{line}");
+    }
     Ok(())
 }

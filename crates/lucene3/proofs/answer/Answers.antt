@@ -5,4 +5,4 @@ use Rattle.lu_command.proofs.AnswerLemmas.{IsAnswered-answers}
 use Rattle.lucene3.proofs.answer.Goals as goal
 
 pub returns : goal.returns
-returns g c = IsAnswered-answers (Due (texts c.args.words.now) None) _ _ _ c.run.result c.run.ensures.answers
+returns g c = IsAnswered-answers (Due (texts c.args.words.now) None None) _ _ _ c.run.result c.run.ensures.answers

@@ -1,5 +1,6 @@
+use Rattle.std.proofs.Common.{Some, refl}
 use Rattle.lu_command.proofs.DueLemmas.{Due-one}
 use Rattle.lu_command.proofs.laws.one_outcome.Goals as goal
 
 pub returns : goal.returns
-returns c words files = Due-one files words
+returns c words files input = Due-one files (Some input) words (λ asks. refl)

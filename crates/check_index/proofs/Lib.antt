@@ -32,3 +32,4 @@ pub mod ValidSlots
 pub mod ValidVectors
 pub mod ValidSegment
 pub mod OmittedTerms
+pub mod KnownCounts

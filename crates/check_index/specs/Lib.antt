@@ -10,3 +10,4 @@ pub mod Indexed
 pub mod Segments
 pub mod Opened
 pub mod Stands
+pub mod Known

@@ -4,6 +4,7 @@ ghost use Rattle.term_index.specs.Seeking.{searched, names_of};
 ghost use Rattle.lu_model.specs.Valid.{IsValid};
 ghost use Rattle.term_dict.specs.Facts.{AreGoodTerms};
 ghost use Rattle.check_index.specs.Indexed.{indexed_terms};
+ghost use Rattle.check_index.specs.Known.{AreKnown};
 ghost use Rattle.check_index.specs.Files.{file_at};
 ghost use Rattle.check_index.specs.Vectors.{HaveSome, vectors_seen};
 ghost use Rattle.lu_types.specs.Occurrences.{Occurrence};
@@ -93,6 +94,7 @@ impl<'a> Standing<'a> {
         ensures good { AreGoodTerms self.now.index.fields self.now.index.size self.now.dictionary }
         ensures indexed { self.now.index.terms ≡ indexed_terms self.now.index.fields self.now.dictionary.terms self.now.lists self.now.occurrences }
         ensures count { length self.now.lists ≡ length self.now.dictionary.terms }
+        ensures known { AreKnown self.now }
     {
         &self.contents.terms.terms
     }

@@ -103,6 +103,36 @@ has_third xs x y z third pair =
     let none : slice_get xs 2 ≡ None = ap (λ zs. slice_get zs 2) pair in
     absurd (cc)
 
+-- a list with three elements and no fourth is these three
+pub is_triple : {X : Type 0} (xs : List X) (x y z : X) → slice_get xs 0 ≡ Some x → slice_get xs 1 ≡ Some y → slice_get xs 2 ≡ Some z → slice_get xs 3 ≡ None → xs ≡ x ∷ y ∷ z ∷ []
+is_triple [] x y z first second third fourth = absurd (cc)
+is_triple (x' ∷ []) x y z first second third fourth = absurd (cc)
+is_triple (x' ∷ y' ∷ []) x y z first second third fourth = absurd (cc)
+is_triple (x' ∷ y' ∷ z' ∷ []) x y z first second third fourth = cc
+is_triple (x' ∷ y' ∷ z' ∷ w ∷ ws) x y z first second third fourth = absurd (cc)
+
+-- a list without an element at a place below three is no three elements
+pub no_third : {X : Type 0} (xs : List X) (x y z : X) → slice_get xs 2 ≡ None → xs ≢ x ∷ y ∷ z ∷ []
+no_third xs x y z none triple =
+    let some : slice_get xs 2 ≡ Some z = ap (λ zs. slice_get zs 2) triple in
+    absurd (cc)
+
+pub no_second_of : {X : Type 0} (xs : List X) (x y z : X) → slice_get xs 1 ≡ None → xs ≢ x ∷ y ∷ z ∷ []
+no_second_of xs x y z none triple =
+    let some : slice_get xs 1 ≡ Some y = ap (λ zs. slice_get zs 1) triple in
+    absurd (cc)
+
+pub no_first_of : {X : Type 0} (xs : List X) (x y z : X) → slice_get xs 0 ≡ None → xs ≢ x ∷ y ∷ z ∷ []
+no_first_of xs x y z none triple =
+    let some : slice_get xs 0 ≡ Some x = ap (λ zs. slice_get zs 0) triple in
+    absurd (cc)
+
+-- a list with a fourth element is no three elements
+pub has_fourth : {X : Type 0} (xs : List X) (x y z w : X) → slice_get xs 3 ≡ Some w → xs ≢ x ∷ y ∷ z ∷ []
+has_fourth xs x y z w fourth triple =
+    let none : slice_get xs 3 ≡ None = ap (λ zs. slice_get zs 3) triple in
+    absurd (cc)
+
 -- a list with one element and no second is this one
 pub is_single : {X : Type 0} (xs : List X) (x : X) → slice_get xs 0 ≡ Some x → slice_get xs 1 ≡ None → xs ≡ x ∷ []
 is_single [] x first second = absurd (cc)

@@ -2,34 +2,13 @@
 use Rattle.std.specs.Prelude.{◌≡◌, ◌≢◌, ◌⊎◌, List, ℕ, Option, Some, IsSome}
 use Rattle.std.specs.Option.{ForSome}
 use Rattle.lu_dir.specs.Files.{Files}
-use Rattle.lu_dir.specs.declared.fail.DirFail.{DirFail}
-use Rattle.lu_dir.specs.declared.fail.DirFail.TheVariants as fails
-use Rattle.lu_dir.specs.declared.loading.LoadFault.{LoadFault}
-use Rattle.lu_dir.specs.declared.loading.LoadFault.TheVariants as loads
-use Rattle.lu_command.specs.declared.status.Status.{Status}
-use Rattle.lu_command.specs.declared.status.Status.TheVariants.{Device, NoMemory}
-use Rattle.lu_command.specs.declared.status.Which.TheVariants.{Dir, Source, Sink}
-use Rattle.lu_command.specs.declared.building.Halt.{Halt}
-use Rattle.lu_command.specs.declared.building.Halt.TheVariants as halts
-use Rattle.lu_command.specs.declared.outcome.Outcome.{Outcome}
-use Rattle.lu_command.specs.Commands.{Meaning, fields, docs, check, build, Means}
+use Rattle.lu_outcomes.specs.declared.status.Status.{Status}
+use Rattle.lu_outcomes.specs.declared.status.Status.TheVariants.{NoMemory}
+use Rattle.lu_outcomes.specs.declared.outcome.Outcome.{Outcome}
+use Rattle.lu_command.specs.Commands.{Meaning, fields, docs, check, show, build, delete, postings, merge, Means}
 use Rattle.lu_command.specs.Due.{Due}
-use Rattle.lu_command.specs.Outcomes.{IsAnswerOf}
-
--- the answer to a failure of the folder
-abbrev pub status_of : DirFail → Status
-status_of fails.Failed = Device Dir
-status_of fails.OutOfMemory = NoMemory
-
--- the answer of a command that came to no outcome
-abbrev pub status_halted : Halt → Status
-status_halted halts.Folder = Device Dir
-status_halted halts.Input = Device Source
-status_halted halts.OutOfMemory = NoMemory
-
--- a file was too long to be loaded
-abbrev pub IsTooLarge : LoadFault → Type 0
-IsTooLarge fault = (place : ℕ) × (fault ≡ loads.TooLarge place)
+use Rattle.lu_outcomes.specs.Outcomes.{IsAnswerOf}
+use Rattle.lu_outcomes.specs.Halting.{GaveUp}
 
 -- unless memory ended, the folder asked for is this one
 abbrev pub AsksFor : List ℕ → Option (List ℕ) → Status → Type 0
@@ -40,7 +19,11 @@ abbrev pub folder_meant : Meaning → List ℕ
 folder_meant (fields dir segment) = dir
 folder_meant (docs dir segment) = dir
 folder_meant (check dir) = dir
+folder_meant (show dir) = dir
 folder_meant (build dir compound) = dir
+folder_meant (delete dir field text) = dir
+folder_meant (postings dir field text from) = dir
+folder_meant (merge dir compound) = dir
 
 -- the command of this meaning reads the input
 abbrev pub ReadsInput : Meaning → Type 0
@@ -50,7 +33,14 @@ ReadsInput meaning = ⊥
 -- the command of this meaning makes a commit
 abbrev pub MakesCommit : Meaning → Type 0
 MakesCommit (build dir compound) = Unit {0}
+MakesCommit (delete dir field text) = Unit {0}
+MakesCommit (merge dir compound) = Unit {0}
 MakesCommit meaning = ⊥
+
+-- the command of this meaning prints numbers of steps, which are bounded
+abbrev pub CountsSteps : Meaning → Type 0
+CountsSteps (postings dir field text from) = Unit {0}
+CountsSteps meaning = ⊥
 
 -- the words ask for a command of this kind
 abbrev pub AskFor : (Meaning → Type 0) → List (List ℕ) → Type 0
@@ -60,14 +50,6 @@ AskFor IsOfKind words = (meaning : Meaning) × Means words meaning × IsOfKind m
 pub record Asks (words : List (List ℕ)) (before after : Option (List ℕ)) (status : Status) : Type 0 where
   pub meant : (meaning : Meaning) → Means words meaning → AsksFor (folder_meant meaning) after status
   pub meaningless : ((meaning : Meaning) → ¬ Means words meaning) → after ≡ before
-
--- the answer says that memory ended, or that the folder, the input or the output failed
-abbrev pub GaveUp : Status → Type 0
-GaveUp answer = (answer ≡ NoMemory) ⊎ ((answer ≡ Device Dir) ⊎ ((answer ≡ Device Source) ⊎ (answer ≡ Device Sink)))
-
--- the answer is that of an outcome that is due, or the call gave up
-abbrev pub IsAnswered : (Outcome → Type 0) → Status → Type 0
-IsAnswered IsDue answer = ((outcome : Outcome) × IsDue outcome × IsAnswerOf outcome answer) ⊎ GaveUp answer
 
 -- where the folder tells its files, and the input what it holds if the words ask for reading it, the answer that is due is given, or the
 -- call gave up

@@ -1,7 +1,9 @@
 -- Options and arguments among the words of a call.
-use Rattle.std.specs.Prelude.{◌≡◌, ℕ, List, [], ◌∷◌, ◌++◌, length, filter, Bool, not, ◌&&◌, true, false, ◌<◌, nat_eq, nat_lt, codes, if◌then◌else◌}
+use Rattle.std.specs.Prelude.{◌≡◌, ℕ, List, [], ◌∷◌, ◌++◌, length, filter, Bool, not, ◌&&◌, true, false, ◌<◌, ◌≤◌, ◌^◌, nat_eq, nat_lt, codes, slice_index, if◌then◌else◌}
 use Rattle.std.specs.List.{before_first, after_first, starts_with}
 use Rattle.std.specs.Str.{bytes_eq}
+use Rattle.std.specs.Str.Parse.{digits_value}
+use Rattle.std.specs.Int.{IsInRange}
 use Rattle.lu_types.specs.Names.{IsSegmentName}
 use Rattle.lu_command.specs.declared.words.Few.{Few}
 use Rattle.lu_command.specs.declared.words.Few.TheVariants.{Nothing, One, More}
@@ -51,8 +53,40 @@ pub record HasDir (words : List (List ℕ)) (dir : List ℕ) : Type 0 where
   pub no_options : options_in words ≡ []
   pub arguments : arguments_in words ≡ dir ∷ []
 
+-- the words after the name of a command are a folder, a field and a text, and no options
+pub record HasDirAndTerm (words : List (List ℕ)) (dir field text : List ℕ) : Type 0 where
+  pub no_options : options_in words ≡ []
+  pub arguments : arguments_in words ≡ dir ∷ field ∷ text ∷ []
+
 -- the words after the name of a command are a folder and a segment, and no options
 pub record HasDirAndSegment (words : List (List ℕ)) (dir segment : List ℕ) : Type 0 where
   pub no_options : options_in words ≡ []
   pub arguments : arguments_in words ≡ dir ∷ segment ∷ []
   pub segment_named : IsSegmentName segment
+
+-- each byte is a decimal digit
+abbrev pub AreDigits : List ℕ → Type 0
+AreDigits text = (k : ℕ) → k < length text → IsInRange 48 57 (slice_index text k)
+
+-- the most digits of a first document
+abbrev pub most_digits : ℕ
+most_digits = 19
+
+-- the text is one digit or more, and not too many
+pub record IsNumber (text : List ℕ) : Type 0 where
+  pub some : 0 < length text
+  pub few : length text ≤ most_digits
+  pub digits : AreDigits text
+
+-- the text is the number of a document that may be the first: decimal digits, zeros in front or none
+pub record IsFirst (text : List ℕ) (from : ℕ) : Type 0 where
+  pub number : IsNumber text
+  pub value : from ≡ digits_value 10 text
+  pub small : from < 2 ^ 31
+
+-- the words after the name of a command are a folder, a field, a text and a first document, and no options
+pub record HasDirTermAndFrom (words : List (List ℕ)) (dir field text : List ℕ) (from : ℕ) : Type 0 where
+  pub no_options : options_in words ≡ []
+  pub number : List ℕ
+  pub arguments : arguments_in words ≡ dir ∷ field ∷ text ∷ number ∷ []
+  pub first : IsFirst number from

@@ -1,61 +1,108 @@
 //! The call that answers the words of the program.
-ghost use Rattle.std.specs.Prelude.{◌≡◌, ◌≢◌, Ok, Err, MatchResult, IfOk, IsErrOf};
+ghost use Rattle.std.specs.Prelude.{◌≡◌, ◌≢◌, ℕ, List};
 ghost use Rattle.lu_dir.specs.Faults.{Rose, IsCaused};
 ghost use Rattle.std.specs.Option.{ForSome};
 ghost use Rattle.lu_dir.specs.Files.{Leaves, AreMadeOfBytes};
 ghost use Rattle.lu_dir.specs.Loading.{texts};
-ghost use Rattle.lu_command.specs.Commands.{Meaning};
+ghost use Rattle.lu_command.specs.Commands.{Meaning, Means};
 ghost use Rattle.lu_command.specs.Meanings.{meaning_of};
-ghost use Rattle.lu_command.specs.Outcomes.{usage_outcome};
+ghost use Rattle.lu_outcomes.specs.Outcomes.{usage_outcome};
+ghost use Rattle.lu_reads.specs.Checking.{CheckDue};
+ghost use Rattle.lu_changes.specs.Building.{BuildDue};
+ghost use Rattle.lu_changes.specs.Deleting.{DeleteDue};
+ghost use Rattle.lu_changes.specs.Merging.{MergeDue};
 ghost use Rattle.lu_command.specs.Due.{MeaningDue, Due};
-ghost use Rattle.lu_command.specs.Answers.{IsDirFault, Answers};
+ghost use Rattle.lu_outcomes.specs.Answers.{IsDirFault, Answers};
 ghost use Rattle.lu_command.specs.Asking.{AskFor, AsksFor, Asks, Completes, ReadsInput, folder_meant};
-ghost use Rattle.lu_command.specs.Inputs.{IsEmptied, halt_of};
-ghost use Rattle.lu_command.specs.Safety.{IsSafe};
+ghost use Rattle.lu_changes.specs.Inputs.{IsEmptied};
+ghost use Rattle.lu_outcomes.specs.Safety.{IsSafe};
 
-use crate::building::{Halt, build_outcome, halted_by};
-use crate::checking::check_outcome;
 use crate::command::Command;
-use crate::finishing::{finish, given_up, halted};
-use crate::outcome::Outcome;
-use crate::reading::{docs_outcome, fields_outcome};
-use crate::status::{Status, Which};
-use crate::telling::tell;
-use crate::texts::USAGE;
-use lu_dir::{Dir, DirFail, Sink, Source};
+use lu_changes::building::build_outcome;
+use lu_changes::deleting::delete_outcome;
+use lu_changes::marking::Target;
+use lu_changes::merging::merge_outcome;
+use lu_dir::{Dir, Sink, Source};
+use lu_outcomes::finishing::{finish, given_up, halted};
+use lu_outcomes::status::{Status, Which};
+use lu_outcomes::telling::tell;
+use lu_reads::checking::check_outcome;
+use lu_reads::reaching::{Wanted, postings};
+use lu_reads::reading::{docs, fields};
+use lu_reads::showing::show;
 use std::alloc::Global;
 
-/// What a command comes to that reads the folder alone, or that the folder failed.
-fn by_folder(answer: Result<Outcome, DirFail>) -> Result<Outcome, Halt>
-    ensures { MatchResult answer (λ outcome. result ≡ Ok outcome) (λ fail. result ≡ Err (halt_of Halt.Folder fail)) }
+/// The line of words that have no meaning.
+const USAGE: &str = "usage: lucene3 COMMAND [DIR] [ARGUMENTS]\n";
+
+/// Answers `check` in the folder that was entered.
+fn check<D: Dir, K: Sink>(alloc: Global, dir: &mut D, out: &mut K) -> Status
+    requires { ForSome (D.files dir.old) AreMadeOfBytes }
+    ensures answers { Answers (CheckDue (D.files dir.old)) (Rose (D.faults dir.old) (D.faults dir.new))
+        (record { files = D.files dir.old; taken = K.taken out.old }) (record { files = D.files dir.new; taken = K.taken out.new }) result }
+    ensures asked { D.asked dir.new ≡ D.asked dir.old }
+    ensures folder { IsCaused (D.faults dir.old) (D.faults dir.new) (IsDirFault result) }
+    ensures input { result ≢ Status.Device Which.Source }
+    ensures output { IsCaused (K.faults out.old) (K.faults out.new) (result ≡ Status.Device Which.Sink) }
 {
-    match answer {
-        Ok(outcome) => Ok(outcome),
-        Err(fail) => Err(halted_by(Halt::Folder, fail)),
+    match check_outcome(alloc, dir) {
+        Ok(outcome) => finish(alloc, &outcome, dir, out),
+        Err(fail) => given_up(fail),
     }
 }
 
-/// What a command comes to in the folder that was entered.
-fn outcome_of<D: Dir, S: Source>(
+/// Answers `build` in the folder that was entered.
+fn build<D: Dir, S: Source, K: Sink>(
     alloc: Global,
-    command: Command<'_>,
+    compound: bool,
     dir: &mut D,
     src: &mut S,
-) -> Result<Outcome, Halt>
+    out: &mut K,
+) -> Status
     requires { ForSome (D.files dir.old) AreMadeOfBytes }
-    ensures due { IfOk result (λ outcome. MeaningDue (meaning_of command.entry) (D.files dir.old) (S.left src.old) outcome) }
-    ensures files { D.files dir.new ≡ D.files dir.old }
+    ensures answers { Answers (BuildDue compound (D.files dir.old) (S.left src.old)) (Rose (D.faults dir.old) (D.faults dir.new))
+        (record { files = D.files dir.old; taken = K.taken out.old }) (record { files = D.files dir.new; taken = K.taken out.new }) result }
     ensures asked { D.asked dir.new ≡ D.asked dir.old }
-    ensures folder { IsCaused (D.faults dir.old) (D.faults dir.new) (IsErrOf result Halt.Folder) }
-    ensures input { IsCaused (S.faults src.old) (S.faults src.new) (IsErrOf result Halt.Input) }
-    ensures unread { ¬ ReadsInput (meaning_of command.entry) → (src.new ≡ src.old) × ¬ IsErrOf result Halt.Input }
-    ensures emptied { IfOk result (λ outcome. ReadsInput (meaning_of command.entry) → outcome.status ≡ Status.Ok → IsEmptied (S.left src.old) (S.left src.new)) }
+    ensures folder { IsCaused (D.faults dir.old) (D.faults dir.new) (IsDirFault result) }
+    ensures input { IsCaused (S.faults src.old) (S.faults src.new) (result ≡ Status.Device Which.Source) }
+    ensures output { IsCaused (K.faults out.old) (K.faults out.new) (result ≡ Status.Device Which.Sink) }
+    ensures emptied { result ≡ Status.Ok → IsEmptied (S.left src.old) (S.left src.new) }
 {
-    match command {
-        Command::Fields { segment, .. } => by_folder(fields_outcome(alloc, segment, dir)),
-        Command::Docs { segment, .. } => by_folder(docs_outcome(alloc, segment, dir)),
-        Command::Check { .. } => by_folder(check_outcome(alloc, dir)),
-        Command::Build { compound, .. } => build_outcome(alloc, compound, dir, src),
+    match build_outcome(alloc, compound, dir, src) {
+        Ok(outcome) => finish(alloc, &outcome, dir, out),
+        Err(halt) => halted(halt),
+    }
+}
+
+/// Answers `delete` in the folder that was entered.
+fn delete<D: Dir, K: Sink>(alloc: Global, target: Target<'_>, dir: &mut D, out: &mut K) -> Status
+    requires { ForSome (D.files dir.old) AreMadeOfBytes }
+    ensures answers { Answers (DeleteDue target.entry.field.now target.entry.text.now (D.files dir.old)) (Rose (D.faults dir.old) (D.faults dir.new))
+        (record { files = D.files dir.old; taken = K.taken out.old }) (record { files = D.files dir.new; taken = K.taken out.new }) result }
+    ensures asked { D.asked dir.new ≡ D.asked dir.old }
+    ensures folder { IsCaused (D.faults dir.old) (D.faults dir.new) (IsDirFault result) }
+    ensures input { result ≢ Status.Device Which.Source }
+    ensures output { IsCaused (K.faults out.old) (K.faults out.new) (result ≡ Status.Device Which.Sink) }
+{
+    match delete_outcome(alloc, target, dir) {
+        Ok(outcome) => finish(alloc, &outcome, dir, out),
+        Err(fail) => given_up(fail),
+    }
+}
+
+/// Answers `merge` in the folder that was entered.
+fn merge<D: Dir, K: Sink>(alloc: Global, compound: bool, dir: &mut D, out: &mut K) -> Status
+    requires { ForSome (D.files dir.old) AreMadeOfBytes }
+    ensures answers { Answers (MergeDue compound (D.files dir.old)) (Rose (D.faults dir.old) (D.faults dir.new))
+        (record { files = D.files dir.old; taken = K.taken out.old }) (record { files = D.files dir.new; taken = K.taken out.new }) result }
+    ensures asked { D.asked dir.new ≡ D.asked dir.old }
+    ensures folder { IsCaused (D.faults dir.old) (D.faults dir.new) (IsDirFault result) }
+    ensures input { result ≢ Status.Device Which.Source }
+    ensures output { IsCaused (K.faults out.old) (K.faults out.new) (result ≡ Status.Device Which.Sink) }
+{
+    match merge_outcome(alloc, compound, dir) {
+        Ok(outcome) => finish(alloc, &outcome, dir, out),
+        Err(fail) => given_up(fail),
     }
 }
 
@@ -67,7 +114,8 @@ fn conclude<D: Dir, S: Source, K: Sink>(
     src: &mut S,
     out: &mut K,
 ) -> Status
-    requires { ForSome (D.files dir.old) AreMadeOfBytes }
+    requires made { ForSome (D.files dir.old) AreMadeOfBytes }
+    requires meant { (words : List (List ℕ)) × Means words (meaning_of command) }
     ensures answers { Answers (MeaningDue (meaning_of command.entry) (D.files dir.old) (S.left src.old))
         (Rose (D.faults dir.old) (D.faults dir.new))
         (record { files = D.files dir.old; taken = K.taken out.old }) (record { files = D.files dir.new; taken = K.taken out.new }) result }
@@ -78,9 +126,20 @@ fn conclude<D: Dir, S: Source, K: Sink>(
     ensures unread { ¬ ReadsInput (meaning_of command.entry) → (src.new ≡ src.old) × (result ≢ Status.Device Which.Source) }
     ensures emptied { ReadsInput (meaning_of command.entry) → result ≡ Status.Ok → IsEmptied (S.left src.old) (S.left src.new) }
 {
-    match outcome_of(alloc, command, dir, src) {
-        Ok(outcome) => finish(alloc, &outcome, dir, out),
-        Err(halt) => halted(halt),
+    match command {
+        Command::Fields { segment, .. } => fields(alloc, segment, dir, out),
+        Command::Docs { segment, .. } => docs(alloc, segment, dir, out),
+        Command::Check { .. } => check(alloc, dir, out),
+        Command::Show { .. } => show(alloc, dir, out),
+        Command::Build { compound, .. } => build(alloc, compound, dir, src, out),
+        Command::Delete { field, text, .. } => delete(alloc, Target { field, text }, dir, out),
+        Command::Postings {
+            field,
+            text,
+            from,
+            ..
+        } => postings(alloc, Wanted { field, text, from }, dir, out),
+        Command::Merge { compound, .. } => merge(alloc, compound, dir, out),
     }
 }
 
@@ -92,6 +151,7 @@ fn obey<D: Dir, S: Source, K: Sink>(
     src: &mut S,
     out: &mut K,
 ) -> Status
+    requires { (words : List (List ℕ)) × Means words (meaning_of command) }
     ensures answers { Answers (MeaningDue (meaning_of command.entry) (D.files dir.old) (S.left src.old))
         (Rose (D.faults dir.old) (D.faults dir.new))
         (record { files = D.files dir.old; taken = K.taken out.old }) (record { files = D.files dir.new; taken = K.taken out.new }) result }

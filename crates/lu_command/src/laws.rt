@@ -2,16 +2,16 @@
 ghost use Rattle.std.specs.Prelude.{◌≡◌, ℕ, List, Option, Some};
 ghost use Rattle.lu_dir.specs.Faults.{Rose};
 ghost use Rattle.lu_dir.specs.Files.{Files};
-ghost use Rattle.lu_command.specs.declared.outcome.Outcome.{Outcome};
+ghost use Rattle.lu_outcomes.specs.declared.outcome.Outcome.{Outcome};
 ghost use Rattle.lu_command.specs.Commands.{Meaning, Means};
-ghost use Rattle.lu_command.specs.Outcomes.{IsProper};
+ghost use Rattle.lu_outcomes.specs.Outcomes.{IsProper};
 ghost use Rattle.lu_command.specs.Due.{Due};
-ghost use Rattle.lu_command.specs.Answers.{Scene, Answers};
-ghost use Rattle.lu_command.specs.Asking.{AskFor, MakesCommit};
-ghost use Rattle.lu_command.specs.Printing.{Prints};
+ghost use Rattle.lu_outcomes.specs.Answers.{Scene, Answers};
+ghost use Rattle.lu_command.specs.Asking.{AskFor, CountsSteps, MakesCommit};
+ghost use Rattle.lu_outcomes.specs.Printing.{Prints};
 
-use crate::outcome::Effect;
-use crate::status::Status;
+use lu_outcomes::outcome::Effect;
+use lu_outcomes::status::Status;
 
 /// Words have one meaning at most.
 pub fn one_meaning()
@@ -19,10 +19,18 @@ pub fn one_meaning()
 {}
 
 /// Words, the files of a folder that tells them, and the bytes of an input that tells them determine the outcome: its
-/// answer, its text, and its effect.
+/// answer, its text, and its effect; but where the words ask for numbers of steps, which are bounded and not determined.
 pub fn one_outcome()
     ensures { (words : List (List ℕ)) (files : Files) (input : List ℕ) (one other : Outcome)
-        → Due words (Some files) (Some input) one → Due words (Some files) (Some input) other → one ≡ other }
+        → ¬ AskFor CountsSteps words → Due words (Some files) (Some input) one → Due words (Some files) (Some input) other → one ≡ other }
+{}
+
+/// Whatever the words ask for, they, the files and the input determine the answer of the outcome, and its effect.
+pub fn one_answer()
+    ensures status { (words : List (List ℕ)) (files : Files) (input : List ℕ) (one other : Outcome)
+        → Due words (Some files) (Some input) one → Due words (Some files) (Some input) other → one.status ≡ other.status }
+    ensures effect { (words : List (List ℕ)) (files : Files) (input : List ℕ) (one other : Outcome)
+        → Due words (Some files) (Some input) one → Due words (Some files) (Some input) other → one.effect ≡ other.effect }
 {}
 
 /// An outcome that is due has an answer that says neither that something failed nor that memory ended; only one with `Ok`

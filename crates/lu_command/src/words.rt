@@ -1,9 +1,9 @@
 //! Options and arguments among the words of a call.
-ghost use Rattle.std.specs.Prelude.{◌≡◌, ◌≢◌, List, ℕ, Bool, false, [], ◌∷◌, ◌++◌, filter, MatchOption, string_bytes, slice_get};
+ghost use Rattle.std.specs.Prelude.{◌≡◌, ◌≢◌, List, ℕ, Bool, false, [], ◌∷◌, ◌++◌, filter, IsTrue, ◌↔◌, MatchOption, string_bytes, slice_get};
 ghost use Rattle.std.specs.Option.{option_copied};
 ghost use Rattle.std.specs.List.{before_first, after_first, list_any, position};
 ghost use Rattle.lu_dir.specs.Loading.{texts};
-ghost use Rattle.lu_command.specs.Words.{ends_options, is_option, options_in, arguments_in, options_asking, is_asked_for, AreFew, HasDir, HasDirAndCompound, HasDirAndSegment};
+ghost use Rattle.lu_command.specs.Words.{ends_options, is_option, options_in, arguments_in, options_asking, is_asked_for, AreFew, HasDir, HasDirAndCompound, HasDirAndSegment, HasDirAndTerm, IsNumber, IsFirst, HasDirTermAndFrom};
 
 use lu_types::segment_number;
 
@@ -134,6 +134,91 @@ pub(crate) fn dir_and_segment(words: &[String]) -> Option<(&str, &str)>
     let (dir, segment) = two_arguments(words)?;
     segment_number(segment)?;
     Some((dir, segment))
+}
+
+/// The arguments of a command that takes a folder, the name of a field and a text, and no options, from the words after its name.
+pub(crate) fn dir_and_term(words: &[String]) -> Option<(&str, &str, &str)>
+    ensures { MatchOption result
+        ((dir field text : List ℕ) → ¬ HasDirAndTerm (texts words.now) dir field text)
+        (λ found. HasDirAndTerm (texts words.now) found.0.now found.1.now found.2.now) }
+{
+    let (ahead, behind) = around_end(words);
+    if has_option(ahead) {
+        return None;
+    }
+    let dir = word_at(ahead, behind, 0)?;
+    let field = word_at(ahead, behind, 1)?;
+    let text = word_at(ahead, behind, 2)?;
+    match word_at(ahead, behind, 3) {
+        Some(_) => None,
+        None => Some((dir, field, text)),
+    }
+}
+
+/// The most digits of the number of a document.
+const MOST_DIGITS: usize = 19;
+
+/// How many numbers a document may have: they are below this.
+const DOCUMENT_LIMIT: u32 = 1 << 31;
+
+/// Whether the word is one decimal digit or more, and not more than the most.
+fn is_number(word: &str) -> bool
+    ensures { IsTrue result ↔ IsNumber word.now }
+{
+    let bytes = word.as_bytes();
+    let fits = bytes.len() >= 1 && bytes.len() <= MOST_DIGITS;
+    fits && bytes.iter().all(|byte| matches!(byte, b'0'..=b'9'))
+}
+
+/// The number of a document that the word is, in decimal digits; `None` where it is none.
+fn first_document(word: &str) -> Option<u32>
+    ensures { MatchOption result
+        ((from : ℕ) → ¬ IsFirst word.now from)
+        (λ from. IsFirst word.now from) }
+{
+    if !is_number(word) {
+        return None;
+    }
+    let Ok(from) = word.parse::<u32>() else {
+        return None;
+    };
+    if from < DOCUMENT_LIMIT {
+        Some(from)
+    } else {
+        None
+    }
+}
+
+/// The arguments of a command that takes a folder, the name of a field, a text and a first document, and no options, from the
+/// words after its name.
+pub(crate) fn dir_term_and_from(words: &[String]) -> Option<(&str, &str, &str, u32)>
+    ensures { MatchOption result
+        ((dir field text : List ℕ) (from : ℕ) → ¬ HasDirTermAndFrom (texts words.now) dir field text from)
+        (λ found. HasDirTermAndFrom (texts words.now) found.0.now found.1.now found.2.now found.3) }
+{
+    let (dir, field, text, number) = four_arguments(words)?;
+    let from = first_document(number)?;
+    Some((dir, field, text, from))
+}
+
+// The four arguments among words that are no options, where there are four and no option.
+fn four_arguments(words: &[String]) -> Option<(&str, &str, &str, &str)>
+    ensures { MatchOption result
+        ((a b c d : List ℕ) → options_in (texts words.now) ≡ [] → arguments_in (texts words.now) ≢ a ∷ b ∷ c ∷ d ∷ [])
+        (λ all. (options_in (texts words.now) ≡ []) × (arguments_in (texts words.now) ≡ all.0.now ∷ all.1.now ∷ all.2.now ∷ all.3.now ∷ [])) }
+{
+    let (ahead, behind) = around_end(words);
+    if has_option(ahead) {
+        return None;
+    }
+    let first = word_at(ahead, behind, 0)?;
+    let second = word_at(ahead, behind, 1)?;
+    let third = word_at(ahead, behind, 2)?;
+    let fourth = word_at(ahead, behind, 3)?;
+    match word_at(ahead, behind, 4) {
+        Some(_) => None,
+        None => Some((first, second, third, fourth)),
+    }
 }
 
 // The two arguments among words that are no options, where there are two and no option.

@@ -91,22 +91,22 @@ positions-documents intervals docs lacks = positions-unwritten intervals docs la
 -- ---- what was written
 
 -- the bytes of the file with a number in a list
-abbrev bytes_at : ℕ → List NamedFile → List ℕ
+abbrev pub bytes_at : ℕ → List NamedFile → List ℕ
 bytes_at n files = (get_or files n (named Fnm [])).bytes
 
-norms-there : (has : Bool) (due : List ℕ) (nrm : Option (List ℕ)) → given_norms nrm ≡ cond has (named Nrm due ∷ []) [] → nrm ≡ cond has (Some due) None
+pub norms-there : (has : Bool) (due : List ℕ) (nrm : Option (List ℕ)) → given_norms nrm ≡ cond has (named Nrm due ∷ []) [] → nrm ≡ cond has (Some due) None
 norms-there true due None is = cc
 norms-there true due (Some nrm) is = ap (λ files. Some (bytes_at 0 files)) is
 norms-there false due None is = refl
 norms-there false due (Some nrm) is = cc
 
 -- the files of vectors are those of documents, where these have some
-record AreVectorFiles (has : Bool) (vectors : List (List StoredVector)) (files : Option VectorFiles) : Type 0 where
+pub record AreVectorFiles (has : Bool) (vectors : List (List StoredVector)) (files : Option VectorFiles) : Type 0 where
   pub tvx : option_map (λ (v : VectorFiles). v.tvx) files ≡ cond has (Some (tvx_bytes vectors)) None
   pub tvd : option_map (λ (v : VectorFiles). v.tvd) files ≡ cond has (Some (tvd_bytes vectors)) None
   pub tvf : option_map (λ (v : VectorFiles). v.tvf) files ≡ cond has (Some (tvf_bytes vectors)) None
 
-vectors-there : (has : Bool) (vectors : List (List StoredVector)) (files : Option VectorFiles) → given_vectors files ≡ vector_files_due has vectors → AreVectorFiles has vectors files
+pub vectors-there : (has : Bool) (vectors : List (List StoredVector)) (files : Option VectorFiles) → given_vectors files ≡ vector_files_due has vectors → AreVectorFiles has vectors files
 vectors-there true vectors None is = cc
 vectors-there true vectors (Some v) is = record {
   tvx = ap (λ files. Some (bytes_at 2 files)) is;

@@ -38,7 +38,7 @@ omits false true i h = refl
 omits false false i h = absurd (false≢true i)
 
 -- an indexed field of the table omits positions
-field-omits : (table : List TableField) (f : TableField) → keep_positions table ≡ false → IsIn f table → has_bit bit.indexed f.bits ≡ true → has_bit bit.omit_tf f.bits ≡ true
+pub field-omits : (table : List TableField) (f : TableField) → keep_positions table ≡ false → IsIn f table → has_bit bit.indexed f.bits ≡ true → has_bit bit.omit_tf f.bits ≡ true
 field-omits [] f lacks h indexed = absurd h
 field-omits (g ∷ table) f lacks (inl same) indexed =
     let here = neither (has_bit bit.indexed g.bits && not (has_bit bit.omit_tf g.bits)) (keep_positions table) lacks in
@@ -69,15 +69,15 @@ entries-omitted table term m [] omit = tt
 entries-omitted table term m (c ∷ contents) omit =
     entry-omitted table term m (c.occurrences term) (filter_map (entry_of table term) (enumerate_from (m + 1) contents)) omit (entries-omitted table term (m + 1) contents omit)
 
-terms-unwritten : (table : List TableField) (docs : List Document) (terms : List Term) → ((t : Term) → IsIn t terms → has_bit bit.omit_tf (bits_of t.field table) ≡ true)
-    → Each (λ (k : KeptTerm). prx_bytes k.payloads k.term.entries ≡ []) (kept_terms table (map (indexed_term table (map content_of docs)) terms))
-terms-unwritten table docs [] h = tt
-terms-unwritten table docs (t ∷ terms) h = (
-  prx_bytes-omitted (has_bit bit.payloads (bits_at table (field_number t.field table))) (indexed_term table (map content_of docs) t).entries (entries-omitted table t 0 (map content_of docs) (h t (inl refl))),
-  terms-unwritten table docs terms (λ u k. h u (inr k)),
+pub terms-unwritten : (table : List TableField) (contents : List Content) (terms : List Term) → ((t : Term) → IsIn t terms → has_bit bit.omit_tf (bits_of t.field table) ≡ true)
+    → Each (λ (k : KeptTerm). prx_bytes k.payloads k.term.entries ≡ []) (kept_terms table (map (indexed_term table contents) terms))
+terms-unwritten table contents [] h = tt
+terms-unwritten table contents (t ∷ terms) h = (
+  prx_bytes-omitted (has_bit bit.payloads (bits_at table (field_number t.field table))) (indexed_term table contents t).entries (entries-omitted table t 0 contents (h t (inl refl))),
+  terms-unwritten table contents terms (λ u k. h u (inr k)),
 )
 
-parts-unwritten : (i : PostingIntervals) (terms : List KeptTerm) (parts : PostingParts) → parts.prx ≡ [] → Each (λ (k : KeptTerm). prx_bytes k.payloads k.term.entries ≡ []) terms → (with_all_postings i parts terms).prx ≡ []
+pub parts-unwritten : (i : PostingIntervals) (terms : List KeptTerm) (parts : PostingParts) → parts.prx ≡ [] → Each (λ (k : KeptTerm). prx_bytes k.payloads k.term.entries ≡ []) terms → (with_all_postings i parts terms).prx ≡ []
 parts-unwritten i [] parts is h = is
 parts-unwritten i (t ∷ terms) parts is h = parts-unwritten i terms (with_postings i parts t) (ap (λ w. w ++ prx_bytes t.payloads t.term.entries) is ∙ h.0) h.1
 
@@ -86,7 +86,7 @@ unfolding index_of
 positions-unwritten i docs lacks =
     let table = table_of docs in
     let keys = flat_map (λ (content : Content). content.terms) (map content_of docs) in
-    parts-unwritten i (kept_terms table (map (indexed_term table (map content_of docs)) (in_order term_cmp keys))) no_parts refl (terms-unwritten table docs (in_order term_cmp keys) (λ t k.
+    parts-unwritten i (kept_terms table (map (indexed_term table (map content_of docs)) (in_order term_cmp keys))) no_parts refl (terms-unwritten table (map content_of docs) (in_order term_cmp keys) (λ t k.
     let content = from_flat_map (λ (x : Content). x.terms) t (map content_of docs) (from_in_order term_cmp term_order t keys k) in
     let doc = from_map content_of content.0 docs content.1 in
     let s = stands_in doc.0 t (subst (λ (w : Content). IsIn t w.terms) doc.2 content.2) in

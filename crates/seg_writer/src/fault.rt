@@ -29,7 +29,7 @@ impl From<OutOfMemory> for WriteFault {
 }
 
 /// Why a segment was not written, where its terms were not.
-pub(crate) fn fault_of(fault: PostingFault) -> WriteFault
+pub fn fault_of(fault: PostingFault) -> WriteFault
     ensures { result ≡ write_fault fault }
 {
     match fault {

@@ -16,11 +16,7 @@ use std::alloc::Global;
 const NUMBERS: usize = 0x8000_0000;
 
 /// The file of the field table, or that it passes the limit.
-pub(crate) fn write_fields(
-    alloc: Global,
-    limit: u32,
-    fields: &[FieldInfo],
-) -> Result<Bytes, WriteFault>
+pub fn write_fields(alloc: Global, limit: u32, fields: &[FieldInfo]) -> Result<Bytes, WriteFault>
     requires limit { limit < 2 ^ 31 }
     requires table { length fields.now < 2 ^ 31 → IsTable fields.now }
     requires short { All (λ info. length info.name < 2 ^ 31) fields.now }
@@ -37,7 +33,7 @@ pub(crate) fn write_fields(
 }
 
 /// Whether some field keeps positions.
-pub(crate) fn keep_positions(fields: &[FieldInfo]) -> bool
+pub fn keep_positions(fields: &[FieldInfo]) -> bool
     ensures { result ≡ keep_positions fields.now }
 {
     fields.iter().any(|field| has_bit(INDEXED, field.bits) && !has_bit(OMIT_TF, field.bits))

@@ -11,6 +11,7 @@ mod inverted;
 pub mod laws;
 mod norms;
 mod packing;
+pub mod parts;
 mod segment;
 mod stored;
 mod table;

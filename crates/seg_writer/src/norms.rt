@@ -21,7 +21,7 @@ const MISSING_NORM: u8 = 124;
 const HEADER_BYTES: u64 = 4;
 
 /// Whether a field with these bits has norms.
-pub(crate) fn has_norms(bits: u8) -> bool
+pub fn has_norms(bits: u8) -> bool
     ensures { result ≡ has_norms bits }
 {
     has_bit(INDEXED, bits) && !has_bit(OMIT_NORMS, bits)
@@ -72,8 +72,8 @@ fn add_column(
     add_missing(writer, documents - next)
 }
 
-// How many fields have norms.
-fn norm_count(fields: &[FieldInfo]) -> u64
+/// How many fields have norms.
+pub fn norm_count(fields: &[FieldInfo]) -> u64
     requires { length fields.now < 2 ^ 31 }
     ensures count { result ≡ count_with_norms fields.now }
     ensures few { result < 2 ^ 31 }

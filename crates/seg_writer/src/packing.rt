@@ -19,13 +19,13 @@ use term_vectors::VectorFiles;
 
 /// The parts of a segment; positions, norms and vectors only where they are written.
 #[derive(Drop)]
-pub(crate) struct WrittenParts {
-    pub(crate) fnm: Bytes,
-    pub(crate) stored: StoredFiles,
-    pub(crate) postings: PostingFiles,
-    pub(crate) has_prox: bool,
-    pub(crate) nrm: Option<Bytes>,
-    pub(crate) vectors: Option<VectorFiles>,
+pub struct WrittenParts {
+    pub fnm: Bytes,
+    pub stored: StoredFiles,
+    pub postings: PostingFiles,
+    pub has_prox: bool,
+    pub nrm: Option<Bytes>,
+    pub vectors: Option<VectorFiles>,
 }
 
 // Adds a file.

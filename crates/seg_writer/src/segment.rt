@@ -97,8 +97,8 @@ fn parts_of<'d>(
     })
 }
 
-// The files of parts, packed where that is asked for, or that the packed file passes the limit.
-fn files_of(
+/// The files of parts, packed where that is asked for, or that the packed file passes the limit.
+pub fn files_of(
     alloc: Global,
     options: &WriteOptions,
     parts: WrittenParts,

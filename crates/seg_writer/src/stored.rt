@@ -17,7 +17,7 @@ use stored_fields::{StoredFiles, StoredWriter};
 const NUMBERS: usize = 0x8000_0000;
 
 /// The number of the field with a name, which is in the table.
-pub(crate) fn number_in(table: &JoinedTable<'_>, name: &str) -> u32
+pub fn number_in(table: &JoinedTable<'_>, name: &str) -> u32
     requires there { IsSome (number_of name.now table.now) }
     requires few { length table.now < 2 ^ 31 }
     ensures number { result ≡ field_number name.now table.now }

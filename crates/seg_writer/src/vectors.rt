@@ -28,8 +28,8 @@ const POSITIONS: u8 = 1;
 /// The bit of a vector that keeps offsets.
 const OFFSETS: u8 = 2;
 
-// Whether some field has vectors.
-fn have_vectors(fields: &[FieldInfo]) -> bool
+/// Whether some field has vectors.
+pub fn have_vectors(fields: &[FieldInfo]) -> bool
     ensures { result ≡ some_have_vectors fields.now }
 {
     fields.iter().any(|field| has_bit(VECTORS, field.bits))

@@ -1,7 +1,7 @@
 use Rattle.std.proofs.Common.{None}
 use Rattle.lu_dir.specs.Loading.{texts}
 use Rattle.lu_command.specs.Due.{Due}
-use Rattle.lu_command.proofs.AnswerLemmas.{IsAnswered-answers}
+use Rattle.lu_outcomes.proofs.AnswerLemmas.{IsAnswered-answers}
 use Rattle.lucene3.proofs.answer.Goals as goal
 
 pub returns : goal.returns

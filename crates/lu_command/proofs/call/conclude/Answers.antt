@@ -1,30 +1,32 @@
-use Rattle.std.proofs.Common.{◌≡◌, Option, sym, subst}
-use Rattle.lu_dir.specs.Faults.{Rose}
-use Rattle.lu_dir.proofs.Causes.{Rose-earlier}
-use Rattle.lu_dir.specs.Files.{Files}
-use Rattle.lu_command.specs.Answers.{Answers}
+use Rattle.std.proofs.Common.{subst}
+use Rattle.lu_command.specs.Commands.{Means}
 use Rattle.lu_command.specs.Meanings.{meaning_of}
-use Rattle.lu_command.specs.Due.{MeaningDue}
-use Rattle.lu_command.proofs.AnswerLemmas.{Answers-wider, Answers-ok}
-use Rattle.lu_command.proofs.DueLemmas.{MeaningDue-proper}
+use Rattle.lu_command.specs.declared.command.Command.{Command}
 use Rattle.lu_command.proofs.call.conclude.Goals as goal
 
-pub returns-in-Ok-clause-answers : goal.returns-in-Ok-clause-answers
-returns-in-Ok-clause-answers g c =
-    let files = g.D.Dir.files c.args.dir.now in
-    let input = g.S.Source.left c.args.src.now in
-    let outcome = c.in-Ok.outcome in
-    Answers-wider (λ due. due ≡ outcome) (MeaningDue (meaning_of c.args.command) files input) (λ due is. subst (MeaningDue (meaning_of c.args.command) files input) (sym is) c.in-Ok.ensures.due)
-    (Rose (g.D.Dir.faults c.outcome_of.new.dir) (g.D.Dir.faults c.finish.new.dir)) (Rose (g.D.Dir.faults c.args.dir.now) (g.D.Dir.faults c.finish.new.dir))
-    (λ rose. Rose-earlier (g.D.Dir.faults c.args.dir.now) (g.D.Dir.faults c.outcome_of.new.dir) (g.D.Dir.faults c.finish.new.dir) c.in-Ok.ensures.folder.later rose)
-    (record { files = files; taken = g.K.Sink.taken c.args.out.now }) (record { files = g.D.Dir.files c.finish.new.dir; taken = g.K.Sink.taken c.finish.new.out }) c.finish.result
-    (subst (λ (told : Option Files). Answers (λ due. due ≡ outcome) (Rose (g.D.Dir.faults c.outcome_of.new.dir) (g.D.Dir.faults c.finish.new.dir))
-    (record { files = told; taken = g.K.Sink.taken c.args.out.now }) (record { files = g.D.Dir.files c.finish.new.dir; taken = g.K.Sink.taken c.finish.new.out }) c.finish.result) c.in-Ok.ensures.files c.finish.ensures.answers)
+pub returns-in-Fields-clause-answers : goal.returns-in-Fields-clause-answers
+returns-in-Fields-clause-answers g c = rw c.in-Fields.is c.fields.ensures.answers
 
-pub finish-requires : goal.finish-requires
-finish-requires g c = (MeaningDue-proper (g.D.Dir.files c.args.dir.now) (g.S.Source.left c.args.src.now) c.in-Ok.outcome (meaning_of c.args.command) c.in-Ok.ensures.due).answer
+pub returns-in-Docs-clause-answers : goal.returns-in-Docs-clause-answers
+returns-in-Docs-clause-answers g c = rw c.in-Docs.is c.docs.ensures.answers
 
-pub returns-in-Ok-clause-emptied : goal.returns-in-Ok-clause-emptied
-returns-in-Ok-clause-emptied g c reads ok =
-    c.in-Ok.ensures.emptied reads (Answers-ok c.in-Ok.outcome (Rose (g.D.Dir.faults c.outcome_of.new.dir) (g.D.Dir.faults c.finish.new.dir))
-    (record { files = g.D.Dir.files c.outcome_of.new.dir; taken = g.K.Sink.taken c.args.out.now }) (record { files = g.D.Dir.files c.finish.new.dir; taken = g.K.Sink.taken c.finish.new.out }) c.finish.result c.finish.ensures.answers ok)
+pub returns-in-Check-clause-answers : goal.returns-in-Check-clause-answers
+returns-in-Check-clause-answers g c = rw c.in-Check.is c.check.ensures.answers
+
+pub returns-in-Show-clause-answers : goal.returns-in-Show-clause-answers
+returns-in-Show-clause-answers g c = rw c.in-Show.is c.show.ensures.answers
+
+pub returns-in-Build-clause-answers : goal.returns-in-Build-clause-answers
+returns-in-Build-clause-answers g c = rw c.in-Build.is c.build.ensures.answers
+
+pub returns-in-Delete-clause-answers : goal.returns-in-Delete-clause-answers
+returns-in-Delete-clause-answers g c = rw c.in-Delete.is c.delete.ensures.answers
+
+pub postings-requires-clause-from : goal.postings-requires-clause-from
+postings-requires-clause-from g c = (subst (λ (command : Command). Means c.requires.meant.0 (meaning_of command)) c.in-Postings.is c.requires.meant.1).2.first.small
+
+pub returns-in-Postings-clause-answers : goal.returns-in-Postings-clause-answers
+returns-in-Postings-clause-answers g c = rw c.in-Postings.is c.postings.ensures.answers
+
+pub returns-in-Merge-clause-answers : goal.returns-in-Merge-clause-answers
+returns-in-Merge-clause-answers g c = rw c.in-Merge.is c.merge.ensures.answers

@@ -4,8 +4,8 @@ use Rattle.lu_dir.proofs.Causes.{Rose-earlier}
 use Rattle.lu_dir.specs.Files.{Files}
 use Rattle.lu_command.specs.Meanings.{meaning_of}
 use Rattle.lu_command.specs.Due.{MeaningDue}
-use Rattle.lu_command.specs.Answers.{Answers}
-use Rattle.lu_command.proofs.AnswerLemmas.{Answers-wider}
+use Rattle.lu_outcomes.specs.Answers.{Answers}
+use Rattle.lu_outcomes.proofs.AnswerLemmas.{Answers-wider}
 use Rattle.lu_command.proofs.call.obey.Goals as goal
 
 pub returns-in-Ok-clause-answers : goal.returns-in-Ok-clause-answers

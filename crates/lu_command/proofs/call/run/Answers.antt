@@ -2,15 +2,15 @@ use Rattle.std.proofs.Common.{◌≡◌, ℕ, List, refl, inl, subst}
 use Rattle.std.proofs.Common.{inr}
 use Rattle.lu_dir.specs.Faults.{Rose}
 use Rattle.lu_dir.specs.Loading.{texts}
-use Rattle.lu_command.specs.declared.status.Status.TheVariants.{Usage}
+use Rattle.lu_outcomes.specs.declared.status.Status.TheVariants.{Usage}
 use Rattle.lu_command.specs.Meanings.{meaning_of}
-use Rattle.lu_command.specs.Outcomes.{usage_outcome}
+use Rattle.lu_outcomes.specs.Outcomes.{usage_outcome}
 use Rattle.lu_command.specs.Due.{MeaningDue, Due}
-use Rattle.lu_command.specs.Telling.{Tells}
-use Rattle.lu_command.specs.Answers.{done}
-use Rattle.lu_command.proofs.AnswerLemmas.{IsDone-idle, Answers-told, Answers-wider}
+use Rattle.lu_outcomes.specs.Telling.{Tells}
+use Rattle.lu_outcomes.specs.Answers.{done}
+use Rattle.lu_outcomes.proofs.AnswerLemmas.{IsDone-idle, Answers-told, Answers-wider}
 use Rattle.lu_command.proofs.DueLemmas.{Due-proper, Completes-answers}
-use Rattle.lu_command.proofs.SafetyLemmas.{Leaves-answers}
+use Rattle.lu_outcomes.proofs.SafetyLemmas.{Leaves-answers}
 use Rattle.lu_command.proofs.call.run.Goals as goal
 
 pub returns-in-Some-clause-answers : goal.returns-in-Some-clause-answers

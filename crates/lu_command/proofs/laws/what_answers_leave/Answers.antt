@@ -1,7 +1,7 @@
 use Rattle.lu_dir.specs.Faults.{Rose}
 use Rattle.lu_command.specs.Due.{Due}
-use Rattle.lu_command.proofs.AnswerLemmas.{Answers-files}
-use Rattle.lu_command.proofs.PrintsLemmas.{Prints-answers}
+use Rattle.lu_outcomes.proofs.AnswerLemmas.{Answers-files}
+use Rattle.lu_outcomes.proofs.PrintsLemmas.{Prints-answers}
 use Rattle.lu_command.proofs.DueLemmas.{Due-idle, Due-proper}
 use Rattle.lu_command.proofs.laws.what_answers_leave.Goals as goal
 

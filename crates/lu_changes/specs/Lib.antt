@@ -1,0 +1,9 @@
+pub mod Basis
+pub mod Building
+pub mod Deleting
+pub mod EntryMarks
+pub mod Following
+pub mod Inputs
+pub mod Marked
+pub mod Merging
+pub mod Upshots

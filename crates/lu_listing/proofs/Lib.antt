@@ -1,0 +1,14 @@
+pub mod DigitLemmas
+pub mod EntryLemmas
+pub mod NamedLemmas
+pub mod NumberedLemmas
+pub mod PieceLemmas
+pub mod PrinterLemmas
+pub mod PrintingLemmas
+pub mod ReachedLemmas
+pub mod ReachedTexts
+pub mod RestLemmas
+pub mod RoomLemmas
+pub mod SplitLemmas
+pub mod TermLemmas
+pub mod WalkLemmas

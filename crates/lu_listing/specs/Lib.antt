@@ -1,0 +1,6 @@
+pub mod Printing
+pub mod Lines
+pub mod Listing
+pub mod Reached
+pub mod InnerEntries
+pub mod InnerTerms

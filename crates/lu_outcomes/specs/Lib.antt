@@ -1,0 +1,10 @@
+pub mod Answers
+pub mod Codes
+pub mod Effects
+pub mod Halting
+pub mod Outcomes
+pub mod Printing
+pub mod Refusing
+pub mod Safety
+pub mod Telling
+pub mod Texts

@@ -1,0 +1,14 @@
+pub mod IdleLemmas
+pub mod LoadLemmas
+pub mod FilesSayLemmas
+pub mod FoundLemmas
+pub mod SegmentLemmas
+pub mod CheckLemmas
+pub mod StopLemmas
+pub mod ReadAsLemmas
+pub mod HoldingLemmas
+pub mod CurrentLemmas
+pub mod ReachedLemmas
+pub mod ShowingLemmas
+pub mod OpeningLemmas
+pub mod PrintedLemmas

@@ -1,0 +1,13 @@
+pub mod Checking
+pub mod Current
+pub mod Files
+pub mod FilesDue
+pub mod Finding
+pub mod Holding
+pub mod Naming
+pub mod Needs
+pub mod Reaching
+pub mod Segments
+pub mod Showing
+pub mod Standing
+pub mod Stopping

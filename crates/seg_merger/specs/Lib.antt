@@ -1,0 +1,11 @@
+pub mod Merged
+pub mod TermContests
+pub mod TermHeads
+pub mod TermNumbers
+pub mod TermRests
+pub mod TermSlots
+pub mod TermSources
+pub mod TermSteps
+pub mod MergeSteps
+pub mod Renumbered
+pub mod VectorSteps

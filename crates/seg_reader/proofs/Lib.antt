@@ -1,0 +1,16 @@
+pub mod AheadLemmas
+pub mod AnswerLemmas
+pub mod BesideLemmas
+pub mod DictionaryTerms
+pub mod EntriesSeen
+pub mod MoveLemmas
+pub mod NextLemmas
+pub mod OccurrenceLemmas
+pub mod OpenLemmas
+pub mod OverLemmas
+pub mod ReaderLemmas
+pub mod SaidTerms
+pub mod SkipLemmas
+pub mod StepLemmas
+pub mod TogetherLemmas
+pub mod WalkLists

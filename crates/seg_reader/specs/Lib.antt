@@ -1,0 +1,6 @@
+pub mod Kept
+pub mod Terms
+pub mod Postings
+pub mod InnerScan
+pub mod InnerBeside
+pub mod InnerCursor

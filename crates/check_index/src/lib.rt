@@ -20,8 +20,3 @@ mod vectors;
 pub use judging::check_segment;
 pub use parts::{CheckFault, Parts, SepFiles};
 pub use standing::Standing;
-
-#[cfg(test)]
-mod standing_tests;
-#[cfg(test)]
-mod tests;

@@ -10,6 +10,10 @@ mod check_row_tests;
 #[cfg(test)]
 mod check_tests;
 #[cfg(test)]
+mod choosing_tests;
+#[cfg(test)]
+mod commit_tests;
+#[cfg(test)]
 mod delete_tests;
 #[cfg(test)]
 mod docs_tests;

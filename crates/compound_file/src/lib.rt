@@ -10,6 +10,3 @@ mod reading;
 
 pub use packing::{PackFault, pack};
 pub use parts::{CfsEntries, split};
-
-#[cfg(test)]
-mod tests;

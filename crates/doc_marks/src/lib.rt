@@ -19,7 +19,4 @@ pub use live::Live;
 pub use marks::Marks;
 pub use norms::{NormWriter, Norms, check_separate};
 pub use walk::LiveWalk;
-pub use writing::write_del;
-
-#[cfg(test)]
-mod tests;
+pub use writing::{put_dense, put_sparse, write_del};

@@ -10,6 +10,3 @@ pub use writing::{write, written_reads};
 
 /// The format number -2, as the VInt that spells it.
 const FORMAT: u32 = 0xFFFF_FFFE;
-
-#[cfg(test)]
-mod tests;

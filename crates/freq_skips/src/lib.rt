@@ -28,8 +28,3 @@ pub use skip_point::SkipPoint;
 pub use skips::Skips;
 pub use walk::{Datum, Walk, WalkedEntry};
 pub use writer::FreqWriter;
-
-#[cfg(test)]
-mod drawn_tests;
-#[cfg(test)]
-mod tests;

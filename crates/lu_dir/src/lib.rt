@@ -34,6 +34,3 @@ pub use plan::{Fail, Left};
 pub use reading::read_all;
 pub use stream::{Sink, Source};
 pub use writing::write_all;
-
-#[cfg(test)]
-mod tests;

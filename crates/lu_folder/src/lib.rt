@@ -22,8 +22,3 @@ pub use putting::{put_file, put_files};
 pub use reading::read_segment;
 pub use sealing::seal;
 pub use sweeping::sweep;
-
-#[cfg(test)]
-mod choosing_tests;
-#[cfg(test)]
-mod commit_tests;

@@ -6,8 +6,6 @@ pub mod laws;
 mod lines;
 mod members;
 mod objects;
-#[cfg(test)]
-mod tests;
 mod words;
 
 pub use fault::{InputFault, LineFault};

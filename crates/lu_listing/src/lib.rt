@@ -14,9 +14,7 @@ mod vectors;
 
 pub use documents::document_text;
 pub use listing::{norms_text, segment_text};
+pub use pieces::{hex_text, number_text, quoted_text};
 pub use postings::{PostingsCounts, PostingsQuery, postings_text};
 pub use printer::Printer;
 pub use stored::{doc_text, docs_text, fields_text};
-
-#[cfg(test)]
-mod tests;

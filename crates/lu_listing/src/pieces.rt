@@ -23,7 +23,7 @@ const FIRST_NO_CONTROL: u8 = 0x20;
 const HEX_BYTES: usize = 32;
 
 /// Prints a number in decimal digits.
-pub(crate) fn number_text<K: Sink>(printer: &mut Printer, out: &mut K, number: u64)
+pub fn number_text<K: Sink>(printer: &mut Printer, out: &mut K, number: u64)
     ensures { Prints (page printer.old (K.taken out.old) (K.faults out.old)) (page printer.new (K.taken out.new) (K.faults out.new)) (decimal number) }
 {
     printer.put_number(out, number);
@@ -85,7 +85,7 @@ fn escaped_text<K: Sink>(printer: &mut Printer, out: &mut K, byte: u8)
 }
 
 /// Prints a text between quotes. What stands for itself goes out in runs.
-pub(crate) fn quoted_text<K: Sink>(printer: &mut Printer, out: &mut K, text: &str)
+pub fn quoted_text<K: Sink>(printer: &mut Printer, out: &mut K, text: &str)
     ensures { Prints (page printer.old (K.taken out.old) (K.faults out.old)) (page printer.new (K.taken out.new) (K.faults out.new)) (text_quoted text.now) }
 {
     let bytes = text.as_bytes();
@@ -116,7 +116,7 @@ fn short_hex_text<K: Sink>(printer: &mut Printer, out: &mut K, bytes: &[u8])
 }
 
 /// Prints bytes in hexadecimal digits.
-pub(crate) fn hex_text<K: Sink>(printer: &mut Printer, out: &mut K, bytes: &[u8])
+pub fn hex_text<K: Sink>(printer: &mut Printer, out: &mut K, bytes: &[u8])
     ensures { Prints (page printer.old (K.taken out.old) (K.faults out.old)) (page printer.new (K.taken out.new) (K.faults out.new)) (encode_lower bytes.now) }
 {
     let mut rest = bytes;

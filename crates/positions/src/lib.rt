@@ -17,8 +17,3 @@ pub use laws::{
 };
 pub use occurrences::{Occ, Occurrences};
 pub use writer::ProxWriter;
-
-#[cfg(test)]
-mod drawn_tests;
-#[cfg(test)]
-mod tests;

@@ -10,6 +10,3 @@ pub use fault::PostingFault;
 pub use laws::{positions_pass, postings_may_follow, postings_written};
 pub use lists::ListWriter;
 pub use writer::{PostingFiles, PostingWriter};
-
-#[cfg(test)]
-mod tests;

@@ -14,6 +14,3 @@ pub use fault::MergeFault;
 pub use merging::merge;
 pub use segment_files::{SegmentFiles, WriteOptions};
 pub use sources::{Refused, Sources};
-
-#[cfg(test)]
-mod tests;

@@ -11,8 +11,3 @@ mod scan;
 
 pub use postings::PostingsCursor;
 pub use reader::SegReader;
-
-#[cfg(test)]
-mod samples;
-#[cfg(test)]
-mod tests;

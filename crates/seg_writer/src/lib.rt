@@ -22,6 +22,3 @@ mod vectors;
 pub use fault::WriteFault;
 pub use segment::write_segment;
 pub use segment_files::{SegmentFiles, WriteOptions};
-
-#[cfg(test)]
-mod tests;

@@ -28,10 +28,3 @@ pub use naming::{LuceneName, name_text, name_value};
 pub use reading::read;
 pub use removing::{Kept, push_del_names, push_norm_names, removable, removable_all};
 pub use writing::{write, write_pending};
-
-#[cfg(test)]
-mod drawn_tests;
-#[cfg(test)]
-mod name_tests;
-#[cfg(test)]
-mod tests;

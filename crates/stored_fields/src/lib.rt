@@ -16,6 +16,3 @@ pub use places::check_places;
 pub use value::{StoredRef, ValueRef};
 pub use view::{StoredView, stored_total};
 pub use writer::{StoredFiles, StoredWriter};
-
-#[cfg(test)]
-mod tests;

@@ -19,6 +19,3 @@ pub use heading::{FORMAT, Heading, heading_at};
 pub use laws::{terms_are_good, written_index_is_read, written_is_read};
 pub use lu_types::{TermInfo, TermNumbers};
 pub use writer::{TermFiles, TermWriter};
-
-#[cfg(test)]
-mod tests;

@@ -2,16 +2,12 @@
 #![tactic(auto)]
 
 mod checking;
-#[cfg(test)]
-mod drawn_tests;
 mod index;
 mod loading;
 mod mark;
 mod names;
 mod point;
 mod search;
-#[cfg(test)]
-mod tests;
 mod walk;
 
 pub use checking::check_tii;

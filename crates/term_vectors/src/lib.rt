@@ -25,12 +25,3 @@ pub use places::check_places;
 pub use terms::VectorTerms;
 pub use view::VectorView;
 pub use writer::{Lacking, VectorFiles, VectorWriter};
-
-#[cfg(test)]
-mod drawn_tests;
-#[cfg(test)]
-mod handing;
-#[cfg(test)]
-mod tests;
-#[cfg(test)]
-mod writer_tests;

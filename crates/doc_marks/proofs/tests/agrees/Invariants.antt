@@ -1,6 +1,0 @@
-use Rattle.std.proofs.Common.{◌≤◌}
-use Rattle.doc_marks.proofs.tests.agrees.Given as goal
-
--- no document behind the next one was asked for
-abbrev pub invariant-loop-doc : goal.invariant-loop-doc
-invariant-loop-doc g l = l.walk.from ≤ l.doc-counter

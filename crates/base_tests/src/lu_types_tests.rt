@@ -2,8 +2,8 @@ use lu_prims::OutOfMemory;
 use lu_types::rules::{self, rule_name};
 use lu_types::{
     Bytes, CodecFault, DocFault, Document, FieldTable, FileKind, GREATEST_SEGMENT, IndexedField,
-    Items, JoinedTable, Limits, Stored, StoredValue, Text, Token, Vector, first_fault, join_field,
-    part_name, segment_name, segment_number, table_of, validate,
+    Items, JoinedTable, Limits, Payload, Stored, StoredValue, Text, Token, Vector, first_fault,
+    join_field, part_name, segment_name, segment_number, table_of, validate,
 };
 use std::alloc::Global;
 use std::test::Fail;
@@ -144,14 +144,14 @@ fn tokens(alloc: Global, row: Row) -> Result<Items<Token>, OutOfMemory> {
         position: row.positions.0,
         start: row.span.0,
         end: row.span.1,
-        payload: Bytes::new(letters(alloc, row.payload)?.into_bytes()),
+        payload: Payload::new(alloc, letters(alloc, row.payload)?.into_bytes())?,
     })?;
     tokens.push(Token {
         text: Text::from_str(alloc, "b")?,
         position: row.positions.1,
         start: 0,
         end: 0,
-        payload: Bytes::new(Vec::new(alloc)),
+        payload: Payload::none(),
     })?;
     Ok(Items::fitted(tokens))
 }
@@ -308,9 +308,17 @@ fn fields_of_documents_are_joined(rt: HostRuntime) -> Result<(), Fail> {
 fn lists_and_texts_are_given_back(rt: HostRuntime) -> Result<(), Fail> {
     let text = Text::from_str(rt.alloc(), "aa")?;
     assert_eq!(rt; text.as_str(), "aa");
-    assert_eq!(rt; text.into_string().as_str(), "aa");
+    assert_eq!(rt; text.into_string(rt.alloc())?.as_str(), "aa");
+    let long = letters(rt.alloc(), 17)?;
+    let text = Text::from_str(rt.alloc(), long.as_str())?;
+    assert_eq!(rt; text.as_str(), long.as_str());
+    assert_eq!(rt; text.into_string(rt.alloc())?.as_str(), long.as_str());
     let fitted = Text::fitted(letters(rt.alloc(), 2)?);
     assert_eq!(rt; fitted.as_str(), "aa");
+    let payload = Payload::new(rt.alloc(), letters(rt.alloc(), 2)?.into_bytes())?;
+    assert_eq!(rt; payload.as_slice(), b"aa".as_slice());
+    assert_eq!(rt; payload.into_vec(rt.alloc()).as_slice(), b"aa".as_slice());
+    assert_eq!(rt; Payload::none().into_vec(rt.alloc()).len(), 0);
     let stored = Stored::Binary(Bytes::new(letters(rt.alloc(), 2)?.into_bytes()));
     assert_eq!(rt; stored.as_bytes(), b"aa".as_slice());
     let bytes = Bytes::fitted(letters(rt.alloc(), 3)?.into_bytes());

@@ -8,7 +8,7 @@ use lu_dir::{Dir, MemDir};
 use lu_folder::current;
 use lu_prims::{Steps, crc32, put_i32, put_i64};
 use lu_reads::holding::{held_segments, standing_segments};
-use lu_types::{Bytes, Document, IndexedField, Items, Limits, TermInfo, Text, Token, Vector};
+use lu_types::{Document, IndexedField, Items, Limits, Payload, TermInfo, Text, Token, Vector};
 use seg_reader::SegReader;
 use seg_writer::{SegmentFiles, WriteOptions, write_segment};
 use segment_infos::SegInfo;
@@ -32,7 +32,7 @@ fn token(alloc: Global, text: &str, position: u32) -> Result<Token, Fail> {
         position,
         start: 0,
         end: 0,
-        payload: Bytes::new(Vec::new(alloc)),
+        payload: Payload::none(),
     })
 }
 

@@ -10,7 +10,7 @@ ghost use Rattle.lu_input.specs.Shapes.{are_among, has_only, required, or_absent
 
 use crate::fault::Misread;
 use hex::FromHexError;
-use lu_types::{Bytes, Text, Vector};
+use lu_types::{Bytes, Payload, Text, Vector};
 use serde_json::{Map, Value};
 use std::alloc::Global;
 
@@ -93,12 +93,12 @@ pub fn bytes(alloc: Global, value: &Value) -> Result<Bytes, Misread>
 }
 
 /// The bytes that a member stands for, none where it is absent.
-pub fn payload(alloc: Global, member: Option<&Value>) -> Result<Bytes, Misread>
+pub fn payload(alloc: Global, member: Option<&Value>) -> Result<Payload, Misread>
     ensures { AnswersShape (or_absent [] bytes_of_hex (option_map (λ v. view v.now) member.entry)) result }
 {
     match member {
-        Some(value) => bytes(alloc, value),
-        None => Ok(Bytes::new(Vec::new(alloc))),
+        Some(value) => Ok(Payload::new(alloc, bytes(alloc, value)?.into_vec())?),
+        None => Ok(Payload::none()),
     }
 }
 

@@ -4,7 +4,7 @@ ghost use Rattle.std.specs.Str.{chars};
 ghost use Rattle.lu_input.specs.Tokens.{closed_token, tokens_of};
 
 use lu_prims::OutOfMemory;
-use lu_types::{Bytes, Text, Token};
+use lu_types::{Payload, Text, Token};
 use std::alloc::Global;
 
 /// The tokens of a text of fewer than 2^31 bytes: its longest runs of characters that are not white space (Unicode White_Space).
@@ -47,7 +47,7 @@ fn push_run(
     }
     let text = Text::from_str(alloc, run)?;
     let position = tokens.len() as u32;
-    let payload = Bytes::new(Vec::new(alloc));
+    let payload = Payload::none();
     tokens.push(Token {
         text,
         position,

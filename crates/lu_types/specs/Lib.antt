@@ -6,6 +6,7 @@ pub mod Fields
 pub mod FilePlans
 pub mod Joins
 pub mod Judging
+pub mod KeptTexts
 pub mod Kinds
 pub mod Names
 pub mod Occurrences

@@ -11,7 +11,7 @@ use Rattle.lu_model.specs.Contents.{Content, content_of, field_number, index_of,
 use Rattle.lu_model.proofs.Words.{IsIn}
 use Rattle.lu_model.proofs.Among.{contains-from_in}
 use Rattle.segment_files.specs.Postings.{KeptTerm, kept_term, kept_terms}
-use Rattle.seg_writer.specs.declared.columns.Appearance.{Appearance}
+use Rattle.seg_writer.specs.declared.appearance.Appearance.{Appearance}
 use Rattle.seg_writer.specs.Appearing.{appeared, column_from, HasApartFields}
 use Rattle.seg_writer.specs.Terms.{kept_in, term_in, terms_in_columns}
 use Rattle.seg_writer.specs.Texts.{texts_of}

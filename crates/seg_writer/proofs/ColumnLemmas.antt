@@ -16,7 +16,7 @@ use Rattle.lu_types.specs.Tables.{TableField, number_of}
 use Rattle.lu_types.specs.declared.document.Document.{Document}
 use Rattle.lu_types.specs.declared.document.IndexedField.{IndexedField}
 use Rattle.lu_model.specs.Contents.{name_of}
-use Rattle.seg_writer.specs.declared.columns.Appearance.{Appearance}
+use Rattle.seg_writer.specs.declared.appearance.Appearance.{Appearance}
 use Rattle.seg_writer.specs.Appearing.{Appeared, appeared, appeared_in, is_field_named, found_in, names_of_indexed, AreFieldColumns, AreEmpty, AreFirst, HaveMore, IsPushed, column_from}
 
 -- a test that does not hold
@@ -168,5 +168,9 @@ columns-more table docs i doc fields columns new lt is own (size, each) (same, m
 pub columns-none : (table : List TableField) (docs : List Document) (count : ℕ) (columns : List (Vec Appearance Global)) → count ≡ length table → AreEmpty count columns → AreFieldColumns table (take 0 docs) columns
 columns-none table docs count columns same (size, empty) = (size ∙ same, λ n d within. ap (map appeared) (empty n d (subst (λ m. n < m) (sym (size ∙ same)) within)))
 
-pub grown-at : (columns : List (Vec Appearance Global)) (k : ℕ) (was now : Vec Appearance Global) (a : Appearance) → k < length columns → was ≡ get_or columns k was → now.items ≡ was.items ++ a ∷ [] → now.items ≡ (get_or columns k now).items ++ a ∷ []
+grown-at : (columns : List (Vec Appearance Global)) (k : ℕ) (was now : Vec Appearance Global) (a : Appearance) → k < length columns → was ≡ get_or columns k was → now.items ≡ was.items ++ a ∷ [] → now.items ≡ (get_or columns k now).items ++ a ∷ []
 grown-at columns k was now a lt is grown = grown ∙ ap (λ (c : Vec Appearance Global). c.items ++ a ∷ []) (is ∙ get_or_default columns k was now lt)
+
+pub pushed-at : (columns : List (Vec Appearance Global)) (k : ℕ) (was now : Vec Appearance Global) (a : Appearance) (seen : Appeared) → k < length columns → was ≡ get_or columns k was → now.items ≡ was.items ++ a ∷ [] → appeared a ≡ seen
+    → IsPushed k seen columns (set columns k now)
+pushed-at columns k was now a seen lt is grown same = record { added = a; column = now; is = same; grown = grown-at columns k was now a lt is grown; set_there = refl }

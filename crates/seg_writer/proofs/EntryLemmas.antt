@@ -17,7 +17,7 @@ use Rattle.lu_types.specs.Tables.{TableField}
 use Rattle.segment_files.specs.Postings.{KeptTerm, kept_term}
 use Rattle.seg_writer.specs.Terms.{kept_in, term_in}
 use Rattle.lu_model.specs.Contents.{Content, bits_of, content_of, field_number, given_if_any, indexed_term, tokens_for, tokens_with}
-use Rattle.seg_writer.specs.declared.columns.Appearance.{Appearance}
+use Rattle.seg_writer.specs.declared.appearance.Appearance.{Appearance}
 use Rattle.seg_writer.specs.Appearing.{Appeared, appeared, appeared_in, column_from, found_in, is_field_named, names_of_indexed, HasApartFields}
 use Rattle.seg_writer.specs.Entries.{entry_if_any, entries_of_text}
 use Rattle.seg_writer.proofs.ColumnLemmas.{not-true}

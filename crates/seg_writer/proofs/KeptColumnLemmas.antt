@@ -27,7 +27,7 @@ use Rattle.lu_model.proofs.Words.{IsIn}
 use Rattle.lu_model.proofs.Among.{from_map, in-from_contains}
 use Rattle.lu_model.proofs.Each.{all_at}
 use Rattle.segment_files.specs.Postings.{kept_terms}
-use Rattle.seg_writer.specs.declared.columns.Appearance.{Appearance}
+use Rattle.seg_writer.specs.declared.appearance.Appearance.{Appearance}
 use Rattle.seg_writer.specs.declared.terms.Kept.{Kept}
 use Rattle.seg_writer.specs.declared.terms.KeptColumn.{KeptColumn}
 use Rattle.seg_writer.specs.Appearing.{AreFieldColumns, AreFirst, appeared, column_from}

@@ -1,9 +1,13 @@
+pub mod AllUsesLemmas
 pub mod BlockLemmas
 pub mod CanonicalTerms
 pub mod ColumnLemmas
 pub mod EntryLemmas
 pub mod FaultLemmas
 pub mod FnmLemmas
+pub mod GroupLemmas
+pub mod GroupedLemmas
+pub mod HeadLemmas
 pub mod InvertedLemmas
 pub mod KeptColumnLemmas
 pub mod NormFileLemmas
@@ -25,7 +29,7 @@ pub mod TermFileLemmas
 pub mod TextLemmas
 pub mod TokenLemmas
 pub mod UnwrittenLemmas
-pub mod UsesLemmas
+pub mod UseOrder
 pub mod VectorFieldLemmas
 pub mod VectorFileLemmas
 pub mod VectorHeldLemmas

@@ -18,7 +18,7 @@ use Rattle.lu_model.specs.Contents.{has_norms, name_of}
 use Rattle.segment_files.specs.Parts.{norm_columns}
 use Rattle.segment_files.specs.Written.{first_past}
 use Rattle.posting_files.specs.States.{named}
-use Rattle.seg_writer.specs.declared.columns.Appearance.{Appearance}
+use Rattle.seg_writer.specs.declared.appearance.Appearance.{Appearance}
 use Rattle.seg_writer.specs.Appearing.{appeared, column_from, is_field_named}
 use Rattle.seg_writer.specs.NormColumns.{field_norms, found_norm, norm_bytes, norm_file_due, norms_of, given_norms, AreColumnsIn, AreSomeColumns, IsColumnIn, IsSomeColumn}
 use Rattle.seg_writer.proofs.FnmLemmas.{past-alone, within-alone}

@@ -25,7 +25,7 @@ use Rattle.lu_model.proofs.Ordered.{rises-in_order, from_in_order, in_in_order, 
 use Rattle.lu_model.proofs.Each.{all_at}
 use Rattle.lu_model.proofs.Merges.{terms_are_texts}
 use Rattle.lu_model.proofs.Tables.{find_in}
-use Rattle.seg_writer.specs.declared.columns.Appearance.{Appearance}
+use Rattle.seg_writer.specs.declared.appearance.Appearance.{Appearance}
 use Rattle.seg_writer.specs.Appearing.{Appeared, appeared, appeared_in, column_from, found_in, is_field_named, names_of_indexed, HasApartFields}
 use Rattle.seg_writer.specs.Columns.{tokens_in_field}
 use Rattle.seg_writer.specs.Texts.{column_texts, texts_of}

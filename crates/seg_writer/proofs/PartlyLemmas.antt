@@ -1,5 +1,5 @@
 -- The entries of a term, one run of uses more.
-use Rattle.std.proofs.Common.{◌≡◌, refl, ap, sym, ◌∙◌, subst, ℕ, suc, ◌+◌, ◌<◌, ◌≤◌, ◌⊎◌, ◌^◌, ◌++◌, List, [], ◌∷◌, length, take, drop, get_or, Bool, false, cond, inl, inr, None, Err, arith}
+use Rattle.std.proofs.Common.{◌≡◌, refl, ap, sym, ◌∙◌, subst, ℕ, suc, ◌+◌, ◌<◌, ◌≤◌, ◌⊎◌, ◌^◌, ◌++◌, List, [], ◌∷◌, length, take, drop, get_or, All, Bool, false, cond, inl, inr, None, Err, arith}
 use Rattle.std.proofs.lemmas.List.{append_assoc, append-nil, length-append, length-drop, get_or-drop, drop-drop, drop_more, get_or_default}
 use Rattle.std.proofs.Math.Seq.{drop-append_seam, take-append_seam}
 use Rattle.lu_types.specs.declared.document.Vector.TheVariants.{Off}
@@ -10,13 +10,13 @@ use Rattle.segment_files.specs.Postings.{PostingIntervals, KeptTerm, handed_from
 use Rattle.posting_files.specs.States.{PostingState, IsTermBegun, entry_begun}
 use Rattle.posting_files.proofs.PostingLemmas.{entry-begun, end-may, prx_bytes-append}
 use Rattle.positions.specs.Written.{document_occurrence_bytes}
-use Rattle.seg_writer.specs.declared.columns.Appearance.{Appearance}
+use Rattle.seg_writer.specs.declared.appearance.Appearance.{Appearance}
 use Rattle.seg_writer.specs.declared.inverted.Use.{Use}
 use Rattle.seg_writer.specs.declared.fault.WriteFault.{WriteFault}
 use Rattle.seg_writer.specs.declared.fault.WriteFault.TheVariants.{Doc, TooLarge, OutOfMemory}
 use Rattle.seg_writer.specs.Columns.{tokens_in_field, uses_among, uses_from, uses_of}
 use Rattle.seg_writer.specs.Entries.{entry_with, entries_of_text, run_length, tokens_at, last_document, AddsEntries, IsColumn, IsRun, IsTermFresh, IsPartly, MayFollow}
-use Rattle.seg_writer.proofs.TokenLemmas.{tokens-from, run-among, uses-few, uses-many, empty-none}
+use Rattle.seg_writer.proofs.TokenLemmas.{docs-among, tokens-from, run-among, uses-few, uses-many, empty-none}
 use Rattle.seg_writer.proofs.RunLemmas.{next-run, run-is}
 
 pub length-nil : (us : List Use) → length us ≡ 0 → us ≡ []
@@ -38,9 +38,9 @@ partly-begun column text omit uses s is = record {
 pub record IsNext (column : List Appearance) (text : List ℕ) (omit : Bool) (passed : ℕ) (rest : List Use) (first : Use) (d : Appearance) : Type 0 where
   pub low : passed ≤ first.entry
   pub inside : first.entry < length column
-  pub run : take (run_length first.entry rest) rest ≡ uses_among text first.entry 0 (tokens_in_field (get_or column first.entry d))
+  pub run : take (run_length first.entry rest) rest ≡ uses_among text (get_or column first.entry d).doc first.entry 0 (tokens_in_field (get_or column first.entry d))
   pub behind : drop (run_length first.entry rest) rest ≡ uses_from text (suc first.entry) (drop (suc first.entry) column)
-  pub some : 0 < length (uses_among text first.entry 0 (tokens_in_field (get_or column first.entry d)))
+  pub some : 0 < length (uses_among text (get_or column first.entry d).doc first.entry 0 (tokens_in_field (get_or column first.entry d)))
   pub entries : entries_of_text omit text (drop passed column) ≡ entry_with omit (get_or column first.entry d).doc (tokens_with text (tokens_in_field (get_or column first.entry d))) ∷ entries_of_text omit text (drop (suc first.entry) column)
   pub fits : run_length first.entry rest ≤ length rest
 
@@ -55,8 +55,8 @@ is-next column text omit passed rest first more d uses is =
     let here : get_or left r.skip d ≡ get_or column first.entry d = get_or-drop passed column r.skip d ∙ ap (λ k. get_or column k d) (sym at) in
     let next : suc first.entry ≡ passed + suc r.skip = omega (arith, at) in
     let behind : drop (suc r.skip) left ≡ drop (suc first.entry) column = drop-drop (suc r.skip) passed column ∙ ap (λ k. drop k column) (sym next) in
-    let own = uses_among text first.entry 0 (tokens_in_field (get_or column first.entry d)) in
-    let own_is : uses_among text first.entry 0 (tokens_in_field (get_or left r.skip d)) ≡ own = ap (λ a. uses_among text first.entry 0 (tokens_in_field a)) here in
+    let own = uses_among text (get_or column first.entry d).doc first.entry 0 (tokens_in_field (get_or column first.entry d)) in
+    let own_is : uses_among text (get_or left r.skip d).doc first.entry 0 (tokens_in_field (get_or left r.skip d)) ≡ own = ap (λ (a : Appearance). uses_among text a.doc first.entry 0 (tokens_in_field a)) here in
     let later = uses_from text (suc first.entry) (drop (suc first.entry) column) in
     let parts : rest ≡ own ++ later = uses ∙ r.uses ∙ ap (λ w. w ++ uses_from text (suc first.entry) (drop (suc r.skip) left)) own_is ∙ ap (λ c. own ++ uses_from text (suc first.entry) c) behind in
     let count : run_length first.entry rest ≡ length own = ap (run_length first.entry) uses ∙ run-is text omit passed left first d r ∙ ap length own_is in
@@ -82,7 +82,7 @@ next-tokens : (column : List Appearance) (text : List ℕ) (omit : Bool) (passed
     → tokens_at (tokens_in_field (get_or column first.entry d)) (take (run_length first.entry rest) rest) ≡ tokens_with text (tokens_in_field (get_or column first.entry d))
 next-tokens column text omit passed rest first d x =
     let ts = tokens_in_field (get_or column first.entry d) in
-    ap (tokens_at ts) x.run ∙ tokens-from text first.entry 0 ts ts refl
+    ap (tokens_at ts) x.run ∙ tokens-from text (get_or column first.entry d).doc first.entry 0 ts ts refl
 
 -- the entries so far, with one more, are those before the fields that are left
 next-all : (column : List Appearance) (text : List ℕ) (omit : Bool) (passed : ℕ) (entries : List IndexedEntry) (rest : List Use) (first : Use) (d : Appearance) → IsNext column text omit passed rest first d
@@ -121,14 +121,16 @@ partly-next column text omit rest behind old s new first d p valid x left adds =
 -- what is asked of the next run
 pub run-next : (column : List Appearance) (text : List ℕ) (omit : Bool) (passed : ℕ) (rest : List Use) (first : Use) (d : Appearance) → IsColumn column → IsNext column text omit passed rest first d
     → IsRun (tokens_in_field (get_or column first.entry d)) (take (run_length first.entry rest) rest) × (0 < length (take (run_length first.entry rest) rest)) × (length (take (run_length first.entry rest) rest) < 2 ^ 31)
+    × All (λ (here : Use). here.doc ≡ (get_or column first.entry d).doc) (take (run_length first.entry rest) rest)
 run-next column text omit passed rest first d valid x =
     let ts = tokens_in_field (get_or column first.entry d) in
-    let few = uses-few text first.entry ts in
+    let few = uses-few text (get_or column first.entry d).doc first.entry ts in
     let small = valid.numberable.tokens first.entry d x.inside in
     let size = ap length x.run in (
-      subst (IsRun ts) (sym x.run) (run-among text first.entry ts (valid.sound first.entry d x.inside)),
+      subst (IsRun ts) (sym x.run) (run-among text (get_or column first.entry d).doc first.entry ts (valid.sound first.entry d x.inside)),
       subst (λ w. 0 < length w) (sym x.run) x.some,
       omega (arith, few, small, size),
+      subst (All (λ (here : Use). here.doc ≡ (get_or column first.entry d).doc)) (sym x.run) (docs-among text (get_or column first.entry d).doc first.entry ts),
     )
 
 pub follow-next : (column : List Appearance) (text : List ℕ) (omit : Bool) (rest : List Use) (old s : PostingState) (first : Use) (d : Appearance) (p : IsPartly column text omit rest old s) → IsTermFresh old
@@ -144,11 +146,11 @@ follow-next column text omit rest old s first d p (i, limit, ts, om, payloads, f
 no-entries : (text : List ℕ) (omit : Bool) (n : ℕ) (column : List Appearance) → uses_from text n column ≡ [] → entries_of_text omit text column ≡ []
 no-entries text omit n [] none = refl
 no-entries text omit n (a ∷ column) none =
-    let own = uses_among text n 0 (tokens_in_field a) in
+    let own = uses_among text a.doc n 0 (tokens_in_field a) in
     let rest = uses_from text (suc n) column in
     let size = ap length none in
     let parts = length-append own rest in
-    let same = uses-many text n (tokens_in_field a) in
+    let same = uses-many text a.doc n (tokens_in_field a) in
     let nothing : length (tokens_with text (tokens_in_field a)) ≡ 0 = omega (arith, size, parts, same) in
     let later : rest ≡ [] = length-nil rest (omega (arith, size, parts)) in
     ap (λ b. cond b [] (entry_with omit a.doc (tokens_with text (tokens_in_field a)) ∷ []) ++ entries_of_text omit text column) (empty-none (tokens_with text (tokens_in_field a)) nothing) ∙ no-entries text omit (suc n) column later
@@ -181,19 +183,22 @@ partly-past column text omit rest old s new first d fault p x says i limit ts om
 -- ---- at the loop of the code
 
 abbrev pub no_appearance : Appearance
-no_appearance = record { doc = 0; field = record { ref_ptr = (0, 0); now = record { field = []; norm = None; omit_tf = false; vector = Off; tokens = [] } } }
+no_appearance = record { doc = 0; field = record { ref_ptr = (0, 0); now = record { field = []; norm = None; omit_tf = false; vector = Off; tokens = [] } }; tokens = record { ref_ptr = (0, 0); now = [] }; tokens_of_field = refl }
 
 abbrev pub no_use : Use
-no_use = record { entry = 0; token = 0 }
+no_use = record { head = 0; entry = 0; token = 0; doc = 0; position = 0 }
 
 pub next-at : (column : List Appearance) (text : List ℕ) (omit : Bool) (rest : List Use) (old s : PostingState) (d : Appearance) (p : IsPartly column text omit rest old s) → 1 ≤ length rest → IsNext column text omit p.passed rest (get_or rest 0 no_use) d
 next-at column text omit rest old s d p some = is-next column text omit p.passed rest (get_or rest 0 no_use) (drop (0 + 1) rest) d p.uses (drop_more rest 0 no_use (omega (arith, some)))
 
+-- what is asked of these uses of a field
+abbrev pub AskedOfRun : Appearance → List Use → Type 0
+AskedOfRun a run = IsRun (tokens_in_field a) run × (0 < length run) × (length run < 2 ^ 31) × All (λ (here : Use). here.doc ≡ a.doc) run
+
 pub run-at : (column : List Appearance) (text : List ℕ) (omit : Bool) (passed : ℕ) (rest front : List Use) (first : Use) (a : Appearance) → IsColumn column → IsNext column text omit passed rest first a → a ≡ get_or column first.entry a
-    → front ≡ take (run_length first.entry rest) rest → IsRun (tokens_in_field a) front × (0 < length front) × (length front < 2 ^ 31)
+    → front ≡ take (run_length first.entry rest) rest → AskedOfRun a front
 run-at column text omit passed rest front first a valid x is taken =
-    subst (λ w. IsRun (tokens_in_field a) w × (0 < length w) × (length w < 2 ^ 31)) (sym taken)
-    (subst (λ (b : Appearance). IsRun (tokens_in_field b) (take (run_length first.entry rest) rest) × (0 < length (take (run_length first.entry rest) rest)) × (length (take (run_length first.entry rest) rest) < 2 ^ 31)) (sym is) (run-next column text omit passed rest first a valid x))
+    subst (AskedOfRun a) (sym taken) (subst (λ b. AskedOfRun b (take (run_length first.entry rest) rest)) (sym is) (run-next column text omit passed rest first a valid x))
 
 pub entry-at : (column : List Appearance) (omit : Bool) (rest front : List Use) (first : Use) (a : Appearance) → a ≡ get_or column first.entry a → front ≡ take (run_length first.entry rest) rest
     → entry_with omit a.doc (tokens_at (tokens_in_field a) front) ≡ next_entry column omit rest first a

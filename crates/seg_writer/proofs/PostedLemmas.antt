@@ -1,6 +1,6 @@
 -- The terms of a column are written, one more.
 use Rattle.std.proofs.Common.{◌≡◌, refl, ap, sym, ◌∙◌, subst, ℕ, zero, suc, ◌+◌, ◌<◌, ◌≤◌, ◌++◌, List, [], ◌∷◌, length, take, drop, get_or, Bool, true, Err, arith}
-use Rattle.std.proofs.lemmas.List.{append_assoc, length-append, map-append, take_more, take-append-drop}
+use Rattle.std.proofs.lemmas.List.{append_assoc, get_or_default, length-append, map-append, take_more, take-append-drop}
 use Rattle.lu_types.specs.declared.document.Token.{Token}
 use Rattle.lu_model.specs.Contents.{tokens_with}
 use Rattle.segment_files.specs.Postings.{PostingIntervals, PostingParts, KeptTerm}
@@ -8,7 +8,7 @@ use Rattle.posting_files.specs.declared.fault.PostingFault.{PostingFault}
 use Rattle.posting_files.specs.declared.fault.PostingFault.TheVariants as posting
 use Rattle.posting_files.specs.States.{PostingState, ArePostings, IsTermBegun, PostingSteps, is_within_limit, term_begun, term_finished}
 use Rattle.posting_files.proofs.PostingLemmas.{begin-may, finish-may, postings-begun, postings-finished, parts_of-more, prx-grows, terms-pass}
-use Rattle.seg_writer.specs.declared.columns.Appearance.{Appearance}
+use Rattle.seg_writer.specs.declared.appearance.Appearance.{Appearance}
 use Rattle.seg_writer.specs.declared.inverted.Inverted.{Inverted}
 use Rattle.seg_writer.specs.declared.terms.Kept.{Kept}
 use Rattle.seg_writer.specs.declared.fault.WriteFault.{WriteFault}
@@ -38,22 +38,22 @@ entry-some : (omit : Bool) (document : ℕ) (tokens : List Token) → 0 < length
 entry-some omit document [] some = absurd (omega (arith, some))
 entry-some omit document (t ∷ ts) some = refl
 
-some-here : (omit : Bool) (text : List ℕ) (n : ℕ) (a : Appearance) (column : List Appearance) (k : ℕ) → length (uses_among text n 0 (tokens_in_field a)) ≡ k → (0 < length (uses_from text (suc n) column) → 0 < length (entries_of_text omit text column))
+some-here : (omit : Bool) (text : List ℕ) (n : ℕ) (a : Appearance) (column : List Appearance) (k : ℕ) → length (uses_among text a.doc n 0 (tokens_in_field a)) ≡ k → (0 < length (uses_from text (suc n) column) → 0 < length (entries_of_text omit text column))
     → 0 < length (uses_from text n (a ∷ column)) → 0 < length (entries_of_text omit text (a ∷ column))
 some-here omit text n a column zero none later some =
-    let parts = length-append (uses_among text n 0 (tokens_in_field a)) (uses_from text (suc n) column) in
+    let parts = length-append (uses_among text a.doc n 0 (tokens_in_field a)) (uses_from text (suc n) column) in
     let rest = later (omega (arith, some, parts, none)) in
     let size = length-append (entry_if_any omit a.doc (tokens_with text (tokens_in_field a))) (entries_of_text omit text column) in
     omega (arith, rest, size)
 some-here omit text n a column (suc k) many later some =
-    let same = uses-many text n (tokens_in_field a) in
+    let same = uses-many text a.doc n (tokens_in_field a) in
     let one = entry-some omit a.doc (tokens_with text (tokens_in_field a)) (omega (arith, many, same)) in
     let size = length-append (entry_if_any omit a.doc (tokens_with text (tokens_in_field a))) (entries_of_text omit text column) in
     omega (arith, one, size)
 
 pub entries-some : (omit : Bool) (text : List ℕ) (n : ℕ) (column : List Appearance) → 0 < length (uses_from text n column) → 0 < length (entries_of_text omit text column)
 entries-some omit text n [] some = absurd (omega (arith, some))
-entries-some omit text n (a ∷ column) some = some-here omit text n a column (length (uses_among text n 0 (tokens_in_field a))) refl (entries-some omit text (suc n) column) some
+entries-some omit text n (a ∷ column) some = some-here omit text n a column (length (uses_among text a.doc n 0 (tokens_in_field a))) refl (entries-some omit text (suc n) column) some
 
 -- ---- a term
 
@@ -135,3 +135,12 @@ terms-not-added kept column terms k t fault old s new lt is so_far says i limit 
     sym (map-append (term_in kept column) (texts_in (take (k + 1) terms)) (texts_in (drop (k + 1) terms)))
     ∙ ap (terms_in_columns kept column) (sym (map-append (λ (x : Inverted). x.text.now) (take (k + 1) terms) (drop (k + 1) terms)) ∙ ap texts_in (take-append-drop (k + 1) terms)) in
     subst (λ us. AddsTerms i limit us new (Err fault)) (append_assoc ts next back ∙ ap (λ w. ts ++ w) all) (faults-grow i limit (ts ++ next) back fault new new seen)
+
+-- ---- at the loop of the code
+
+abbrev pub no_inverted : Inverted
+no_inverted = record { text = record { ref_ptr = (0, 0); now = [] }; uses = record { ref_ptr = (0, 0); now = [] } }
+
+-- the term with a number among terms, whatever stands for none
+pub inverted-at : (terms : List Inverted) (k : ℕ) → k < length terms → get_or terms k no_inverted ≡ get_or terms k (get_or terms k no_inverted)
+inverted-at terms k lt = get_or_default terms k no_inverted (get_or terms k no_inverted) lt

@@ -25,7 +25,7 @@ use Rattle.seg_writer.specs.Entries.{AreWritableDocuments, IsColumn, IsWritableF
 use Rattle.seg_writer.specs.Orders.{AreColumnsOf}
 use Rattle.seg_writer.specs.SegmentSteps.{AreFaultless}
 use Rattle.seg_writer.specs.Stores.{AreInTable}
-use Rattle.seg_writer.specs.declared.columns.Appearance.{Appearance}
+use Rattle.seg_writer.specs.declared.appearance.Appearance.{Appearance}
 use Rattle.seg_writer.proofs.SoundColumns.{column-sound}
 use Rattle.seg_writer.proofs.TableLemmas.{numbered, table-has}
 

@@ -8,7 +8,7 @@ use Rattle.lu_types.specs.declared.document.Document.{Document}
 use Rattle.lu_types.specs.declared.document.IndexedField.{IndexedField}
 use Rattle.lu_model.proofs.Words.{IsIn}
 use Rattle.lu_model.proofs.Tables.{find_in}
-use Rattle.seg_writer.specs.declared.columns.Appearance.{Appearance}
+use Rattle.seg_writer.specs.declared.appearance.Appearance.{Appearance}
 use Rattle.seg_writer.specs.Appearing.{Appeared, appeared, appeared_in, column_from, is_field_named}
 use Rattle.seg_writer.specs.Entries.{IsColumn, IsWritableField, AreWritableDocuments}
 

@@ -10,45 +10,45 @@ use Rattle.lu_types.specs.declared.document.Token.{Token}
 use Rattle.lu_model.proofs.Words.{IsIn}
 use Rattle.lu_model.proofs.Among.{in_left, in_right, in_either, in-from_contains}
 use Rattle.lu_model.proofs.Ordered.{only_in_order}
-use Rattle.seg_writer.specs.declared.columns.Appearance.{Appearance}
+use Rattle.seg_writer.specs.declared.appearance.Appearance.{Appearance}
 use Rattle.seg_writer.specs.declared.inverted.Inverted.{Inverted}
 use Rattle.seg_writer.specs.Columns.{use_of, tokens_in_field, uses_among, uses_from, uses_of}
 use Rattle.seg_writer.specs.Texts.{AreInverted, column_texts, texts_in, texts_of}
 
-used-token : (text : List ℕ) (entry n : ℕ) (ts : List Token) → 0 < length (uses_among text entry n ts) → IsIn text (map (λ (t : Token). t.text) ts)
-used-token text entry n [] some = absurd (omega (arith, some))
-used-token text entry n (t ∷ ts) some = elim (bytes_eq text t.text) as (λ b. bytes_eq text t.text ≡ b → 0 < length ((if b then use_of entry n ∷ [] else []) ++ uses_among text entry (suc n) ts) → IsIn text (t.text ∷ map (λ (x : Token). x.text) ts)) [
+used-token : (text : List ℕ) (doc entry n : ℕ) (ts : List Token) → 0 < length (uses_among text doc entry n ts) → IsIn text (map (λ (t : Token). t.text) ts)
+used-token text doc entry n [] some = absurd (omega (arith, some))
+used-token text doc entry n (t ∷ ts) some = elim (bytes_eq text t.text) as (λ b. bytes_eq text t.text ≡ b → 0 < length ((if b then use_of t doc entry n ∷ [] else []) ++ uses_among text doc entry (suc n) ts) → IsIn text (t.text ∷ map (λ (x : Token). x.text) ts)) [
   | true ↦ λ same more. inl ((bytes_decides text t.text).0 same)
-  | false ↦ λ other more. inr (used-token text entry (suc n) ts more)
+  | false ↦ λ other more. inr (used-token text doc entry (suc n) ts more)
 ] refl some
 
-token-used : (text : List ℕ) (entry n : ℕ) (ts : List Token) → IsIn text (map (λ (t : Token). t.text) ts) → 0 < length (uses_among text entry n ts)
-token-used text entry n [] h = absurd h
-token-used text entry n (t ∷ ts) (inl is) =
-    let one : (if bytes_eq text t.text then use_of entry n ∷ [] else []) ≡ use_of entry n ∷ [] = ap (λ b. if b then use_of entry n ∷ [] else []) ((bytes_decides text t.text).1 is) in
-    let size = ap (λ w. length (w ++ uses_among text entry (suc n) ts)) one in
+token-used : (text : List ℕ) (doc entry n : ℕ) (ts : List Token) → IsIn text (map (λ (t : Token). t.text) ts) → 0 < length (uses_among text doc entry n ts)
+token-used text doc entry n [] h = absurd h
+token-used text doc entry n (t ∷ ts) (inl is) =
+    let one : (if bytes_eq text t.text then use_of t doc entry n ∷ [] else []) ≡ use_of t doc entry n ∷ [] = ap (λ b. if b then use_of t doc entry n ∷ [] else []) ((bytes_decides text t.text).1 is) in
+    let size = ap (λ w. length (w ++ uses_among text doc entry (suc n) ts)) one in
     omega (arith, size)
-token-used text entry n (t ∷ ts) (inr h) =
-    let rest = token-used text entry (suc n) ts h in
-    let size = length-append (if bytes_eq text t.text then use_of entry n ∷ [] else []) (uses_among text entry (suc n) ts) in
+token-used text doc entry n (t ∷ ts) (inr h) =
+    let rest = token-used text doc entry (suc n) ts h in
+    let size = length-append (if bytes_eq text t.text then use_of t doc entry n ∷ [] else []) (uses_among text doc entry (suc n) ts) in
     omega (arith, rest, size)
 
-used-by : (text : List ℕ) (n : ℕ) (a : Appearance) (column : List Appearance) (k : ℕ) → length (uses_among text n 0 (tokens_in_field a)) ≡ k → (0 < length (uses_from text (suc n) column) → IsIn text (column_texts column)) → 0 < length (uses_from text n (a ∷ column)) → IsIn text (column_texts (a ∷ column))
+used-by : (text : List ℕ) (n : ℕ) (a : Appearance) (column : List Appearance) (k : ℕ) → length (uses_among text a.doc n 0 (tokens_in_field a)) ≡ k → (0 < length (uses_from text (suc n) column) → IsIn text (column_texts column)) → 0 < length (uses_from text n (a ∷ column)) → IsIn text (column_texts (a ∷ column))
 used-by text n a column zero none later some =
-    let size = length-append (uses_among text n 0 (tokens_in_field a)) (uses_from text (suc n) column) in
+    let size = length-append (uses_among text a.doc n 0 (tokens_in_field a)) (uses_from text (suc n) column) in
     in_right text (map (λ (t : Token). t.text) (tokens_in_field a)) (column_texts column) (later (omega (arith, size, none, some)))
-used-by text n a column (suc k) many later some = in_left text (map (λ (t : Token). t.text) (tokens_in_field a)) (column_texts column) (used-token text n 0 (tokens_in_field a) (omega (arith, many)))
+used-by text n a column (suc k) many later some = in_left text (map (λ (t : Token). t.text) (tokens_in_field a)) (column_texts column) (used-token text a.doc n 0 (tokens_in_field a) (omega (arith, many)))
 
 pub used-in : (text : List ℕ) (n : ℕ) (column : List Appearance) → 0 < length (uses_from text n column) → IsIn text (column_texts column)
 used-in text n [] some = absurd (omega (arith, some))
-used-in text n (a ∷ column) some = used-by text n a column (length (uses_among text n 0 (tokens_in_field a))) refl (used-in text (suc n) column) some
+used-in text n (a ∷ column) some = used-by text n a column (length (uses_among text a.doc n 0 (tokens_in_field a))) refl (used-in text (suc n) column) some
 
 pub in-used : (text : List ℕ) (n : ℕ) (column : List Appearance) → IsIn text (column_texts column) → 0 < length (uses_from text n column)
 in-used text n [] h = absurd h
 in-used text n (a ∷ column) h =
-    let size = length-append (uses_among text n 0 (tokens_in_field a)) (uses_from text (suc n) column) in
+    let size = length-append (uses_among text a.doc n 0 (tokens_in_field a)) (uses_from text (suc n) column) in
     elim (in_either text (map (λ (t : Token). t.text) (tokens_in_field a)) (column_texts column) h) [
-      | inl here ↦ (let own = token-used text n 0 (tokens_in_field a) here in omega (arith, own, size))
+      | inl here ↦ (let own = token-used text a.doc n 0 (tokens_in_field a) here in omega (arith, own, size))
       | inr there ↦ (let rest = in-used text (suc n) column there in omega (arith, rest, size))
     ]
 

@@ -73,23 +73,23 @@ module _ (bits : ℕ) (tokens : List Token) (uses : List Use) (k : ℕ) (start w
       (omega (arith, some, size, left, lt), ap (λ (v : VectorWriting). v.lacks_positions) was ∙ now.positions)
 
 -- a term that is begun, with its positions
-pub spans-due : (bits : ℕ) (tokens : List Token) (t : Inverted) (w m n : VectorWriting) → w.bits ≡ bits → m ≡ with_term_begun t.text.now (length t.uses.items) w
-    → n ≡ with_positions (kept_positions bits (tokens_at tokens t.uses.items)) m → (n.lacks_positions ≡ 0) × (n.lacks_spans ≡ kept_count bit_offsets bits (length t.uses.items))
+pub spans-due : (bits : ℕ) (tokens : List Token) (t : Inverted) (w m n : VectorWriting) → w.bits ≡ bits → m ≡ with_term_begun t.text.now (length t.uses.now) w
+    → n ≡ with_positions (kept_positions bits (tokens_at tokens t.uses.now)) m → (n.lacks_positions ≡ 0) × (n.lacks_spans ≡ kept_count bit_offsets bits (length t.uses.now))
 spans-due bits tokens t w m n same begun handed =
-    let ps = kept_positions bits (tokens_at tokens t.uses.items) in
+    let ps = kept_positions bits (tokens_at tokens t.uses.now) in
     let now = positions-lack ps m in
-    let due : m.lacks_positions ≡ kept_count bit_positions bits (length t.uses.items) = ap (λ (v : VectorWriting). v.lacks_positions) begun ∙ ap (λ b. kept_count bit_positions b (length t.uses.items)) same in
-    let size = length-kept_positions bits tokens t.uses.items in
+    let due : m.lacks_positions ≡ kept_count bit_positions bits (length t.uses.now) = ap (λ (v : VectorWriting). v.lacks_positions) begun ∙ ap (λ b. kept_count bit_positions b (length t.uses.now)) same in
+    let size = length-kept_positions bits tokens t.uses.now in
     let left = ap (λ (v : VectorWriting). v.lacks_positions) handed ∙ now.positions in (
       omega (arith, due, size, left),
-      ap (λ (v : VectorWriting). v.lacks_spans) handed ∙ now.spans ∙ ap (λ (v : VectorWriting). v.lacks_spans) begun ∙ ap (λ b. kept_count bit_offsets b (length t.uses.items)) same,
+      ap (λ (v : VectorWriting). v.lacks_spans) handed ∙ now.spans ∙ ap (λ (v : VectorWriting). v.lacks_spans) begun ∙ ap (λ b. kept_count bit_offsets b (length t.uses.now)) same,
     )
 
 -- ---- terms
 
 -- what is handed of a text is what is kept
 kept-of-uses : (bits : ℕ) (tokens : List Token) (t : Inverted) → IsKept bits (term_of_uses bits tokens t)
-kept-of-uses bits tokens t = record { positions = length-kept_positions bits tokens t.uses.items; spans = length-kept_spans bits tokens t.uses.items }
+kept-of-uses bits tokens t = record { positions = length-kept_positions bits tokens t.uses.now; spans = length-kept_spans bits tokens t.uses.now }
 
 each-kept : (bits : ℕ) (tokens : List Token) (ts : List Inverted) → Each (IsKept bits) (map (term_of_uses bits tokens) ts)
 each-kept bits tokens [] = tt

@@ -13,7 +13,7 @@ use Rattle.lu_model.specs.Contents.{tokens_with, vector_of}
 use Rattle.lu_model.proofs.Words.{Each}
 use Rattle.lu_model.proofs.Each.{each-from_all, each_map, length_in_order-le}
 use Rattle.term_vectors.specs.VectorWriting.{VectorWriting, with_vector_begun}
-use Rattle.seg_writer.specs.declared.columns.Appearance.{Appearance}
+use Rattle.seg_writer.specs.declared.appearance.Appearance.{Appearance}
 use Rattle.seg_writer.specs.declared.inverted.Inverted.{Inverted}
 use Rattle.seg_writer.specs.Columns.{tokens_in_field, uses_among, uses_of}
 use Rattle.seg_writer.specs.Entries.{tokens_at, IsWritableField}
@@ -57,35 +57,35 @@ abbrev pub term_in_vector : IndexedField → List ℕ → VectorTerm
 term_in_vector field text = term_of_kind field.vector text (tokens_with text field.tokens)
 
 -- the tokens of a text of the field that stands alone in a column
-module _ (a : Appearance) (t : Inverted) (uses : t.uses.items ≡ uses_of t.text.now (a ∷ [])) where
-  alone : t.uses.items ≡ uses_among t.text.now 0 0 (tokens_in_field a)
-  alone = uses ∙ append-nil (uses_among t.text.now 0 0 (tokens_in_field a))
+module _ (a : Appearance) (t : Inverted) (uses : t.uses.now ≡ uses_of t.text.now (a ∷ [])) where
+  alone : t.uses.now ≡ uses_among t.text.now a.doc 0 0 (tokens_in_field a)
+  alone = uses ∙ append-nil (uses_among t.text.now a.doc 0 0 (tokens_in_field a))
 
-  found : tokens_at (tokens_in_field a) t.uses.items ≡ tokens_with t.text.now (tokens_in_field a)
-  found = ap (tokens_at (tokens_in_field a)) alone ∙ tokens-from t.text.now 0 0 (tokens_in_field a) (tokens_in_field a) refl
+  found : tokens_at (tokens_in_field a) t.uses.now ≡ tokens_with t.text.now (tokens_in_field a)
+  found = ap (tokens_at (tokens_in_field a)) alone ∙ tokens-from t.text.now a.doc 0 0 (tokens_in_field a) (tokens_in_field a) refl
 
-  count : length t.uses.items ≡ length (tokens_with t.text.now (tokens_in_field a))
-  count = ap length alone ∙ uses-many t.text.now 0 (tokens_in_field a)
+  count : length t.uses.now ≡ length (tokens_with t.text.now (tokens_in_field a))
+  count = ap length alone ∙ uses-many t.text.now a.doc 0 (tokens_in_field a)
 
   pub term-of : term_of_uses (kind_bits a.field.now.vector) (tokens_in_field a) t ≡ term_in_vector a.field.now t.text.now
   term-of =
-      ap (term_from (kind_bits a.field.now.vector) t.text.now (length t.uses.items)) found
+      ap (term_from (kind_bits a.field.now.vector) t.text.now (length t.uses.now)) found
       ∙ ap (λ n. term_from (kind_bits a.field.now.vector) t.text.now n (tokens_with t.text.now (tokens_in_field a))) count
       ∙ by-kind a.field.now.vector t.text.now (tokens_with t.text.now (tokens_in_field a))
 
   pub writable-text : IsWritableField a.field.now → length t.text.now < 2 ^ 31 → IsWritableText (tokens_in_field a) t
   writable-text field short =
-      let most = uses-few t.text.now 0 (tokens_in_field a) in
+      let most = uses-few t.text.now a.doc 0 (tokens_in_field a) in
       let same = ap length alone in
       let few = field.few in record {
         short = short;
         few = omega (arith, most, same, few);
-        within = subst (All (λ here. here.token < length (tokens_in_field a))) (sym alone) (run-among t.text.now 0 (tokens_in_field a) field.sound).within;
+        within = subst (All (λ here. here.token < length (tokens_in_field a))) (sym alone) (run-among t.text.now a.doc 0 (tokens_in_field a) field.sound).within;
       }
 
 -- ---- all terms
 
-terms-each : (a : Appearance) (ts : List Inverted) → Each (λ (t : Inverted). t.uses.items ≡ uses_of t.text.now (a ∷ [])) ts
+terms-each : (a : Appearance) (ts : List Inverted) → Each (λ (t : Inverted). t.uses.now ≡ uses_of t.text.now (a ∷ [])) ts
     → map (term_of_uses (kind_bits a.field.now.vector) (tokens_in_field a)) ts ≡ map (term_in_vector a.field.now) (texts_in ts)
 terms-each a [] uses = refl
 terms-each a (t ∷ ts) uses =
@@ -98,7 +98,7 @@ texts-alone a = ap (in_order text_cmp) (append-nil (map (λ (t : Token). t.text)
 -- the terms of a column of one field are those of the field's vector
 pub terms-of : (a : Appearance) (ts : List Inverted) → AreInverted (a ∷ []) ts → map (term_of_uses (kind_bits a.field.now.vector) (tokens_in_field a)) ts ≡ (vector_of a.field.now).terms
 terms-of a ts h =
-    terms-each a ts (each-from_all (λ (t : Inverted). t.uses.items ≡ uses_of t.text.now (a ∷ [])) ts (λ k d lt. (h.uses k d lt).0))
+    terms-each a ts (each-from_all (λ (t : Inverted). t.uses.now ≡ uses_of t.text.now (a ∷ [])) ts (λ k d lt. (h.uses k d lt).0))
     ∙ ap (map (term_in_vector a.field.now)) (inverted-texts (a ∷ []) ts h ∙ texts-alone a)
 
 pub terms-writable : (a : Appearance) (ts : List Inverted) → IsWritableField a.field.now → AreInverted (a ∷ []) ts → All (IsWritableText (tokens_in_field a)) ts

@@ -9,7 +9,7 @@ use Rattle.lu_types.specs.Tables.{TableField, number_of}
 use Rattle.lu_types.specs.declared.document.Document.{Document}
 use Rattle.lu_types.specs.declared.document.IndexedField.{IndexedField}
 use Rattle.lu_model.specs.Contents.{name_of}
-use Rattle.seg_writer.specs.declared.columns.Appearance.{Appearance}
+use Rattle.seg_writer.specs.declared.appearance.Appearance.{Appearance}
 
 -- a field of the document with a number
 pub record Appeared : Type 0 where

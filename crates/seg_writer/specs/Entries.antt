@@ -1,5 +1,5 @@
 -- The entries of a text, out of a column.
-use Rattle.std.specs.Prelude.{◌≡◌, ◌<◌, ◌≤◌, ◌^◌, ◌⊎◌, ◌==◌, ℕ, suc, Bool, true, cond, List, [], ◌∷◌, ◌++◌, length, map, drop, All, slice_index_or, Result, Ok, Err}
+use Rattle.std.specs.Prelude.{◌≡◌, ◌<◌, ◌≤◌, ◌^◌, ◌⊎◌, ◌==◌, ℕ, suc, Bool, true, false, cond, List, [], ◌∷◌, ◌++◌, length, map, drop, All, slice_index_or, Result, Ok, Err}
 use Rattle.lu_types.specs.DocFaults.{AreSoundTokens}
 use Rattle.lu_types.specs.Joins.{is_empty}
 use Rattle.std.specs.List.{AllByRecursion}
@@ -14,7 +14,7 @@ use Rattle.freq_skips.specs.Written.{last_doc}
 use Rattle.segment_files.specs.Postings.{PostingIntervals, KeptTerm, parts_of, prx_bytes}
 use Rattle.posting_files.specs.States.{PostingState, ArePostings, IsTermBegun, is_within_limit}
 use Rattle.seg_writer.specs.Columns.{IsNumberable, tokens_in_field, uses_from}
-use Rattle.seg_writer.specs.declared.columns.Appearance.{Appearance}
+use Rattle.seg_writer.specs.declared.appearance.Appearance.{Appearance}
 use Rattle.seg_writer.specs.declared.inverted.Use.{Use}
 use Rattle.seg_writer.specs.declared.fault.WriteFault.{WriteFault}
 use Rattle.seg_writer.specs.declared.fault.WriteFault.TheVariants.{Doc, TooLarge, OutOfMemory}
@@ -61,10 +61,19 @@ abbrev pub run_length : ℕ → List Use → ℕ
 run_length entry [] = 0
 run_length entry (here ∷ uses) = cond (here.entry == entry) (suc (run_length entry uses)) 0
 
--- some uses are among these tokens, which are sound in their order
+-- some uses are among these tokens, which are sound in their order, and have their positions
 pub record IsRun (tokens : List Token) (run : List Use) : Type 0 where
   pub within : All (λ here. here.token < length tokens) run
   pub sound : AreSoundTokens 0 (tokens_at tokens run)
+  pub positions : All (λ here. here.position ≡ (slice_index_or tokens here.token no_token).position) run
+
+-- no token has a payload, where that is so
+abbrev pub IsBareUnless : Bool → List Token → Type 0
+IsBareUnless payloads tokens = payloads ≡ false → All (λ token. token.payload ≡ []) tokens
+
+-- the same of the tokens of each field
+abbrev pub AreBareUnless : Bool → List Appearance → Type 0
+AreBareUnless payloads column = All (λ a. IsBareUnless payloads (tokens_in_field a)) column
 
 -- a column whose documents rise, and whose tokens are sound and can be numbered
 pub record IsColumn (column : List Appearance) : Type 0 where

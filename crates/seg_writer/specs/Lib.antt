@@ -2,11 +2,12 @@ pub mod Answers
 pub mod Appearing
 pub mod Columns
 pub mod Entries
-pub mod Groups
+pub mod Heads
 pub mod NormColumns
 pub mod Orders
 pub mod PartsGathered
 pub mod SegmentSteps
+pub mod SortedUses
 pub mod Stores
 pub mod Terms
 pub mod Texts

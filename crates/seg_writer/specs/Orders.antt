@@ -8,7 +8,7 @@ use Rattle.lu_prims.specs.Order.{text_cmp}
 use Rattle.lu_types.specs.declared.document.Document.{Document}
 use Rattle.lu_types.specs.declared.document.IndexedField.{IndexedField}
 use Rattle.lu_model.specs.Index.{Term}
-use Rattle.seg_writer.specs.declared.columns.Appearance.{Appearance}
+use Rattle.seg_writer.specs.declared.appearance.Appearance.{Appearance}
 use Rattle.seg_writer.specs.Appearing.{AreFieldColumns, HasApartFields, appeared, column_from}
 use Rattle.lu_types.specs.Documents.{IsDocument}
 use Rattle.lu_types.specs.Tables.{TableField, number_of}

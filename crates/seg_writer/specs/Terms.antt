@@ -6,7 +6,7 @@ use Rattle.lu_types.specs.Tables.{TableField}
 use Rattle.lu_model.specs.Contents.{bits_of, field_number}
 use Rattle.segment_files.specs.Postings.{KeptTerm}
 use Rattle.seg_writer.specs.Entries.{entries_of_text}
-use Rattle.seg_writer.specs.declared.columns.Appearance.{Appearance}
+use Rattle.seg_writer.specs.declared.appearance.Appearance.{Appearance}
 use Rattle.seg_writer.specs.Texts.{texts_of}
 use Rattle.seg_writer.specs.declared.terms.Kept.{Kept}
 use Rattle.seg_writer.specs.declared.terms.KeptColumn.{KeptColumn}

@@ -1,20 +1,12 @@
 -- The texts of a column.
 use Rattle.std.specs.Prelude.{◌≡◌, ℕ, ◌<◌, List, length, map, All, Contains, flat_map}
 use Rattle.std.specs.List.Sorted.{IsStrictlySortedBy}
-use Rattle.std.specs.Global.{Global}
 use Rattle.std.specs.Str.{IsUtf8}
-use Rattle.std.specs.declared.vec.Vec.{Vec}
-use denote.Ref.{Bor}
 use Rattle.lu_prims.specs.Order.{text_cmp}
 use Rattle.lu_model.specs.Index.{in_order}
-use Rattle.seg_writer.specs.declared.columns.Appearance.{Appearance}
-use Rattle.seg_writer.specs.declared.inverted.Use.{Use}
+use Rattle.seg_writer.specs.declared.appearance.Appearance.{Appearance}
 use Rattle.seg_writer.specs.declared.inverted.Inverted.{Inverted}
 use Rattle.seg_writer.specs.Columns.{tokens_in_field, uses_of}
-
--- a text with its uses as an entry of a map
-abbrev pub group_of : Inverted → Bor (List ℕ) × Vec Use Global
-group_of t = (t.text, t.uses)
 
 -- the texts alone
 abbrev pub texts_in : List Inverted → List (List ℕ)
@@ -23,7 +15,7 @@ texts_in terms = map (λ (t : Inverted). t.text.now) terms
 -- these are the texts of a column: they rise, each has exactly its uses, at least one, and each text that a token has is there
 pub record AreInverted (column : List Appearance) (terms : List Inverted) : Type 0 where
   pub rise : IsStrictlySortedBy text_cmp (texts_in terms)
-  pub uses : All (λ (t : Inverted). (t.uses.items ≡ uses_of t.text.now column) × (0 < length t.uses.items)) terms
+  pub uses : All (λ (t : Inverted). (t.uses.now ≡ uses_of t.text.now column) × (0 < length t.uses.now)) terms
   pub utf8 : All (λ (t : Inverted). IsUtf8 t.text.now) terms
   pub complete : (text : List ℕ) → 0 < length (uses_of text column) → Contains (texts_in terms) text
 

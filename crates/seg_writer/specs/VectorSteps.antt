@@ -63,9 +63,9 @@ kept_spans bits tokens = cond (has_bit bit_offsets bits) (map token_span tokens)
 abbrev pub term_of_uses : ℕ → List Token → Inverted → VectorTerm
 term_of_uses bits tokens term = record {
   text = term.text.now;
-  frequency = length term.uses.items;
-  positions = kept_positions bits (tokens_at tokens term.uses.items);
-  spans = kept_spans bits (tokens_at tokens term.uses.items);
+  frequency = length term.uses.now;
+  positions = kept_positions bits (tokens_at tokens term.uses.now);
+  spans = kept_spans bits (tokens_at tokens term.uses.now);
 }
 
 -- the bits of a vector of this kind
@@ -89,8 +89,8 @@ vectors_of_fields table fields = map (λ field. numbered_vector (field_number fi
 -- a text that can be written, with uses that can be counted and are among these tokens
 pub record IsWritableText (tokens : List Token) (term : Inverted) : Type 0 where
   pub short : length term.text.now < 2 ^ 31
-  pub few : length term.uses.items < 2 ^ 31
-  pub within : All (λ here. here.token < length tokens) term.uses.items
+  pub few : length term.uses.now < 2 ^ 31
+  pub within : All (λ here. here.token < length tokens) term.uses.now
 
 -- the fields of a document can be counted, the tokens of each can be written, and the table has each
 pub record AreWritableFields (table : List TableField) (fields : List IndexedField) : Type 0 where

@@ -13,7 +13,7 @@ ghost use Rattle.seg_writer.specs.Entries.{IsColumn};
 ghost use Rattle.seg_writer.specs.Orders.{AreColumnsOf, AreKeptColumns, named_column};
 ghost use Rattle.seg_writer.specs.Terms.{kept_at, kept_column_terms};
 
-use crate::columns::Appearance;
+use crate::appearance::Appearance;
 use crate::fault::{WriteFault, fault_of};
 use crate::terms::{Kept, KeptColumn, write_columns};
 use lu_prims::{OutOfMemory, utf16_cmp};

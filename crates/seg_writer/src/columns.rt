@@ -4,16 +4,10 @@ ghost use Rattle.lu_types.specs.DocFaults.{AreApart};
 ghost use Rattle.lu_model.specs.Contents.{name_of};
 ghost use Rattle.seg_writer.specs.Appearing.{AreFieldColumns, AreEmpty, AreFirst, HasApartFields, HaveMore, IsPushed, appeared_in, found_in, names_of_indexed};
 
+use crate::appearance::Appearance;
 use lu_prims::OutOfMemory;
 use lu_types::{Document, IndexedField, JoinedTable};
 use std::alloc::Global;
-
-/// A field of a document: the number of the document, and the field.
-#[derive(Clone, Copy, Debug)]
-pub(crate) struct Appearance<'a> {
-    pub(crate) doc: u32,
-    pub(crate) field: &'a IndexedField,
-}
 
 /// For each field of a table, by number, where it appears in documents, in their order.
 pub(crate) fn columns_of<'a>(
@@ -81,7 +75,8 @@ fn add_to<'a>(
     requires { number < length columns.old.items }
     ensures { OnOk result (IsPushed number (appeared_in doc field.entry.now) columns.old.items columns.new.items) }
 {
+    let tokens = field.tokens.as_slice();
     let column = &mut columns[number];
-    column.push(Appearance { doc, field })?;
+    column.push(Appearance { doc, field, tokens })?;
     Ok(())
 }

@@ -9,7 +9,7 @@ ghost use Rattle.lu_model.specs.Contents.{bits_of, content_of, index_of_document
 ghost use Rattle.lu_model.specs.Index.{in_order, term_cmp};
 ghost use Rattle.segment_files.specs.Parts.{keep_positions, postings_of};
 ghost use Rattle.segment_files.specs.Postings.{PostingIntervals, kept_term, kept_terms};
-ghost use Rattle.seg_writer.specs.declared.columns.Appearance.{Appearance};
+ghost use Rattle.seg_writer.specs.declared.appearance.Appearance.{Appearance};
 ghost use Rattle.seg_writer.specs.Appearing.{AreFirst, HasApartFields, appeared, column_from};
 ghost use Rattle.seg_writer.specs.Entries.{AreWritableDocuments, IsColumn};
 ghost use Rattle.seg_writer.specs.Orders.{AreAllColumns, NamedColumn, terms_of_columns, written_terms};

@@ -3,16 +3,20 @@
 #![tactic(auto)]
 
 mod all_terms;
+mod appearance;
 mod columns;
 mod documents;
 mod fault;
 mod fields;
+mod heads;
 mod inverted;
 pub mod laws;
 mod norms;
 mod packing;
 pub mod parts;
+mod payloads;
 mod segment;
+mod sorted_uses;
 mod stored;
 mod table;
 mod terms;

@@ -6,7 +6,7 @@ ghost use Rattle.lu_types.specs.declared.document.Document.{Document};
 ghost use Rattle.seg_writer.specs.Answers.{Wrote};
 ghost use Rattle.seg_writer.specs.NormColumns.{AreColumnsIn, AreSomeColumns, IsColumnIn, IsSomeColumn, given_norms, missing_norms, norm_bytes, norm_file_due, norms_of};
 
-use crate::columns::Appearance;
+use crate::appearance::Appearance;
 use crate::fault::WriteFault;
 use doc_marks::NormWriter;
 use lu_prims::OutOfMemory;

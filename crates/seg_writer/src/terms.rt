@@ -3,13 +3,15 @@ ghost use Rattle.std.specs.Prelude.{◌≡◌, ◌<◌, ◌^◌, ℕ, [], ◌∷
 ghost use Rattle.segment_files.specs.Postings.{PostingIntervals, KeptTerm};
 ghost use Rattle.posting_files.specs.States.{ArePostings};
 ghost use Rattle.seg_writer.specs.Columns.{uses_of};
-ghost use Rattle.seg_writer.specs.Entries.{AddsTerms, IsBetweenTerms, IsColumn};
+ghost use Rattle.seg_writer.specs.Entries.{AddsTerms, AreBareUnless, IsBetweenTerms, IsColumn};
 ghost use Rattle.seg_writer.specs.Texts.{AreInverted, texts_in, texts_of};
 ghost use Rattle.seg_writer.specs.Terms.{kept_column_terms, term_in, terms_in_columns};
 
-use crate::columns::Appearance;
+use crate::appearance::Appearance;
 use crate::fault::{WriteFault, fault_of};
 use crate::inverted::{Inverted, invert};
+use crate::payloads::have_payloads;
+use crate::sorted_uses::sorted_uses;
 use crate::uses::add_entries;
 use posting_files::PostingWriter;
 use std::alloc::Global;
@@ -22,16 +24,18 @@ pub(crate) struct Kept {
     pub(crate) payloads: bool,
 }
 
-// Writes a term of a column.
+// Writes a term of a column; `payloads` says whether some token of the column has a payload.
 fn write_term(
     writer: &mut PostingWriter,
     kept: Kept,
     column: &[Appearance<'_>],
-    term: &Inverted<'_>,
+    payloads: bool,
+    term: &Inverted<'_, '_>,
 ) -> Result<(), WriteFault>
     requires column { IsColumn column.now }
-    requires uses { term.now.uses.items ≡ uses_of term.now.text.now column.now }
-    requires some { 0 < length term.now.uses.items }
+    requires bare { AreBareUnless payloads column.now }
+    requires uses { term.now.uses.now ≡ uses_of term.now.text.now column.now }
+    requires some { 0 < length term.now.uses.now }
     requires field { kept.field < 2 ^ 31 }
     requires text { length term.now.text.now < 2 ^ 31 }
     requires between { IsBetweenTerms writer.old }
@@ -43,7 +47,7 @@ fn write_term(
         Ok(()) => {}
         Err(fault) => return Err(fault_of(fault)),
     }
-    match add_entries(writer, column, kept.omit_tf, term) {
+    match add_entries(writer, column, payloads, kept.omit_tf, term) {
         Ok(()) => {}
         Err(fault) => return Err(fault),
     }
@@ -53,14 +57,16 @@ fn write_term(
     }
 }
 
-// Writes the terms of a column, which are these.
+// Writes the terms of a column, which are these; `payloads` says whether some token of the column has a payload.
 fn write_inverted(
     writer: &mut PostingWriter,
     kept: Kept,
     column: &[Appearance<'_>],
-    terms: &[Inverted<'_>],
+    payloads: bool,
+    terms: &[Inverted<'_, '_>],
 ) -> Result<(), WriteFault>
     requires column { IsColumn column.now }
+    requires bare { AreBareUnless payloads column.now }
     requires terms { AreInverted column.now terms.now }
     requires field { kept.field < 2 ^ 31 }
     requires texts { All (λ t. length t.text.now < 2 ^ 31) terms.now }
@@ -70,7 +76,7 @@ fn write_inverted(
     ensures between { OnOk result (IsBetweenTerms writer.new) }
 {
     for term in terms {
-        match write_term(writer, kept, column, term) {
+        match write_term(writer, kept, column, payloads, term) {
             Ok(()) => {}
             Err(fault) => return Err(fault),
         }
@@ -92,11 +98,13 @@ pub(crate) fn write_column(
         → AddsTerms i limit (ts ++ terms_in_columns kept column.now (texts_of column.now)) writer.new result }
     ensures between { OnOk result (IsBetweenTerms writer.new) }
 {
-    let terms = match invert(alloc, column) {
+    let uses = sorted_uses(alloc, column)?;
+    let terms = match invert(alloc, column, uses.as_slice()) {
         Ok(terms) => terms,
         Err(error) => return Err(WriteFault::from(error)),
     };
-    write_inverted(writer, kept, column, terms.as_slice())
+    let payloads = have_payloads(column);
+    write_inverted(writer, kept, column, payloads, terms.as_slice())
 }
 
 /// The column of a field, with the field's name and what is kept of its terms.

@@ -12,9 +12,10 @@ ghost use Rattle.seg_writer.specs.Entries.{AreWritableDocuments, IsWritableField
 ghost use Rattle.seg_writer.specs.VectorSteps.{AreWritableFields, IsWritableText, has_field_vector, kept_positions, kept_spans, kind_bits, numbered_vector, term_of_uses, vectors_of_fields, with_positions, with_spans, with_whole_document, with_whole_term, with_whole_vector};
 ghost use Rattle.seg_writer.specs.VectorsDue.{given_vectors, vector_files_due, vectors_of_documents};
 
-use crate::columns::Appearance;
+use crate::appearance::Appearance;
 use crate::fault::WriteFault;
 use crate::inverted::{Inverted, invert};
+use crate::sorted_uses::sorted_uses;
 use crate::stored::number_in;
 use lu_prims::OutOfMemory;
 use lu_types::bits::{VECTORS, has_bit};
@@ -74,16 +75,16 @@ fn write_positions(
     writer: &mut VectorWriter,
     bits: u8,
     tokens: &[Token],
-    term: &Inverted<'_>,
+    term: &Inverted<'_, '_>,
 ) -> Result<(), OutOfMemory>
     requires text { IsWritableText tokens.now term.now }
-    requires lacking { writer.old.lacks_positions ≡ kept_count bit_positions bits (length term.now.uses.items) }
-    ensures { OnOk result (writer.new ≡ with_positions (kept_positions bits (tokens_at tokens.now term.now.uses.items)) writer.old) }
+    requires lacking { writer.old.lacks_positions ≡ kept_count bit_positions bits (length term.now.uses.now) }
+    ensures { OnOk result (writer.new ≡ with_positions (kept_positions bits (tokens_at tokens.now term.now.uses.now)) writer.old) }
 {
     if !has_bit(POSITIONS, bits) {
         return Ok(());
     }
-    for here in &term.uses {
+    for here in term.uses {
         match writer.position(tokens[here.token as usize].position) {
             Ok(()) => {}
             Err(error) => return Err(error),
@@ -97,17 +98,17 @@ fn write_offsets(
     writer: &mut VectorWriter,
     bits: u8,
     tokens: &[Token],
-    term: &Inverted<'_>,
+    term: &Inverted<'_, '_>,
 ) -> Result<(), OutOfMemory>
     requires text { IsWritableText tokens.now term.now }
     requires positions { writer.old.lacks_positions ≡ 0 }
-    requires lacking { writer.old.lacks_spans ≡ kept_count bit_offsets bits (length term.now.uses.items) }
-    ensures { OnOk result (writer.new ≡ with_spans (kept_spans bits (tokens_at tokens.now term.now.uses.items)) writer.old) }
+    requires lacking { writer.old.lacks_spans ≡ kept_count bit_offsets bits (length term.now.uses.now) }
+    ensures { OnOk result (writer.new ≡ with_spans (kept_spans bits (tokens_at tokens.now term.now.uses.now)) writer.old) }
 {
     if !has_bit(OFFSETS, bits) {
         return Ok(());
     }
-    for here in &term.uses {
+    for here in term.uses {
         let token = &tokens[here.token as usize];
         match writer.offsets(token.start, token.end) {
             Ok(()) => {}
@@ -122,7 +123,7 @@ fn write_term(
     writer: &mut VectorWriter,
     bits: u8,
     tokens: &[Token],
-    term: &Inverted<'_>,
+    term: &Inverted<'_, '_>,
 ) -> Result<(), OutOfMemory>
     requires text { IsWritableText tokens.now term.now }
     requires whole { IsTermWhole writer.old }
@@ -148,11 +149,17 @@ fn write_vector(
     ensures { OnOk result (writer.new ≡ with_whole_vector (numbered_vector number (vector_of field.now)) writer.old) }
 {
     let bits = vector_bits(field.vector);
-    let column = [Appearance { doc: 0, field }];
-    let terms = invert(alloc, column.as_slice())?;
+    let tokens = field.tokens.as_slice();
+    let column = [Appearance {
+        doc: 0,
+        field,
+        tokens,
+    }];
+    let uses = sorted_uses(alloc, column.as_slice())?;
+    let terms = invert(alloc, column.as_slice(), uses.as_slice())?;
     writer.begin_field(number, bits, terms.len() as u32)?;
     for term in &terms {
-        match write_term(writer, bits, field.tokens.as_slice(), term) {
+        match write_term(writer, bits, tokens, term) {
             Ok(()) => {}
             Err(error) => return Err(error),
         }

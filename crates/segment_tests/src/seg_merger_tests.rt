@@ -6,7 +6,7 @@ ghost use Rattle.check_index.specs.Files.{IsShort};
 use check_index::{Parts, SepFiles, check_segment};
 use lu_prims::Steps;
 use lu_types::{
-    Bytes, Document, FileKind, IndexedField, Items, Limits, Stored, StoredValue, Text, Token,
+    Document, FileKind, IndexedField, Items, Limits, Payload, Stored, StoredValue, Text, Token,
     Vector,
 };
 use seg_merger::{MergeFault, SegmentFiles, Sources, WriteOptions, merge};
@@ -62,7 +62,7 @@ fn indexed(
         position: 3,
         start: 10,
         end: 11,
-        payload: Bytes::new(Vec::new(alloc)),
+        payload: Payload::none(),
     };
     Ok(IndexedField {
         field: text(alloc, field)?,

@@ -1,6 +1,6 @@
 //! Rows of segments: by the format page, and not by this crate.
 use lu_types::{
-    Bytes, Document, FileKind, IndexedField, Items, Limits, Stored, StoredValue, Text, Token,
+    Document, FileKind, IndexedField, Items, Limits, Payload, Stored, StoredValue, Text, Token,
     Vector,
 };
 use seg_writer::{SegmentFiles, WriteFault, WriteOptions, write_segment};
@@ -43,7 +43,7 @@ fn token(alloc: Global, word: &str, position: u32, start: u32) -> Result<Token, 
         position,
         start,
         end,
-        payload: Bytes::new(Vec::new(alloc)),
+        payload: Payload::none(),
     })
 }
 

@@ -2,7 +2,7 @@ use Rattle.std.proofs.Common.{sym, ap, subst, ◌∙◌, ◌+◌}
 use Rattle.std.specs.Global.{Global}
 use Rattle.std.specs.declared.vec.Vec.{Vec}
 use Rattle.lu_types.specs.Tables.{number_of}
-use Rattle.seg_writer.specs.declared.columns.Appearance.{Appearance}
+use Rattle.seg_writer.specs.declared.appearance.Appearance.{Appearance}
 use Rattle.seg_writer.specs.Appearing.{HaveMore}
 use Rattle.seg_writer.proofs.ColumnLemmas.{so_far, columns-put, columns-kept, columns-end}
 use Rattle.seg_writer.proofs.columns.add_fields.Goals as goal

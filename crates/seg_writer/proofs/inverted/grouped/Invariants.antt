@@ -1,7 +1,9 @@
-use Rattle.std.proofs.Common.{◌≡◌, ℕ, List, take}
-use Rattle.seg_writer.specs.Groups.{uses_at, AreUsedTexts}
-use Rattle.seg_writer.specs.Columns.{uses_of}
+use Rattle.std.proofs.Common.{length}
+use Rattle.seg_writer.specs.SortedUses.{AreGrouped}
 use Rattle.seg_writer.proofs.inverted.grouped.Given as goal
 
-abbrev pub invariant-loop-entry : goal.invariant-loop-entry
-invariant-loop-entry l = ((q : List ℕ) → uses_at q l.groups ≡ uses_of q (take l.entry l.column)) × AreUsedTexts l.groups
+abbrev pub invariant-loop-rest : goal.invariant-loop-rest
+invariant-loop-rest l = AreGrouped l.column l.fn.uses l.terms.items l.rest
+
+abbrev pub decreases-loop-rest : goal.decreases-loop-rest
+decreases-loop-rest l = length l.rest

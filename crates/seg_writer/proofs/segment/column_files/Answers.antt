@@ -5,7 +5,7 @@ use Rattle.segment_files.specs.Parts.{intervals_of}
 use Rattle.seg_writer.specs.Appearing.{AreFieldColumns, AreFirst}
 use Rattle.seg_writer.specs.Entries.{IsColumn}
 use Rattle.seg_writer.specs.Orders.{AreColumnsOf}
-use Rattle.seg_writer.specs.declared.columns.Appearance.{Appearance}
+use Rattle.seg_writer.specs.declared.appearance.Appearance.{Appearance}
 use Rattle.seg_writer.proofs.SegmentDocumentLemmas.{columns-of-faultless, faultless-apart, faultless-columns}
 use Rattle.seg_writer.proofs.SegmentLemmas.{columns-told, norms-fault, terms-fault}
 use Rattle.seg_writer.proofs.TableLemmas.{table-first}

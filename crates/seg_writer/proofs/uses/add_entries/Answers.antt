@@ -1,12 +1,13 @@
 use Rattle.std.proofs.Common.{◌≤◌, ◌<◌, ◌^◌, ap, sym, ◌∙◌, subst, Err, [], ◌∷◌, ◌++◌, length, take, drop, get_or, arith}
 use Rattle.posting_files.specs.States.{IsTermBegun}
-use Rattle.seg_writer.specs.declared.columns.Appearance.{Appearance}
-use Rattle.seg_writer.specs.Entries.{AddsEntries, MayFollow}
+use Rattle.seg_writer.specs.declared.appearance.Appearance.{Appearance}
+use Rattle.seg_writer.specs.Columns.{tokens_in_field}
+use Rattle.seg_writer.specs.Entries.{AddsEntries, IsBareUnless, MayFollow}
 use Rattle.seg_writer.proofs.PartlyLemmas.{no_use, no_appearance, length-nil, next-at, run-at, entry-at, follow-next, partly-begun, partly-next, partly-past, partly-end}
 use Rattle.seg_writer.proofs.uses.add_entries.Goals as goal
 
 pub loop-rest-init : goal.loop-rest-init
-loop-rest-init c = partly-begun c.args.column.now c.args.term.now.text.now c.args.omit_tf c.as_slice-rest.result.now c.args.writer.now (c.as_slice-rest.ensures.value ∙ c.requires.uses)
+loop-rest-init c = partly-begun c.args.column.now c.args.term.now.text.now c.args.omit_tf c.args.term.now.uses.now c.args.writer.now c.requires.uses
 
 pub split_at-requires : goal.split_at-requires
 split_at-requires c =
@@ -27,6 +28,8 @@ add_entry-requires c =
     let run = run-at column c.args.term.now.text.now c.args.omit_tf c.loop-rest.invariant.passed rest c.split_at.result.0.now first a c.requires.column x c.index-column-entry.is front in
     record {
       run = run.0;
+      bare = subst (λ (b : Appearance). IsBareUnless c.args.payloads (tokens_in_field b)) (sym c.index-column-entry.is) (c.requires.bare first.entry a x.inside);
+      docs = run.3;
       some = run.1;
       few = run.2;
       small = subst (λ (b : Appearance). b.doc < 2 ^ 31) (sym c.index-column-entry.is) (c.requires.column.small first.entry a x.inside);

@@ -1,27 +1,25 @@
-use Rattle.std.proofs.Common.{◌≡◌, ap, sym, subst, ◌∙◌, [], ◌∷◌, length, arith}
+use Rattle.std.proofs.Common.{◌≡◌, ap, sym, subst, ◌∙◌, length, get_or, arith}
 use Rattle.term_vectors.specs.VectorWriting.{VectorWriting, IsTermWhole}
-use Rattle.seg_writer.specs.declared.columns.Appearance.{Appearance}
 use Rattle.seg_writer.specs.Texts.{AreInverted}
 use Rattle.seg_writer.specs.VectorSteps.{IsWritableText}
+use Rattle.seg_writer.proofs.PostedLemmas.{no_inverted}
 use Rattle.seg_writer.proofs.VectorLoopLemmas.{terms-between}
 use Rattle.seg_writer.proofs.VectorTermLemmas.{terms-few, terms-writable, vector-handed}
 use Rattle.seg_writer.proofs.vectors.write_vector.Goals as goal
 
 pub overflow_cast-len : goal.overflow_cast-len
 overflow_cast-len c =
-    let a : Appearance = record { doc = 0; field = c.args.field } in
     let terms = c.in_ok-terms.terms in
-    let few = terms-few a terms.items c.requires.field (subst (λ column. AreInverted column terms.items) c.as_slice.ensures c.in_ok-terms.ensures) in
+    let few = terms-few _ terms.items c.requires.field (subst (λ column. AreInverted column terms.items) c.as_slice-2.ensures c.in_ok-terms.ensures) in
     let own = c.len.ensures in
     omega (arith, few, own, terms.ok.0)
 
 pub write_term-requires-clause-text : goal.write_term-requires-clause-text
 write_term-requires-clause-text c =
-    let a : Appearance = record { doc = 0; field = c.args.field } in
     let items = c.deref-term-items.result.now in
-    let inverted = subst (AreInverted (a ∷ [])) (sym c.deref-term-items.ensures.value) (subst (λ column. AreInverted column c.in_ok-terms.terms.items) c.as_slice.ensures c.in_ok-terms.ensures) in
-    subst (λ tokens. IsWritableText tokens c.term-item.result) (sym c.as_slice-in-loop-term.ensures)
-    (subst (IsWritableText c.args.field.now.tokens) (sym c.term-item.is) (terms-writable a items c.requires.field inverted c.loop-term.term-index c.term-item.result c.loop-term-test.true))
+    let inverted = subst (AreInverted _) (sym c.deref-term-items.ensures.value) (subst (λ column. AreInverted column c.in_ok-terms.terms.items) c.as_slice-2.ensures c.in_ok-terms.ensures) in
+    let k = c.loop-term.term-index in
+    subst (λ tokens. IsWritableText tokens (get_or items k no_inverted)) (sym c.as_slice-tokens.ensures) (terms-writable _ items c.requires.field inverted k no_inverted c.loop-term-test.true)
 
 pub write_term-requires-clause-whole : goal.write_term-requires-clause-whole
 write_term-requires-clause-whole c =
@@ -59,10 +57,9 @@ write_term-requires-clause-bits c =
 
 pub returns : goal.returns
 returns c =
-    let a : Appearance = record { doc = 0; field = c.args.field } in
     let items = c.deref-term-items.result.now in
-    let inverted = subst (AreInverted (a ∷ [])) (sym c.deref-term-items.ensures.value) (subst (λ column. AreInverted column c.in_ok-terms.terms.items) c.as_slice.ensures c.in_ok-terms.ensures) in
+    let inverted = subst (AreInverted _) (sym c.deref-term-items.ensures.value) (subst (λ column. AreInverted column c.in_ok-terms.terms.items) c.as_slice-2.ensures c.in_ok-terms.ensures) in
     let own = c.len.ensures in
     let same = ap length c.deref-term-items.ensures.value in
     let many : c.len.result ≡ length items = omega (arith, own, same, c.in_ok-terms.terms.ok.0) in
-    vector-handed a items c.args.number c.vector_bits-bits.result c.len.result c.loop-term.term-index c.args.writer.now c.begin_field.new.self c.loop-term.writer inverted c.vector_bits-bits.ensures many c.loop-term-test.false c.in_ok-begin_field.ensures.ok c.loop-term.invariant
+    vector-handed _ items c.args.number c.vector_bits-bits.result c.len.result c.loop-term.term-index c.args.writer.now c.begin_field.new.self c.loop-term.writer inverted c.vector_bits-bits.ensures many c.loop-term-test.false c.in_ok-begin_field.ensures.ok c.loop-term.invariant

@@ -44,5 +44,5 @@ text-of_term s place field text from seek n info walk bound lines term named fou
     within : reached.advance ≤ most_steps_to walk from
     within = omega (arith, reached.within, small)
 
-    jump : IsWithinJump s from reached.advance
-    jump = record { number = n; info = info; is_term = term; bound = subst (λ (w : PostingsWalk). reached.advance ≤ most_steps_to w from) is within }
+    jump : IsWithinJump s (term_at s n) from reached.advance
+    jump = record { number = n; info = info; is_sought = refl; is_term = term; bound = subst (λ (w : PostingsWalk). reached.advance ≤ most_steps_to w from) is within }

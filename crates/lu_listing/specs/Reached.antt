@@ -7,7 +7,7 @@ use Rattle.lu_model.specs.Index.{IndexedTerm, Index}
 use Rattle.term_index.specs.Seeking.{most_seek_steps}
 use Rattle.check_index.specs.Segments.{SegmentValue}
 use Rattle.check_index.specs.Opened.{IsTermOf}
-use Rattle.seg_reader.specs.Terms.{term_named}
+use Rattle.seg_reader.specs.Terms.{term_at, term_named}
 use Rattle.seg_reader.specs.Postings.{may_answer, postings_of, most_steps_to}
 use Rattle.lu_listing.specs.Lines.{line, ◌▹◌}
 use Rattle.lu_listing.specs.Listing.{entry_line}
@@ -22,17 +22,18 @@ postings_lines x place from None seek advance = line (codes "segment" ▹ decima
 postings_lines x place from (Some t) seek advance =
     line (codes "segment" ▹ decimal place) ++ (line (codes "seek" ▹ decimal seek) ++ (line (codes "advance" ▹ decimal advance) ++ reached_lines x from t))
 
--- so many steps are within the bound of the jump of a term of the segment
-pub record IsWithinJump (s : SegmentValue) (from advance : ℕ) : Type 0 where
+-- so many steps are within the bound of the jump of this term of the segment
+pub record IsWithinJump (s : SegmentValue) (t : IndexedTerm) (from advance : ℕ) : Type 0 where
   pub number : ℕ
   pub info : TermInfo
+  pub is_sought : term_at s number ≡ t
   pub is_term : IsTermOf s number info
   pub bound : advance ≤ most_steps_to (postings_of s number info s.index.deleted) from
 
 -- the jump's bound where there is a term to jump in; else there is no jump
 abbrev pub JumpIsBound : SegmentValue → ℕ → Option IndexedTerm → ℕ → Type 0
 JumpIsBound s from None advance = advance ≡ 0
-JumpIsBound s from (Some t) advance = IsWithinJump s from advance
+JumpIsBound s from (Some t) advance = IsWithinJump s t from advance
 
 -- what `postings` prints of a segment for a field, a text and a first document: within the bounds of the search and of the jump
 pub record IsReachedText (s : SegmentValue) (place : ℕ) (field text : List ℕ) (from : ℕ) (lines : List ℕ) : Type 0 where

@@ -1,7 +1,7 @@
 use Rattle.std.proofs.Common.{◌≡◌, ℕ, ◌+◌, ◌<◌, ◌^◌, [], ◌++◌, length, sym, ap, subst, ◌∙◌, arith}
 use Rattle.std.specs.Prelude.{slice_index_or}
 use Rattle.std.proofs.lemmas.List.{length-append, append-nil}
-use Rattle.freq_skips.specs.Written.{Handed}
+use Rattle.freq_skips.specs.Written.{no_handed}
 use Rattle.freq_skips.specs.Writing.{FrqWriting, bytes_so_far, entry_added, finished}
 use Rattle.freq_skips.proofs.RunLemmas.{Runs, Runs-more, Runs-places, added_some}
 use Rattle.codec_tests.proofs.freq_skips_drawn_tests.written.Goals as goal
@@ -12,7 +12,7 @@ loop-given-preserved g c =
     let w = c.loop-given.writer in
     let i = c.loop-given.invariant in
     let given = slice_index_or c.deref-given-items.result.now c.loop-given.given-index (record { doc = 0; freq = 0; prox = 0 }) in
-    let h : Handed = record { doc = given.doc; freq = given.freq; prox = given.prox } in
+    let h = record no_handed { doc = given.doc; freq = given.freq; prox = given.prox } in
     let more = Runs-more w d.interval d.levels d.omit_tf d.payloads w.bytes 16777216 (length w.entries) c.loop-given.next c.loop-given.prox h (given.doc + 1) given.prox i.runs
     (omega arith) (omega arith) (omega arith) (omega arith) (omega arith) (omega arith) (omega arith) (omega arith) (omega arith) in
     let counted = subst (λ (k : ℕ). Runs (entry_added w h) d.interval d.levels d.omit_tf d.payloads w.bytes 16777216 k (given.doc + 1) given.prox) (sym (added_some w.entries h)) more in

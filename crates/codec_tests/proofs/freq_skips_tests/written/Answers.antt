@@ -2,7 +2,7 @@ use Rattle.std.proofs.Common.{◌≡◌, ℕ, ◌+◌, ◌<◌, ◌^◌, false, 
 use Rattle.std.proofs.lemmas.List.{length-append}
 use Rattle.lu_grammar.specs.Bytes.{IsBytes}
 use Rattle.lu_grammar.proofs.SpelledBytes.{IsBytes-nil, IsBytes-cons, IsBytes-append}
-use Rattle.freq_skips.specs.Written.{Handed}
+use Rattle.freq_skips.specs.Written.{no_handed}
 use Rattle.freq_skips.specs.Writing.{FrqWriting, entries_begun, bytes_so_far, finished}
 use Rattle.freq_skips.proofs.RunLemmas.{Runs, Runs-none, Runs-more, Runs-order, Runs-places}
 use Rattle.codec_tests.proofs.freq_skips_tests.written.Goals as goal
@@ -16,7 +16,7 @@ pub loop-doc-preserved : goal.loop-doc-preserved
 loop-doc-preserved g c =
     let n = c.loop-doc.doc in
     let lt : n < 100 = omega arith in
-    let h : Handed = record { doc = n; freq = 1; prox = n } in
+    let h = record no_handed { doc = n; freq = 1; prox = n } in
     subst (λ (w : FrqWriting). Runs w c.args.interval c.args.levels false false [] 100 (n + 1) (n + 1) (n + 1)) (sym c.in_ok-add.ensures.ok)
     (Runs-more c.loop-doc.writer c.args.interval c.args.levels false false [] 100 n n n h (n + 1) (n + 1) c.loop-doc.invariant (omega arith) lt (omega arith) (omega arith) (omega arith) (omega arith) (omega arith) (omega arith) (omega arith))
 
